@@ -1,0 +1,1 @@
+// To come: landmarks, trial walks and the report.

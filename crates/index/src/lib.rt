@@ -1,0 +1,1 @@
+// To come: the calls that the apps can make, with every refusal.

@@ -1,0 +1,1 @@
+// To come: `insert_batch`.

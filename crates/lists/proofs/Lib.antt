@@ -1,0 +1,5 @@
+pub mod Parts
+pub mod Counts
+pub mod Chunks
+pub mod All
+pub mod Ordered

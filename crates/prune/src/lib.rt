@@ -1,0 +1,1 @@
+// To come: `prune_scored` over a list of candidates in lent scratch.

@@ -1,0 +1,3 @@
+mod Cases
+pub mod Agree
+pub mod Span

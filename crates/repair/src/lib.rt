@@ -1,0 +1,1 @@
+// To come: `delete_batch`: plans, repair links and stats.

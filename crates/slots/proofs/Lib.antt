@@ -1,0 +1,4 @@
+mod Cases
+pub mod Current
+pub mod Agree
+pub mod New

@@ -1,0 +1,5 @@
+pub mod Sizes
+pub mod View
+pub mod Ops
+pub mod Store
+pub mod Plain

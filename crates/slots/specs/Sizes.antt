@@ -1,0 +1,65 @@
+-- Sizes of an index, their limits, and the lengths of its six slices: document 01, rows 1, 2, 3 and 7 of "Turned-back calls". Assumes nothing.
+use Prim.Native.Nat.{ℕ, _*_}
+use mathlib.Core.Bool.{Bool, _&&_}
+use lib.Dec.{eqb, leb}
+use lib.Ieee.{Float, le}
+use Rattle.candidates.specs.Quotient.{f32}
+
+pub record Sizes : Type 0 where
+  pub dim : ℕ
+  pub capacity : ℕ
+  pub degree : ℕ
+  pub alpha : Float
+
+-- the largest number of each kind that is accepted
+pub record Limits : Type 0 where
+  pub dim : ℕ
+  pub capacity : ℕ
+  pub degree : ℕ
+  pub beam : ℕ
+  pub repair-beam : ℕ
+  pub repair-degree : ℕ
+  pub ids : ℕ
+  pub landmarks : ℕ
+  pub multiplier : ℕ
+  pub sample : ℕ
+  pub pool : ℕ
+
+unfoldable pub limits : Limits
+limits = record {
+  dim = 256;
+  capacity = 65536;
+  degree = 64;
+  beam = 1024;
+  repair-beam = 256;
+  repair-degree = 16;
+  ids = 256;
+  landmarks = 64;
+  multiplier = 16;
+  sample = 65536;
+  pool = 1024;
+}
+
+abbrev pub within : ℕ → ℕ → ℕ → Bool
+within low high n = leb low n && leb n high
+
+unfoldable pub sizes-ok : Limits → Sizes → Bool
+sizes-ok l z = within 1 (l .dim) (z .dim) && within 1 (l .capacity) (z .capacity) && within 1 (l .degree) (z .degree)
+
+-- no NaN passes
+unfoldable pub alpha-ok : Float → Bool
+alpha-ok alpha = le (f32 1) alpha && le alpha (f32 2)
+
+-- the lengths of an index's six slices
+pub record Lengths : Type 0 where
+  pub vectors : ℕ
+  pub targets : ℕ
+  pub edge-versions : ℕ
+  pub versions : ℕ
+  pub marks : ℕ
+  pub pool : ℕ
+
+unfoldable pub lengths-ok : Limits → Sizes → Lengths → Bool
+lengths-ok l z n =
+    eqb (n .vectors) (z .capacity * z .dim) && eqb (n .targets) (z .capacity * z .degree) && eqb (n .edge-versions) (z .capacity * z .degree)
+    && eqb (n .versions) (z .capacity) && eqb (n .marks) (z .capacity) && eqb (n .pool) (l .pool)

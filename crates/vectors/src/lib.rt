@@ -1,0 +1,1 @@
+// To come: `distance`, and the vector of a slot as that part of the lent bytes.

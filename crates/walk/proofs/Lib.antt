@@ -1,0 +1,6 @@
+pub mod Before
+pub mod Ordered
+pub mod Turns
+pub mod Greedy
+pub mod Considers
+pub mod Cases

@@ -1,0 +1,1 @@
+// To come: `graph_search` and `search_pool` over lent scratch.
