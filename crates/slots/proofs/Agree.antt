@@ -16,7 +16,7 @@ use Rattle.lists.proofs.Parts.{fits-in, length-put, part-put}
 use Rattle.slots.specs.Sizes.{limits, sizes-ok, alpha-ok}
 use Rattle.slots.specs.View.{View}
 use Rattle.slots.specs.Ops.{Ops, Row, write-rows}
-use Rattle.slots.specs.Store.{Arrays, Shaped, Store, blank, is-live, current, vector-of, refs-of, store-view, padded, edge-version, write-neighbors, write-vector, set-mark, next-version, with-arrays, at-slot, store-ops}
+use Rattle.slots.specs.Store.{Arrays, Shaped, Store, blank, is-valid, current, vector-of, refs-of, store-view, padded, edge-version, write-neighbors, write-vector, set-mark, next-version, with-arrays, at-slot, store-ops}
 use Rattle.slots.specs.Plain.{other-than, with-slots, plain-ops}
 use Rattle.slots.proofs.Current.{current-written, padded-targets, length-padded, Fresh, fresh-append, fresh-take, fresh-drop, fresh-written, raised, raised-at, raised-other, fresh-raised, current-raised}
 
@@ -175,8 +175,8 @@ module _ (emptied : ℕ → ℕ) (b : Store) (ok : Sound emptied b) (s : ℕ) (h
 
 -- ---- the marks
 
-live-set : (marks : List ℕ) (s n : ℕ) → s < length marks → (t : ℕ) → is-live (set marks s n) t ≡ cond (eqb t s) (not (eqb n 0)) (is-live marks t)
-unfolding is-live
+live-set : (marks : List ℕ) (s n : ℕ) → s < length marks → (t : ℕ) → is-valid (set marks s n) t ≡ cond (eqb t s) (not (eqb n 0)) (is-valid marks t)
+unfolding is-valid
 live-set marks s n h t = go (eqb t s) refl
   where
     go : (q : Bool) → eqb t s ≡ q → not (eqb (getD (set marks s n) t 0) 0) ≡ cond q (not (eqb n 0)) (not (eqb (getD marks t 0) 0))
@@ -249,12 +249,12 @@ module _ (emptied : ℕ → ℕ) (b : Store) (v : View) (a : Agree emptied b v) 
       from-view emptied emptied b (store-ops .write b s ids) v (λ w. plain-ops .write w s ids) a
       (by-slot
       (λ q. Agree emptied (cond q (with-arrays b (write-neighbors (b .arrays) s ids)) b)
-      (with-slots (store-view b) (is-live (b .arrays .marks)) (vector-of (b .arrays))
+      (with-slots (store-view b) (is-valid (b .arrays .marks)) (vector-of (b .arrays))
       (λ t. cond (q && eqb t s) (filter (other-than blank) (take (b .arrays .degree) ids)) (refs-of (b .arrays) t))))
       s (b .capacity)
       (λ h. record {
         sound = sound-written emptied b (a .sound) s h ids;
-        same = unfold vector-of in λ i. with-slots (store-view b) (is-live (b .arrays .marks)) (vector-of (b .arrays)) (λ t. refs-written emptied b (a .sound) s h ids t i);
+        same = unfold vector-of in λ i. with-slots (store-view b) (is-valid (b .arrays .marks)) (vector-of (b .arrays)) (λ t. refs-written emptied b (a .sound) s h ids t i);
       })
       (λ h. record { sound = a .sound; same = refl }))
 
@@ -264,7 +264,7 @@ module _ (emptied : ℕ → ℕ) (b : Store) (v : View) (a : Agree emptied b v) 
       from-view emptied emptied b (store-ops .kill b s) v (λ w. plain-ops .kill w s) a
       (by-slot
       (λ q. Agree emptied (cond q (with-arrays b (set-mark (b .arrays) s 0)) b)
-      (with-slots (store-view b) (λ t. cond (q && eqb t s) false (is-live (b .arrays .marks) t)) (vector-of (b .arrays)) (refs-of (b .arrays))))
+      (with-slots (store-view b) (λ t. cond (q && eqb t s) false (is-valid (b .arrays .marks) t)) (vector-of (b .arrays)) (refs-of (b .arrays))))
       s (b .capacity)
       (λ h. record {
         sound = sound-marked emptied b (a .sound) s 0;
@@ -294,7 +294,7 @@ module _ (emptied : ℕ → ℕ) (b : Store) (v : View) (a : Agree emptied b v) 
       from-view emptied emptied b (store-ops .fill b s vector) v (λ w. plain-ops .fill w s vector) a
       (by-slot
       (λ q. Agree emptied (cond q (with-arrays b (set-mark (write-neighbors (write-vector (b .arrays) s vector) s []) s 1)) b)
-      (with-slots (store-view b) (λ t. cond (q && eqb t s) true (is-live (b .arrays .marks) t)) (λ t. cond (q && eqb t s) vector (vector-of (b .arrays) t))
+      (with-slots (store-view b) (λ t. cond (q && eqb t s) true (is-valid (b .arrays .marks) t)) (λ t. cond (q && eqb t s) vector (vector-of (b .arrays) t))
       (λ t. cond (q && eqb t s) [] (refs-of (b .arrays) t))))
       s (b .capacity)
       (λ h.
@@ -316,7 +316,7 @@ module _ (emptied : ℕ → ℕ) (b : Store) (v : View) (a : Agree emptied b v) 
       from-view emptied (λ t. cond (eqb t s) 1 0 + emptied t) b (store-ops .finish b s) v (λ w. plain-ops .finish w s) a
       (by-slot
       (λ q. Agree (λ t. cond (eqb t s) 1 0 + emptied t) (cond q (with-arrays b (write-neighbors (next-version (b .arrays) s) s [])) b)
-      (with-slots (store-view b) (is-live (b .arrays .marks)) (vector-of (b .arrays))
+      (with-slots (store-view b) (is-valid (b .arrays .marks)) (vector-of (b .arrays))
       (λ t. cond q (cond (eqb t s) [] (filter (other-than s) (refs-of (b .arrays) t))) (refs-of (b .arrays) t))))
       s (b .capacity)
       (λ h.
@@ -324,7 +324,7 @@ module _ (emptied : ℕ → ℕ) (b : Store) (v : View) (a : Agree emptied b v) 
       let b₁ = with-arrays b (next-version (b .arrays) s) in
       record {
         sound = sound-written (λ t. cond (eqb t s) 1 0 + emptied t) b₁ ok₁ s h [];
-        same = unfold vector-of write-neighbors next-version in λ i. with-slots (store-view b) (is-live (b .arrays .marks)) (vector-of (b .arrays))
+        same = unfold vector-of write-neighbors next-version in λ i. with-slots (store-view b) (is-valid (b .arrays .marks)) (vector-of (b .arrays))
             (λ t. (emptied-row (λ t. cond (eqb t s) 1 0 + emptied t) b₁ ok₁ s h t
             ∙ ap (λ (r : List ℕ). cond (eqb t s) [] r) (refs-stepped emptied b (a .sound) s h few t)) i);
       })

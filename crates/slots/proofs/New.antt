@@ -10,7 +10,7 @@ use lib.Dec.{eqb, ltb, leb·suc-suc, leb·zero, leb·suc-zero}
 use Rattle.lists.specs.Lists.{filter, part}
 use Rattle.slots.specs.Sizes.{Sizes, limits, sizes-ok, alpha-ok}
 use Rattle.slots.specs.View.{View}
-use Rattle.slots.specs.Store.{Store, blank, is-live, current, vector-of, refs-of, store-view, new-arrays}
+use Rattle.slots.specs.Store.{Store, blank, is-valid, current, vector-of, refs-of, store-view, new-arrays}
 use Rattle.slots.specs.Plain.{other-than, new-plain}
 use Rattle.slots.proofs.Current.{fresh-zeros}
 use Rattle.slots.proofs.Agree.{Sound, Agree}
@@ -55,8 +55,8 @@ current-zeros n (t ∷ ts) (e ∷ es) l z = go (eqb t blank) (current-zeros n ts
 
 -- ---- marks and lengths
 
-given-live : (given free s : ℕ) → is-live (replicate given 1 ++ replicate free 0) s ≡ ltb s given
-unfolding is-live
+given-live : (given free s : ℕ) → is-valid (replicate given 1 ++ replicate free 0) s ≡ ltb s given
+unfolding is-valid
 given-live zero free s = rw (zero-at free s, leb·suc-zero s)
 given-live (suc given) free zero = sym (leb·suc-suc 0 given ∙ leb·zero given)
 given-live (suc given) free (suc s) = given-live given free s ∙ sym (leb·suc-suc (suc s) given)

@@ -44,8 +44,8 @@ pub record Store : Type 0 where
 -- ---- what is read
 
 -- `is_valid`: a mark other than 0
-unfoldable pub is-live : List ℕ → ℕ → Bool
-is-live marks s = not (eqb (getD marks s 0) 0)
+unfoldable pub is-valid : List ℕ → ℕ → Bool
+is-valid marks s = not (eqb (getD marks s 0) 0)
 
 -- of a row: the targets of the references whose edge version is their target's version
 unfoldable pub current : List ℕ → List ℕ → List ℕ → List ℕ
@@ -67,7 +67,7 @@ store-view b =
     record {
       sizes = record { dim = a .dim; capacity = b .capacity; degree = a .degree; alpha = b .alpha };
       entry = b .entry;
-      live = is-live (a .marks);
+      live = is-valid (a .marks);
       vector = vector-of a;
       refs = refs-of a;
     }

@@ -17,7 +17,7 @@ use Rattle.slots.specs.View.{View, live-neighbors, query-distance}
 use Rattle.walk.specs.Walk.{State, unexpanded, enter, ends, meet, expand, graph-search, search-pool}
 use Rattle.walk.specs.Walk as Walk
 use Rattle.walk.specs.GreedySearch.{Rules, Search, nearest, join, visit, turn, unvisited, turns, greedy-search, paper, amended}
-use Rattle.walk.proofs.Before.{before-once}
+use Rattle.candidates.proofs.Before.{before-once}
 use Rattle.walk.proofs.Ordered.{First, Inside, expanded, all-enter, mark-set, unexpanded-first, meet-sound, marked-sound, turn-sound, start-sound}
 use Rattle.walk.proofs.Turns.{enough, undone, undone-most, undone-fewer}
 

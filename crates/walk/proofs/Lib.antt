@@ -1,4 +1,3 @@
-pub mod Before
 pub mod Ordered
 pub mod Turns
 pub mod Greedy

@@ -17,7 +17,7 @@ use Rattle.slots.specs.View.{View, live-neighbors, query-distance}
 use Rattle.walk.specs.Walk.{State, unexpanded, worst, enter, ends, meet, expand, turn, turns, graph-search, search-pool}
 -- no name of it is used: the examples are checked first, so that they are the first to refuse a wrong definition
 use Rattle.walk.proofs.Cases
-use Rattle.walk.proofs.Before.{before-before, before-other, before-apart}
+use Rattle.candidates.proofs.Before.{before-before, before-other, before-apart}
 
 -- what holds of a candidate holds of those that are in the list after it enters
 pub all-enter : (P : Candidate → Type 0) (beam : ℕ) (list : List Candidate) (c : Candidate) → All P list → P c → All P (enter beam list c)

@@ -1,0 +1,4 @@
+pub mod Cases
+pub mod Before
+pub mod Floats
+pub mod Plain
