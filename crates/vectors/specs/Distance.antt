@@ -1,10 +1,20 @@
 -- The distance of two vectors: document 01, "Grey values and distance"; the `D` given to the Rust. A vector is the list of its bytes
 -- (document 01: grey values). Assumes nothing.
-use Prim.Native.Nat.{ℕ, _+_, _-_, _*_}
+use Prim.Native.Nat.{ℕ, _+_, _-_, _*_, _≤_}
 use mathlib.Core.List.{List, [], _∷_}
+use mathlib.Core.Path.{_≡_}
 
--- the sum of squared differences; of x - y and y - x one is 0
+-- of x - y and y - x one is 0
+unfoldable pub squared-difference : ℕ → ℕ → ℕ
+squared-difference x y = let d = (x - y) + (y - x) in d * d
+
+-- the sum of squared differences
 unfoldable pub distance : List ℕ → List ℕ → ℕ
 distance [] ys = 0
 distance (x ∷ xs) [] = 0
-distance (x ∷ xs) (y ∷ ys) = let d = (x - y) + (y - x) in d * d + distance xs ys
+distance (x ∷ xs) (y ∷ ys) = squared-difference x y + distance xs ys
+
+-- what `distance` promises: the distance, which an f32 holds exactly
+pub record Distance (a b : List ℕ) (r : ℕ) : Type 0 where
+  pub equals : r ≡ distance a b
+  pub bound : r ≤ 16646400

@@ -1,0 +1,52 @@
+-- Laws of the distance. Assumes nothing.
+use Prim.Native.Nat.{ℕ, suc, _+_, _-_, _*_, _≤_, _<_}
+use mathlib.Core.Path.{_≡_, refl, ap, _∙_}
+use mathlib.Core.List.{List, [], _∷_}
+use native.Mathlib.Nat.{mul-le-mul, add-comm}
+use native.Mathlib.Numerals.{add-one}
+use native.Mathlib.Omega.{arith}
+use lib.ListN.{length, getD, take, drop, length-take, length-drop}
+use lib.Seq.{drop-cons}
+use Rattle.lists.specs.Lists.{part}
+use Rattle.vectors.specs.Distance.{squared-difference, distance}
+
+-- ---- for the loop
+
+pub byte-square : {d : ℕ} → d < 256 → d * d ≤ 65025
+byte-square {d} h = let l : d ≤ 255 = omega arith in mul-le-mul l l
+
+pub square-up : {x y : ℕ} → x < y → (y - x) * (y - x) ≡ squared-difference x y
+unfolding squared-difference
+square-up {x} {y} h = let e : (x - y) + (y - x) ≡ y - x = omega arith in rw e
+
+pub square-down : {x y : ℕ} → y ≤ x → (x - y) * (x - y) ≡ squared-difference x y
+unfolding squared-difference
+square-down {x} {y} h = let e : (x - y) + (y - x) ≡ x - y = omega arith in rw e
+
+-- one step of the sum, from the front
+pub distance-step : (a b : List ℕ) (i : ℕ) → i < length a → i < length b
+    → distance (drop i a) (drop i b) ≡ squared-difference (getD a i 0) (getD b i 0) + distance (drop (i + 1) a) (drop (i + 1) b)
+unfolding distance
+distance-step a b i h k = rw (add-one, drop-cons a i 0, drop-cons b i 0)
+
+pub distance-end : (b : List ℕ) → distance [] b ≡ 0
+unfolding distance
+distance-end b = refl
+
+-- ---- for the crates above
+
+pub distance-self : (a : List ℕ) → distance a a ≡ 0
+unfolding distance squared-difference
+distance-self [] = refl
+distance-self (x ∷ a) = let z : (x - x) + (x - x) ≡ 0 = omega arith in rw z (omega (arith, distance-self a))
+
+pub distance-sym : (a b : List ℕ) → distance a b ≡ distance b a
+unfolding distance squared-difference
+distance-sym [] [] = refl
+distance-sym [] (y ∷ b) = refl
+distance-sym (x ∷ a) [] = refl
+distance-sym (x ∷ a) (y ∷ b) = rw (add-comm (x - y) (y - x), distance-sym a b)
+
+-- the vector of a slot inside is dim long
+pub length-part : (dim s : ℕ) (vectors : List ℕ) → s * dim + dim ≤ length vectors → length (part dim s vectors) ≡ dim
+length-part dim s vectors h = simp (length-take, length-drop) (omega arith)
