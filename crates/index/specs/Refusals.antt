@@ -100,7 +100,7 @@ module _ (size-answer : ℕ → ℕ → ℕ → ℕ) (lent : Lengths) (v : View)
       ∷ (8, short scratch)
       ∷ (9, not (eqb (length bytes) (n * v .sizes .dim)))
       ∷ (10, ltb (length (free-slots v)) n)
-      -- pruning chose outside its pool: it never does (`prune-scored-within`)
+      -- pruning chose outside its pool: it never does (`chosen-given`)
       ∷ (14, false)
       ∷ [])
   tests (delete ids beam degree room scratch) =

@@ -12,7 +12,7 @@ use Rattle.slots.specs.Store.{Store, blank}
 use Rattle.repair.specs.Delete.{Stats}
 use Rattle.guard.specs.Guard.{Config, Report, off}
 use Rattle.index.specs.Calls.{Making, Reading, read-entry, read-live, read-mark, read-version, read-target, read-vector, Operation, create, read, search-for, insert, delete, enable, status, assess, guarded-delete, Call, Answer, refused, created, number, version, vector, found, inserted, deleted, standing, assessed, applied, deferred}
-use Rattle.index.specs.Step.{State, step, made, stored}
+use Rattle.index.specs.Step.{State, landmarks, step, made, stored}
 
 -- ---- notation
 
@@ -81,16 +81,24 @@ miscounted = let w = made stored shelf in record { graph = w .graph; live = 2; g
 
 -- ---- the table
 
+-- the answers to some calls, and the landmark pool after them
+pub record Outcome : Type 0 where
+  pub answers : List Answer
+  pub pool : List ℕ
+
 pub record Case : Type 0 where
   pub start : State Store
   pub calls : List Call
-  pub expected : List Answer
+  pub outcome : Outcome
+
+abbrev on-shelf-with : List ℕ → List Operation → List Answer → Case
+on-shelf-with pool os answers = record { start = nothing; calls = lent (exact 1 4 2) (create shelf ∷ os); outcome = record { answers = created ∷ answers; pool = pool } }
 
 abbrev on-shelf : List Operation → List Answer → Case
-on-shelf os expected = record { start = nothing; calls = lent (exact 1 4 2) (create shelf ∷ os); expected = created ∷ expected }
+on-shelf os answers = on-shelf-with [] os answers
 
 abbrev making : Making → Lengths → ℕ → Case
-making m n row = record { start = nothing; calls = lent n (create m ∷ []); expected = refused row ∷ [] }
+making m n row = record { start = nothing; calls = lent n (create m ∷ []); outcome = record { answers = refused row ∷ []; pool = [] } }
 
 unfoldable pub table : List Case
 table =
@@ -127,7 +135,7 @@ table =
     (deleted (stats 1 0 0 0 ∷ stats 2 0 0 0 ∷ stats 1 0 0 0 ∷ []) ∷ number 1 ∷ inserted (0 ∷ []) ∷ found [] ∷ [])
     -- guard count 0, multiplier 1, sample 4, beam 2: pool [2]; assess 0: admitted; assess 1: entry 0, baseline 1, residual 0, lost [2], not admitted;
     -- the guarded delete of both; no live id: admitted, requested 0
-    ∷ on-shelf
+    ∷ on-shelf-with (2 ∷ [])
     (enable (config 0 1 4 2) 100
     ∷ assess (0 ∷ []) 64 100
     ∷ assess (1 ∷ []) 64 100
@@ -156,7 +164,7 @@ table =
     ∷ making (given 3 (shelf .vectors) (1 ∷ blank ∷ 0 ∷ 3 ∷ 1 ∷ blank ∷ []) 1) (exact 1 4 2) 5
     ∷ making (given 3 (shelf .vectors) (shelf .rows) 3) (exact 1 4 2) 5
     -- 6: live 2, three marks; a vector that is read is the empty part
-    ∷ record { start = miscounted; calls = lent (exact 1 4 2) (read read-entry ∷ read (read-vector 0) ∷ []); expected = refused 6 ∷ vector [] ∷ [] }
+    ∷ record { start = miscounted; calls = lent (exact 1 4 2) (read read-entry ∷ read (read-vector 0) ∷ []); outcome = record { answers = refused 6 ∷ vector [] ∷ []; pool = [] } }
     -- 3, 7, 8, 10 and 11, and which comes first
     ∷ on-shelf
     (search-for (0 ∷ 0 ∷ []) 1 1 1 0
@@ -171,19 +179,22 @@ table =
     ∷ [])
     (refused 3 ∷ refused 3 ∷ refused 3 ∷ refused 7 ∷ refused 7 ∷ refused 7 ∷ refused 8 ∷ refused 10 ∷ refused 11 ∷ [])
     -- 3: slices of other lengths
-    ∷ record { start = made stored shelf; calls = lent (exact 1 3 2) (read read-entry ∷ read (read-vector 0) ∷ []); expected = refused 3 ∷ vector [] ∷ [] }
+    ∷ record { start = made stored shelf; calls = lent (exact 1 3 2) (read read-entry ∷ read (read-vector 0) ∷ []); outcome = record { answers = refused 3 ∷ vector [] ∷ []; pool = [] } }
     -- 9: 3 bytes, dim 2, which comes before 10
     ∷ record {
       start = made stored (wide (1 ∷ 2 ∷ 3 ∷ 4 ∷ 5 ∷ 6 ∷ []));
       calls = lent (exact 2 4 1) (insert (1 ∷ 2 ∷ 3 ∷ []) 2 1 100 ∷ insert (1 ∷ 2 ∷ 3 ∷ 4 ∷ 5 ∷ []) 2 2 100 ∷ []);
-      expected = refused 9 ∷ refused 9 ∷ [];
+      outcome = record { answers = refused 9 ∷ refused 9 ∷ []; pool = [] };
     }
     -- 12: all emptied; 13: one live
     ∷ on-shelf (delete (0 ∷ 1 ∷ []) 2 1 2 100 ∷ enable (config 1 1 4 2) 100 ∷ delete (2 ∷ []) 2 1 1 100 ∷ enable (config 1 1 4 2) 100 ∷ [])
     (deleted (stats 1 0 0 0 ∷ stats 2 1 1 0 ∷ []) ∷ refused 13 ∷ deleted (stats 0 0 0 0 ∷ []) ∷ refused 12 ∷ [])
     ∷ []
 
--- the answers to a list of calls, with a size answer of 100 words
-unfoldable pub answers : State Store → List Call → List Answer
-answers w [] = []
-answers w (c ∷ cs) = let r = step (λ dim capacity degree. 100) stored w c in r .1 ∷ answers (r .0) cs
+-- what a list of calls answers and leaves, with a size answer of 100 words
+unfoldable pub outcome-of : State Store → List Call → Outcome
+outcome-of w [] = record { answers = []; pool = landmarks w }
+outcome-of w (c ∷ cs) =
+    let r = step (λ dim capacity degree. 100) stored w c in
+    let rest = outcome-of (r .0) cs in
+    record { answers = r .1 ∷ rest .answers; pool = rest .pool }
