@@ -6,3 +6,4 @@ pub mod Ordered
 pub mod Filter
 pub mod Sorted
 pub mod Unique
+pub mod Pasting

@@ -12,13 +12,14 @@ use lib.ListN.{length, take, drop, getD, set, length-set, length-map, length-tak
 use lib.Seq.{getD-set-same, getD-set-other, take-nil}
 use lib.Dec.{eqb, ltb}
 use Rattle.lists.specs.Lists.{filter, part, put-part}
-use Rattle.lists.proofs.Parts.{fits-in, length-put, part-put}
 use Rattle.slots.specs.Sizes.{limits, sizes-ok, alpha-ok}
 use Rattle.slots.specs.View.{View}
 use Rattle.slots.specs.Ops.{Ops, Row, write-rows}
 use Rattle.slots.specs.Store.{Arrays, Shaped, Store, blank, is-valid, current, vector-of, refs-of, store-view, padded, edge-version, write-neighbors, write-vector, set-mark, next-version, with-arrays, at-slot, store-ops}
 use Rattle.slots.specs.Plain.{other-than, with-slots, plain-ops}
-use Rattle.slots.proofs.Current.{current-written, padded-targets, length-padded, Fresh, fresh-append, fresh-take, fresh-drop, fresh-written, raised, raised-at, raised-other, fresh-raised, current-raised}
+use Rattle.slots.proofs.Written.{new-edges, length-new-edges, shaped-written, refs-written, refs-emptied}
+use Rattle.slots.proofs.Changes.{valid-set, shaped-marked, shaped-stepped, shaped-vector, vector-written}
+use Rattle.slots.proofs.Current.{length-padded, Fresh, fresh-append, fresh-take, fresh-drop, fresh-written, raised, raised-at, raised-other, fresh-raised, current-raised}
 
 -- what holds of a reached index. `emptied s` is how often the slot s was emptied since the index was made.
 pub record Sound (emptied : ℕ → ℕ) (b : Store) : Type 0 where
@@ -48,75 +49,29 @@ recount emptied emptied′ b v e a = record {
   same = a .same;
 }
 
--- ---- a row replaced
-
-module _ (versions ts es xs ys : List ℕ) (d s : ℕ) (ft : s * d + d ≤ length ts) (fe : s * d + d ≤ length es) (lx : length xs ≡ d) (ly : length ys ≡ d) where
-  current-put : (t : ℕ) → current versions (part d t (put-part d s xs ts)) (part d t (put-part d s ys es))
-      ≡ cond (eqb t s) (current versions xs ys) (current versions (part d t ts) (part d t es))
-  current-put t = rw (part-put d s xs ts lx ft t, part-put d s ys es ly fe t) (go (eqb t s))
-    where
-      go : (b : Bool) → current versions (cond b xs (part d t ts)) (cond b ys (part d t es)) ≡ cond b (current versions xs ys) (current versions (part d t ts) (part d t es))
-      go true = refl
-      go false = refl
-
-  fresh-put : Fresh versions ts es → Fresh versions xs ys → length ts ≡ length es → Fresh versions (put-part d s xs ts) (put-part d s ys es)
-  fresh-put f g l =
-      fresh-append versions (take (s * d) ts) (xs ++ drop (s * d + d) ts) (take (s * d) es) (ys ++ drop (s * d + d) es) (simp (length-take, l)) (fresh-take versions (s * d) ts es f)
-      (fresh-append versions xs (drop (s * d + d) ts) ys (drop (s * d + d) es) (lx ∙ sym ly) g (fresh-drop versions (s * d + d) ts es f))
-
 -- ---- `write_neighbors`
 
+module _ (versions ts es xs ys : List ℕ) (d s : ℕ) where
+  fresh-put : Fresh versions ts es → Fresh versions xs ys → length ts ≡ length es → length xs ≡ length ys → Fresh versions (put-part d s xs ts) (put-part d s ys es)
+  fresh-put f g l m =
+      fresh-append versions (take (s * d) ts) (xs ++ drop (s * d + d) ts) (take (s * d) es) (ys ++ drop (s * d + d) es) (simp (length-take, l)) (fresh-take versions (s * d) ts es f)
+      (fresh-append versions xs (drop (s * d + d) ts) ys (drop (s * d + d) es) m g (fresh-drop versions (s * d + d) ts es f))
+
 module _ (emptied : ℕ → ℕ) (b : Store) (ok : Sound emptied b) (s : ℕ) (h : s < b .capacity) (ids : List ℕ) where
-  abbrev degree′ : ℕ
-  degree′ = b .arrays .degree
-
-  abbrev row : List ℕ
-  row = padded degree′ ids
-
-  abbrev edges : List ℕ
-  edges = map (edge-version (b .arrays .versions)) row
-
-  abbrev written : Store
-  written = with-arrays b (write-neighbors (b .arrays) s ids)
-
-  ft : s * degree′ + degree′ ≤ length (b .arrays .targets)
-  ft = fits-in degree′ (b .capacity) s (length (b .arrays .targets)) h (ok .shaped .targets-long)
-
-  fe : s * degree′ + degree′ ≤ length (b .arrays .edge-versions)
-  fe = fits-in degree′ (b .capacity) s (length (b .arrays .edge-versions)) h (ok .shaped .edges-long)
-
-  le : length edges ≡ degree′
-  le = length-map row (edge-version (b .arrays .versions)) ∙ length-padded degree′ ids
-
-  sound-written : Sound emptied written
+  sound-written : Sound emptied (with-arrays b (write-neighbors (b .arrays) s ids))
   unfolding write-neighbors store-view
-  sound-written = record {
-    sizes-right = ok .sizes-right;
-    alpha-right = ok .alpha-right;
-    entry-inside = ok .entry-inside;
-    shaped = record {
-      vectors-long = ok .shaped .vectors-long;
-      targets-long = length-put degree′ s row (b .arrays .targets) (length-padded degree′ ids) ft ∙ ok .shaped .targets-long;
-      edges-long = length-put degree′ s edges (b .arrays .edge-versions) le fe ∙ ok .shaped .edges-long;
-      versions-long = ok .shaped .versions-long;
-      marks-long = ok .shaped .marks-long;
-    };
-    fresh = fresh-put (b .arrays .versions) (b .arrays .targets) (b .arrays .edge-versions) row edges degree′ s ft fe (length-padded degree′ ids) le
-        (ok .fresh) (fresh-written (b .arrays .versions) row) (ok .shaped .targets-long ∙ sym (ok .shaped .edges-long));
-    worn = ok .worn;
-  }
-
-  refs-written : (t : ℕ) → refs-of (write-neighbors (b .arrays) s ids) t ≡ cond (eqb t s) (filter (other-than blank) (take degree′ ids)) (refs-of (b .arrays) t)
-  unfolding refs-of write-neighbors
-  refs-written t =
-      current-put (b .arrays .versions) (b .arrays .targets) (b .arrays .edge-versions) row edges degree′ s ft fe (length-padded degree′ ids) le t
-      ∙ ap (λ (r : List ℕ). cond (eqb t s) r (refs-of (b .arrays) t)) (current-written (b .arrays .versions) row ∙ padded-targets degree′ degree′ ids)
-
--- `fill_neighbors`
-emptied-row : (emptied : ℕ → ℕ) (b : Store) → Sound emptied b → (s : ℕ) → s < b .capacity
-    → (t : ℕ) → refs-of (write-neighbors (b .arrays) s []) t ≡ cond (eqb t s) [] (refs-of (b .arrays) t)
-emptied-row emptied b ok s h t =
-    refs-written emptied b ok s h [] t ∙ ap (λ (r : List ℕ). cond (eqb t s) (filter (other-than blank) r) (refs-of (b .arrays) t)) (take-nil (b .arrays .degree))
+  sound-written =
+      let d = b .arrays .degree in
+      let versions = b .arrays .versions in
+      record {
+        sizes-right = ok .sizes-right;
+        alpha-right = ok .alpha-right;
+        entry-inside = ok .entry-inside;
+        shaped = shaped-written (b .capacity) (b .arrays) (ok .shaped) s h ids;
+        fresh = fresh-put versions (b .arrays .targets) (b .arrays .edge-versions) (padded d ids) (new-edges d versions ids) d s
+            (ok .fresh) (fresh-written versions (padded d ids)) (ok .shaped .targets-long ∙ sym (ok .shaped .edges-long)) (length-padded d ids ∙ sym (length-new-edges d versions ids));
+        worn = ok .worn;
+      }
 
 -- ---- the version step
 
@@ -153,13 +108,7 @@ module _ (emptied : ℕ → ℕ) (b : Store) (ok : Sound emptied b) (s : ℕ) (h
     sizes-right = ok .sizes-right;
     alpha-right = ok .alpha-right;
     entry-inside = ok .entry-inside;
-    shaped = record {
-      vectors-long = ok .shaped .vectors-long;
-      targets-long = ok .shaped .targets-long;
-      edges-long = ok .shaped .edges-long;
-      versions-long = length-set (b .arrays .versions) s _ ∙ ok .shaped .versions-long;
-      marks-long = ok .shaped .marks-long;
-    };
+    shaped = shaped-stepped (b .capacity) (b .arrays) (ok .shaped) s;
     fresh = rw stepped-versions (fresh-raised (b .arrays .versions) s inside (b .arrays .targets) (b .arrays .edge-versions) (ok .fresh));
     worn = λ t k. rw stepped-versions (worn-stepped t k);
   }
@@ -173,15 +122,7 @@ module _ (emptied : ℕ → ℕ) (b : Store) (ok : Sound emptied b) (s : ℕ) (h
       (fresh-take (b .arrays .versions) d (drop (t * d) (b .arrays .targets)) (drop (t * d) (b .arrays .edge-versions))
       (fresh-drop (b .arrays .versions) (t * d) (b .arrays .targets) (b .arrays .edge-versions) (ok .fresh)))
 
--- ---- the marks
-
-live-set : (marks : List ℕ) (s n : ℕ) → s < length marks → (t : ℕ) → is-valid (set marks s n) t ≡ cond (eqb t s) (not (eqb n 0)) (is-valid marks t)
-unfolding is-valid
-live-set marks s n h t = go (eqb t s) refl
-  where
-    go : (q : Bool) → eqb t s ≡ q → not (eqb (getD (set marks s n) t 0) 0) ≡ cond q (not (eqb n 0)) (not (eqb (getD marks t 0) 0))
-    go true e = ap (λ k. not (eqb k 0)) (ap (λ j. getD (set marks s n) j 0) (eqb-true t s e) ∙ getD-set-same marks s n 0 h)
-    go false e = ap (λ k. not (eqb k 0)) (getD-set-other marks s t n 0 (eqb-false t s e))
+-- ---- the marks and the vectors
 
 -- a mark changes nothing else
 sound-marked : (emptied : ℕ → ℕ) (b : Store) → Sound emptied b → (s mark : ℕ) → Sound emptied (with-arrays b (set-mark (b .arrays) s mark))
@@ -190,43 +131,22 @@ sound-marked emptied b ok s mark = record {
   sizes-right = ok .sizes-right;
   alpha-right = ok .alpha-right;
   entry-inside = ok .entry-inside;
-  shaped = record {
-    vectors-long = ok .shaped .vectors-long;
-    targets-long = ok .shaped .targets-long;
-    edges-long = ok .shaped .edges-long;
-    versions-long = ok .shaped .versions-long;
-    marks-long = length-set (b .arrays .marks) s mark ∙ ok .shaped .marks-long;
-  };
+  shaped = shaped-marked (b .capacity) (b .arrays) (ok .shaped) s mark;
   fresh = ok .fresh;
   worn = ok .worn;
 }
 
--- ---- the vectors
-
-module _ (emptied : ℕ → ℕ) (b : Store) (ok : Sound emptied b) (s : ℕ) (h : s < b .capacity) (vector : List ℕ) (l : length vector ≡ b .arrays .dim) where
-  fv : s * b .arrays .dim + b .arrays .dim ≤ length (b .arrays .vectors)
-  fv = fits-in (b .arrays .dim) (b .capacity) s (length (b .arrays .vectors)) h (ok .shaped .vectors-long)
-
-  sound-vector : Sound emptied (with-arrays b (write-vector (b .arrays) s vector))
-  unfolding write-vector store-view
-  sound-vector = record {
-    sizes-right = ok .sizes-right;
-    alpha-right = ok .alpha-right;
-    entry-inside = ok .entry-inside;
-    shaped = record {
-      vectors-long = length-put (b .arrays .dim) s vector (b .arrays .vectors) l fv ∙ ok .shaped .vectors-long;
-      targets-long = ok .shaped .targets-long;
-      edges-long = ok .shaped .edges-long;
-      versions-long = ok .shaped .versions-long;
-      marks-long = ok .shaped .marks-long;
-    };
-    fresh = ok .fresh;
-    worn = ok .worn;
-  }
-
-  vector-written : (t : ℕ) → vector-of (write-vector (b .arrays) s vector) t ≡ cond (eqb t s) vector (vector-of (b .arrays) t)
-  unfolding vector-of write-vector
-  vector-written t = part-put (b .arrays .dim) s vector (b .arrays .vectors) l fv t
+sound-vector : (emptied : ℕ → ℕ) (b : Store) → Sound emptied b → (s : ℕ) → s < b .capacity → (vector : List ℕ) → length vector ≡ b .arrays .dim
+    → Sound emptied (with-arrays b (write-vector (b .arrays) s vector))
+unfolding write-vector store-view
+sound-vector emptied b ok s h vector l = record {
+  sizes-right = ok .sizes-right;
+  alpha-right = ok .alpha-right;
+  entry-inside = ok .entry-inside;
+  shaped = shaped-vector (b .capacity) (b .arrays) (ok .shaped) s h vector l;
+  fresh = ok .fresh;
+  worn = ok .worn;
+}
 
 -- ---- each operation
 
@@ -254,7 +174,7 @@ module _ (emptied : ℕ → ℕ) (b : Store) (v : View) (a : Agree emptied b v) 
       s (b .capacity)
       (λ h. record {
         sound = sound-written emptied b (a .sound) s h ids;
-        same = unfold vector-of in λ i. with-slots (store-view b) (is-valid (b .arrays .marks)) (vector-of (b .arrays)) (λ t. refs-written emptied b (a .sound) s h ids t i);
+        same = unfold vector-of in λ i. with-slots (store-view b) (is-valid (b .arrays .marks)) (vector-of (b .arrays)) (λ t. refs-written (b .capacity) (b .arrays) (a .sound .shaped) s h ids t i);
       })
       (λ h. record { sound = a .sound; same = refl }))
 
@@ -268,7 +188,7 @@ module _ (emptied : ℕ → ℕ) (b : Store) (v : View) (a : Agree emptied b v) 
       s (b .capacity)
       (λ h. record {
         sound = sound-marked emptied b (a .sound) s 0;
-        same = unfold vector-of refs-of in λ i. with-slots (store-view b) (λ t. live-set (b .arrays .marks) s 0 (rw (a .sound .shaped .marks-long) h) t i) (vector-of (b .arrays)) (refs-of (b .arrays));
+        same = unfold vector-of refs-of in λ i. with-slots (store-view b) (λ t. valid-set (b .arrays .marks) s 0 (rw (a .sound .shaped .marks-long) h) t i) (vector-of (b .arrays)) (refs-of (b .arrays));
       })
       (λ h. record { sound = a .sound; same = refl }))
 
@@ -304,9 +224,9 @@ module _ (emptied : ℕ → ℕ) (b : Store) (v : View) (a : Agree emptied b v) 
       record {
         sound = sound-marked emptied (with-arrays b (write-neighbors (b₁ .arrays) s [])) ok₂ s 1;
         same = unfold vector-of refs-of set-mark write-neighbors write-vector in λ i. with-slots (store-view b)
-            (λ t. live-set (b .arrays .marks) s 1 (rw (a .sound .shaped .marks-long) h) t i)
-            (λ t. vector-written emptied b (a .sound) s h vector l t i)
-            (λ t. emptied-row emptied b₁ ok₁ s h t i);
+            (λ t. valid-set (b .arrays .marks) s 1 (rw (a .sound .shaped .marks-long) h) t i)
+            (λ t. vector-written (b .capacity) (b .arrays) (a .sound .shaped) s h vector l t i)
+            (λ t. refs-emptied (b .capacity) (b₁ .arrays) (ok₁ .shaped) s h t i);
       })
       (λ h. record { sound = a .sound; same = refl }))
 
@@ -325,7 +245,7 @@ module _ (emptied : ℕ → ℕ) (b : Store) (v : View) (a : Agree emptied b v) 
       record {
         sound = sound-written (λ t. cond (eqb t s) 1 0 + emptied t) b₁ ok₁ s h [];
         same = unfold vector-of write-neighbors next-version in λ i. with-slots (store-view b) (is-valid (b .arrays .marks)) (vector-of (b .arrays))
-            (λ t. (emptied-row (λ t. cond (eqb t s) 1 0 + emptied t) b₁ ok₁ s h t
+            (λ t. (refs-emptied (b .capacity) (b₁ .arrays) (ok₁ .shaped) s h t
             ∙ ap (λ (r : List ℕ). cond (eqb t s) [] r) (refs-stepped emptied b (a .sound) s h few t)) i);
       })
       (λ h. recount emptied (λ t. cond (eqb t s) 1 0 + emptied t) b (store-view b) (λ t k. sym (not-it t (omega arith))) (record { sound = a .sound; same = refl })))

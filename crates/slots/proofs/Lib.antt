@@ -1,4 +1,9 @@
 mod Cases
 pub mod Current
+pub mod Written
+pub mod Changes
+pub mod Places
+pub mod Count
+mod Made
 pub mod Agree
 pub mod New

@@ -3,3 +3,5 @@ pub mod View
 pub mod Ops
 pub mod Store
 pub mod Plain
+pub mod Rows
+pub mod Making

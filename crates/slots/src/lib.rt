@@ -1,1 +1,5 @@
-// To come: marks, versions and rows: `is_valid`, `live_at`, `write_neighbors`, the version step, and what making writes.
+// Slots of an index in lent slices: their marks and versions, their rows, and what making writes.
+pub mod making;
+pub mod marks;
+pub mod parts;
+pub mod rows;

@@ -1,0 +1,50 @@
+-- Rows as the functions on lent slices read and write them: the reference at a place, and a row from a place on. Assumes nothing.
+use Prim.Native.Nat.{ℕ, _+_, _*_, _≤_}
+use mathlib.Core.Bool.{Bool, true, false, _&&_}
+use mathlib.Core.List.{List, _∷_}
+use mathlib.Core.Path.{_≡_}
+use lib.ListN.{length, drop, getD}
+use lib.Dec.{eqb}
+use Rattle.lists.specs.Lists.{filter, part}
+use Rattle.slots.specs.Store.{Arrays, is-valid, current, write-neighbors}
+use Rattle.slots.specs.declared.rows.Ref.{Ref}
+use Rattle.slots.specs.declared.rows.Ref.the-variants.{At, Dead}
+
+-- the slices, one by one
+abbrev pub arrays : ℕ → ℕ → List ℕ → List ℕ → List ℕ → List ℕ → List ℕ → Arrays
+arrays dim degree vectors targets edges versions marks =
+    record { dim = dim; degree = degree; vectors = vectors; targets = targets; edge-versions = edges; versions = versions; marks = marks }
+
+-- slices of rows, versions and marks that belong together; a blank target is outside
+pub record RowShape (degree : ℕ) (targets edges versions marks : List ℕ) : Type 0 where
+  pub targets-long : length targets ≡ length marks * degree
+  pub edges-long : length edges ≡ length marks * degree
+  pub versions-long : length versions ≡ length marks
+  pub few : length marks ≤ 65536
+
+-- ---- what is read
+
+abbrev pub ref-of : Bool → ℕ → Ref
+ref-of true t = At t
+ref-of false t = Dead
+
+-- `live_at`: the target at a place of a row, if its mark is set and the edge version is its version
+unfoldable pub ref-at : Arrays → ℕ → ℕ → Ref
+ref-at a s place =
+    let t = getD (a .targets) (s * a .degree + place) 0 in
+    ref-of (is-valid (a .marks) t && eqb (getD (a .edge-versions) (s * a .degree + place) 0) (getD (a .versions) t 0)) t
+
+-- `refs-of` from a place on
+unfoldable pub refs-from : Arrays → ℕ → ℕ → List ℕ
+refs-from a s place = current (a .versions) (drop place (part (a .degree) s (a .targets))) (drop place (part (a .degree) s (a .edge-versions)))
+
+-- the live ones of them
+unfoldable pub live-from : Arrays → ℕ → ℕ → List ℕ
+live-from a s place = filter (is-valid (a .marks)) (refs-from a s place)
+
+-- ---- what is written
+
+-- what `write_neighbors` leaves in the two slices that it changes
+pub record Wrote (degree : ℕ) (targets edges versions : List ℕ) (s : ℕ) (ids targets′ edges′ : List ℕ) : Type 0 where
+  pub does : (dim : ℕ) (vectors marks : List ℕ)
+      → arrays dim degree vectors targets′ edges′ versions marks ≡ write-neighbors (arrays dim degree vectors targets edges versions marks) s ids

@@ -1,0 +1,79 @@
+// A mark and a version for each slot.
+ghost use mathlib.Core.Bool.{cond};
+ghost use mathlib.Core.Path.{_≡_};
+ghost use Prim.Native.Nat.{suc, _%_, _<_};
+ghost use lib.ListN.{length, getD, set};
+ghost use Rattle.lists.specs.Lists.{filter, range};
+ghost use Rattle.slots.specs.Store.{is-valid};
+
+// A slot number as an index.
+pub fn wide(x: u32) -> usize
+    ensures { λ r. ⌜ r ≡ x ⌝ }
+{
+    x as usize
+}
+
+// Whether slot `s` is live; a slot outside is not.
+pub fn is_valid(marks: &[u8], s: usize) -> bool
+    ensures { λ r. ⌜ r ≡ is-valid (now (marks .entry)) s ⌝ }
+{
+    if s < marks.len() {
+        return marks[s] != 0;
+    }
+    false
+}
+
+// How many slots are live.
+pub fn count_valid(marks: &[u8]) -> usize
+    ensures { λ r. ⌜ r ≡ length (filter (is-valid (now (marks .entry))) (range 0 (length (now (marks .entry))))) ⌝ }
+{
+    let mut n: usize = 0;
+    let mut s: usize = 0;
+    while s < marks.len() {
+        if is_valid(marks, s) {
+            n += 1;
+        }
+        s += 1;
+    }
+    n
+}
+
+// The version of slot `s`; 0 for a slot outside.
+pub fn node_version(versions: &[u16], s: usize) -> u16
+    ensures { λ r. ⌜ r ≡ getD (now (versions .entry)) s 0 ⌝ }
+{
+    if s < versions.len() {
+        return versions[s];
+    }
+    0
+}
+
+// The mark of a live slot, and of a dead one.
+fn mark_of(valid: bool) -> u8
+    ensures { λ r. ⌜ r ≡ cond valid 1 0 ⌝ }
+{
+    if valid { 1 } else { 0 }
+}
+
+// Marks slot `s` live or dead.
+pub fn set_valid(marks: &mut [u8], s: usize, valid: bool)
+    requires { ⌜ s < length (now marks) ⌝ }
+    ensures { λ _. ⌜ now (marks .exit) ≡ set (now (marks .entry)) s (cond valid 1 0) ⌝ }
+{
+    marks[s] = mark_of(valid);
+}
+
+// The version after `v`; after 65,535 comes 0.
+fn version_after(v: u16) -> u16
+    ensures { λ r. ⌜ r ≡ suc v % 65536 ⌝ }
+{
+    std::num::wrapping_add_u16(v, 1)
+}
+
+// Gives slot `s` the next version.
+pub fn next_version(versions: &mut [u16], s: usize)
+    requires { ⌜ s < length (now versions) ⌝ }
+    ensures { λ _. ⌜ now (versions .exit) ≡ set (now (versions .entry)) s (suc (getD (now (versions .entry)) s 0) % 65536) ⌝ }
+{
+    versions[s] = version_after(versions[s]);
+}
