@@ -2,3 +2,10 @@ pub mod Cases
 pub mod Before
 pub mod Floats
 pub mod Plain
+pub mod Exact
+pub mod Words
+pub mod Insertion
+pub mod Keeping
+pub mod Sorting
+pub mod Copying
+pub mod After

@@ -1,12 +1,18 @@
--- f32 numbers: whole numbers held exactly, and the quotient of two distances. Document 01, "Selections"; `prune_scored` in the Rust. Assumes nothing.
+-- f32 numbers: whole numbers held exactly, their order with slots, and the quotient of two distances. Document 01, "Candidates and the walk" and
+-- "Selections"; `Candidate` and `prune_scored` in the Rust. Assumes nothing.
 use Prim.Native.Nat.{ℕ, zero, suc}
-use mathlib.Core.Bool.{cond}
+use mathlib.Core.Bool.{Bool, cond, _&&_, _||_}
 use lib.IntN.{pos}
-use lib.Ieee.{Float, binary32, div, lt, ofInt, ofBits}
+use lib.Dec.{ltb}
+use lib.Ieee.{Float, binary32, div, lt, eq, ofInt, ofBits}
 
 -- a whole number as an f32; exact up to 2 ^ 24
 unfoldable pub f32 : ℕ → Float
 f32 n = ofInt binary32 (pos n)
+
+-- the order of candidates whose distances are f32 numbers: that of the whole numbers up to 2 ^ 24 (`before-exact`)
+unfoldable pub before-f32 : Float → ℕ → Float → ℕ → Bool
+before-f32 x i y j = lt x y || eq x y && ltb i j
 
 -- `f32::MAX`, the largest finite f32
 unfoldable pub largest : Float

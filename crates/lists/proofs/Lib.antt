@@ -7,3 +7,5 @@ pub mod Filter
 pub mod Sorted
 pub mod Unique
 pub mod Pasting
+pub mod Places
+pub mod Firsts
