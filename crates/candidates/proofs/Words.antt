@@ -5,8 +5,7 @@ use mathlib.Core.List.{List, [], _∷_, _++_}
 use native.Mathlib.Omega.{arith}
 use lib.ListN.{length, take, drop, getD, set, length-set}
 use lib.Seq.{getD-set-same, getD-set-other, take-at, drop-at}
-use Rattle.lists.specs.Lists.{init, last}
-use Rattle.lists.proofs.All.{All}
+use Rattle.lists.specs.Lists.{All, init, last}
 use Rattle.lists.proofs.Places.{init-snoc, last-snoc, all-at, at-all}
 use Rattle.candidates.specs.Candidates.{Candidate}
 use Rattle.candidates.specs.Words.{pair, cand, cands, put, Outside}

@@ -6,8 +6,7 @@ use mathlib.Core.Bool.{Bool, not, _&&_}
 use mathlib.Core.List.{List, [], _∷_, _++_}
 use lib.ListN.{length, take, drop, getD, set}
 use lib.Dec.{eqb}
-use Rattle.lists.specs.Lists.{insert-by}
-use Rattle.lists.proofs.All.{All}
+use Rattle.lists.specs.Lists.{All, insert-by}
 use Rattle.candidates.specs.Candidates.{Candidate, before, ids}
 
 abbrev pub pair : ℕ → ℕ → Candidate

@@ -4,7 +4,7 @@ use mathlib.Core.Bool.{Bool, true, false, cond}
 use mathlib.Core.Path.{_≡_, refl}
 use mathlib.Core.List.{List, [], _∷_, _++_}
 use lib.ListN.{take}
-use Rattle.lists.specs.Lists.{filter, init, insert-by, sort-by, foldl}
+use Rattle.lists.specs.Lists.{All, filter, init, insert-by, sort-by, foldl}
 
 -- what holds in both cases of a test
 pub by-cases : {A : Type 0} (P : A → Type 0) (b : Bool) {x y : A} → (b ≡ true → P x) → (b ≡ false → P y) → P (cond b x y)
@@ -12,14 +12,6 @@ by-cases P true f g = f refl
 by-cases P false f g = g refl
 
 module _ {A : Type 0} where
-  abbrev pub All : (A → Type 0) → List A → Type 0
-  All P [] = Unit {0}
-  All P (x ∷ xs) = P x × All P xs
-
-  abbrev pub Pairwise : (A → A → Type 0) → List A → Type 0
-  Pairwise R [] = Unit {0}
-  Pairwise R (x ∷ xs) = All (R x) xs × Pairwise R xs
-
   pub all-map : (P Q : A → Type 0) → ((x : A) → P x → Q x) → (xs : List A) → All P xs → All Q xs
   all-map P Q f [] h = tt
   all-map P Q f (x ∷ xs) h = (f x (h .0), all-map P Q f xs (h .1))

@@ -7,9 +7,7 @@ use mathlib.Core.List.{List, [], _∷_, _++_}
 use native.Mathlib.Decide.{decLt}
 use native.Mathlib.Omega.{arith}
 use lib.ListN.{length, take, drop, getD}
-use Rattle.lists.specs.Lists.{insert-by, init, last}
-use Rattle.lists.proofs.All.{All, Pairwise}
-use Rattle.lists.proofs.Ordered.{Ordered}
+use Rattle.lists.specs.Lists.{All, Pairwise, Ordered, insert-by, init, last}
 
 module _ {A : Type 0} where
   pub init-snoc : (xs : List A) (x : A) → init (xs ++ (x ∷ [])) ≡ xs

@@ -7,8 +7,8 @@ use mathlib.Core.List.{List, [], _∷_, _++_, map}
 use lib.ListN.{take}
 use lib.Dec.{eqb}
 use borrow.Author.Tests.{ne-eqb, eqb-false}
-use Rattle.lists.specs.Lists.{filter, elem, distinct-by}
-use Rattle.lists.proofs.All.{All, by-cases, all-filter}
+use Rattle.lists.specs.Lists.{All, filter, elem, distinct-by}
+use Rattle.lists.proofs.All.{by-cases, all-filter}
 
 abbrev pub Unique : List ℕ → Type 0
 Unique [] = Unit {0}

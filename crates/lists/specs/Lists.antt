@@ -2,6 +2,7 @@
 use Prim.Native.Nat.{ℕ, zero, suc, _+_, _*_}
 use mathlib.Core.Bool.{Bool, true, false, not, _||_, cond}
 use mathlib.Core.List.{List, [], _∷_, _++_}
+use mathlib.Core.Path.{_≡_}
 use lib.ListN.{take, drop}
 use lib.Dec.{eqb, ltb}
 
@@ -85,3 +86,20 @@ part d s l = take d (drop (s * d) l)
 
 abbrev pub put-part : ℕ → ℕ → List ℕ → List ℕ → List ℕ
 put-part d s xs l = take (s * d) l ++ (xs ++ drop (s * d + d) l)
+
+-- ---- what holds of a list
+
+module _ {A : Type 0} where
+  -- of each element
+  abbrev pub All : (A → Type 0) → List A → Type 0
+  All P [] = Unit {0}
+  All P (x ∷ xs) = P x × All P xs
+
+  -- of each element and every later one
+  abbrev pub Pairwise : (A → A → Type 0) → List A → Type 0
+  Pairwise R [] = Unit {0}
+  Pairwise R (x ∷ xs) = All (R x) xs × Pairwise R xs
+
+-- each element comes before every later one
+abbrev pub Ordered : {A : Type 0} → (A → A → Bool) → List A → Type 0
+Ordered before xs = Pairwise (λ x y. before x y ≡ true) xs

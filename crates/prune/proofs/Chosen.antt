@@ -10,8 +10,8 @@ use lib.ListN.{length, length-append, length-take}
 use lib.Seq.{take-all}
 use lib.Dec.{eqb, leb}
 use lib.Ieee.{Float, lt}
-use Rattle.lists.specs.Lists.{filter, elem, foldl, sort-by, distinct-by}
-use Rattle.lists.proofs.All.{All, by-cases, all-map, all-append, all-take, all-filter, all-sort, filter-test}
+use Rattle.lists.specs.Lists.{All, filter, elem, foldl, sort-by, distinct-by}
+use Rattle.lists.proofs.All.{by-cases, all-map, all-append, all-take, all-filter, all-sort, filter-test}
 use Rattle.lists.proofs.Unique.{Unique, all-distinct, unique-snoc, unique-distinct, unique-take, keys-snoc, or-false-l, or-false-r, eqb-flip}
 use Rattle.candidates.specs.Candidates.{Candidate, ids, nearer}
 use Rattle.candidates.specs.Quotient.{largest}

@@ -11,8 +11,8 @@ use lib.ListN.{length, replicate}
 use lib.Dec.{T, eqb, leb}
 use lib.Ieee.{Float, lt, ofInt}
 use lib.Ieee.Positive.{num, den}
-use Rattle.lists.specs.Lists.{filter, elem, foldl, sort-by, distinct-by}
-use Rattle.lists.proofs.All.{All, by-cases}
+use Rattle.lists.specs.Lists.{All, filter, elem, foldl, sort-by, distinct-by}
+use Rattle.lists.proofs.All.{by-cases}
 use Rattle.lists.proofs.Filter.{filter-length, filter-every, filter-or}
 use Rattle.lists.proofs.Sorted.{First, Sorted, sort-sorted, distinct-sorted, take-sorted, least-first}
 use Rattle.lists.proofs.Unique.{Unique, or-false-l, or-false-r, eqb-flip}

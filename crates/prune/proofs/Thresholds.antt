@@ -17,7 +17,7 @@ use lib.Ieee.Fits.{and-l, and-r, reach}
 use lib.Ieee.Exact.{HasValue, round-exact}
 use lib.Ieee.Order.{le-of-values}
 use lib.Ieee.Positive.{num, den, den-pos, positive, own-value, mul-at, mul-mono, le→cross, cross→le, le-trans-positive, between}
-use Rattle.lists.proofs.All.{All, by-cases}
+use Rattle.lists.proofs.All.{by-cases}
 use Rattle.candidates.specs.Quotient.{f32, largest, fmin}
 use Rattle.candidates.proofs.Floats.{f32-value, or-l, or-r}
 use Rattle.candidates.proofs.Plain.{plain, plain-of-positive, largest-plain, lt-plain, lt-le-trans}
@@ -25,6 +25,7 @@ use Rattle.slots.specs.Sizes.{alpha-ok}
 use Rattle.prune.specs.Prune.{growth, thresholds, thresholds-from}
 -- so that the examples are checked first
 use Rattle.prune.proofs.Cases
+use Rattle.lists.specs.Lists.{All}
 
 -- ---- a value that fits is rounded to itself
 pow-le-inv : (a b : ℕ) → 2 ^ a ≤ 2 ^ b → a ≤ b

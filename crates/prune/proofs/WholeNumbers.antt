@@ -7,8 +7,8 @@ use native.Mathlib.Nat.{le-of-lt}
 use lib.ListN.{length}
 use lib.Dec.{eqb, ltb, leb}
 use lib.Ieee.{Float, le, ofInt}
-use Rattle.lists.specs.Lists.{least-from}
-use Rattle.lists.proofs.All.{All, all-filter}
+use Rattle.lists.specs.Lists.{All, least-from}
+use Rattle.lists.proofs.All.{all-filter}
 use Rattle.candidates.specs.Candidates.{Candidate}
 use Rattle.candidates.specs.Quotient.{f32}
 use Rattle.candidates.proofs.Floats.{quotient-above-one}

@@ -9,9 +9,9 @@ use native.Mathlib.Omega.{arith}
 use lib.ListN.{length, take}
 use lib.Dec.{eqb, ltb}
 use borrow.Author.Tests.{eqb-true, eq-eqb, ltb-true, ltb-false, le-ltb}
-use Rattle.lists.specs.Lists.{filter, elem, foldl, insert-by, init, last, sort-by}
-use Rattle.lists.proofs.All.{All, by-cases, all-map, all-init, all-insert}
-use Rattle.lists.proofs.Ordered.{Ordered, length-insert, length-init}
+use Rattle.lists.specs.Lists.{All, Ordered, filter, elem, foldl, insert-by, init, last, sort-by}
+use Rattle.lists.proofs.All.{by-cases, all-map, all-init, all-insert}
+use Rattle.lists.proofs.Ordered.{length-insert, length-init}
 use Rattle.candidates.specs.Candidates.{Candidate, before, ids}
 use Rattle.walk.specs.Walk.{worst, enter, ends}
 use Rattle.walk.specs.GreedySearch.{Rules, Search, nearest, join, visit, turn, unvisited, turns, greedy-search, paper, amended}

@@ -9,9 +9,9 @@ use native.Mathlib.Omega.{arith}
 use lib.ListN.{length, take, getD, set, replicate, length-replicate, getD-replicate}
 use lib.Dec.{eqb, ltb}
 use borrow.Author.Tests.{eqb-true, eq-eqb, ne-eqb, not-true}
-use Rattle.lists.specs.Lists.{filter, elem, foldl, sort-by}
-use Rattle.lists.proofs.All.{All, by-cases, all-map, all-both, all-append, all-take, all-filter, filter-test, all-sort, foldl-keeps}
-use Rattle.lists.proofs.Ordered.{Ordered, sort-ordered}
+use Rattle.lists.specs.Lists.{All, Ordered, filter, elem, foldl, sort-by}
+use Rattle.lists.proofs.All.{by-cases, all-map, all-both, all-append, all-take, all-filter, filter-test, all-sort, foldl-keeps}
+use Rattle.lists.proofs.Ordered.{sort-ordered}
 use Rattle.candidates.specs.Candidates.{Candidate, before, nearer}
 use Rattle.slots.specs.View.{View, live-neighbors, query-distance}
 use Rattle.walk.specs.Walk.{State, unexpanded, enter, ends, meet, expand, graph-search, search-pool}

@@ -9,9 +9,9 @@ use lib.ListN.{length, getD, set, replicate, length-set, length-replicate}
 use lib.Seq.{getD-set-same, getD-set-other}
 use lib.Dec.{eqb, ltb}
 use borrow.Author.Tests.{ltb-true, eqb-true, eqb-false}
-use Rattle.lists.specs.Lists.{insert-by, init}
-use Rattle.lists.proofs.All.{All, Pairwise, by-cases, all-map, all-init, all-insert, filter-test, foldl-keeps}
-use Rattle.lists.proofs.Ordered.{Ordered, length-insert, length-init, pairwise-init, ordered-insert}
+use Rattle.lists.specs.Lists.{All, Pairwise, Ordered, insert-by, init}
+use Rattle.lists.proofs.All.{by-cases, all-map, all-init, all-insert, filter-test, foldl-keeps}
+use Rattle.lists.proofs.Ordered.{length-insert, length-init, pairwise-init, ordered-insert}
 use Rattle.candidates.specs.Candidates.{Candidate, before}
 use Rattle.slots.specs.View.{View, live-neighbors, query-distance}
 use Rattle.walk.specs.Walk.{State, unexpanded, worst, enter, ends, meet, expand, turn, turns, graph-search, search-pool}

@@ -9,10 +9,11 @@ use lib.ListN.{length, getD, set, replicate}
 use lib.Seq.{getD-set-same}
 use lib.Dec.{eqb}
 use borrow.Author.Tests.{eqb-true, eqb-false, eq-eqb}
-use Rattle.lists.proofs.All.{All, by-cases, foldl-keeps}
+use Rattle.lists.proofs.All.{by-cases, foldl-keeps}
 use Rattle.candidates.specs.Candidates.{Candidate}
 use Rattle.walk.specs.Walk.{State, unexpanded, ends, meet, expand, turn, turns}
 use Rattle.walk.proofs.Ordered.{First, Inside, expanded, mark-set, unexpanded-first, meet-sound, marked-sound, turn-sound, start-sound}
+use Rattle.lists.specs.Lists.{All}
 
 -- `run n` takes n steps. Where each step changes nothing or leaves less, more steps than there are left change nothing.
 module _ {S : Type 0} (step : S → S) (run : ℕ → S → S) (none : (s : S) → run zero s ≡ s) (more : (n : ℕ) (s : S) → run (suc n) s ≡ run n (step s))
