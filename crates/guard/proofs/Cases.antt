@@ -1,4 +1,4 @@
--- Small pools and reports, computed; the oracle gives the same. Each is one that a common slip gets wrong. Assumes nothing.
+-- Small pools and reports, computed; the Rust gives the same. Each is one that a common slip gets wrong. Assumes nothing.
 use Prim.Native.Nat.{ℕ}
 use mathlib.Core.Bool.{true, false}
 use mathlib.Core.Path.{_≡_, refl}

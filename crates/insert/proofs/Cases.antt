@@ -1,4 +1,4 @@
--- Small inserts, computed; the oracle gives the same. Assumes nothing.
+-- Small inserts, computed; the Rust gives the same. Assumes nothing.
 use Prim.Native.Nat.{ℕ}
 use mathlib.Core.Path.{_≡_, refl}
 use mathlib.Core.List.{List, [], _∷_, map}

@@ -1,2 +1,3 @@
 mod Cases
 pub mod Agree
+pub mod Chunks

@@ -1,4 +1,4 @@
--- Small deletes, computed; the oracle gives the same. Each is one that a common slip gets wrong. Assumes nothing.
+-- Small deletes, computed; the Rust gives the same. Each is one that a common slip gets wrong. Assumes nothing.
 use Prim.Native.Nat.{ℕ}
 use mathlib.Core.Path.{_≡_, refl}
 use mathlib.Core.List.{List, [], _∷_, map}

@@ -8,6 +8,7 @@ use Rattle.slots.specs.Sizes.{limits}
 use Rattle.slots.specs.Store.{new-arrays}
 use Rattle.slots.specs.Rows.{arrays}
 
+-- the given vectors and rows belong to the first slots, and each slice has its exact length
 pub record Room (dim capacity degree given : ℕ) (bytes rows vectors targets edges versions marks pool : List ℕ) : Type 0 where
   pub room : given ≤ capacity
   pub bytes-long : length bytes ≡ given * dim
@@ -19,6 +20,7 @@ pub record Room (dim capacity degree given : ℕ) (bytes rows vectors targets ed
   pub marks-long : length marks ≡ capacity
   pub pool-long : length pool ≡ limits .pool
 
+-- the slices hold a new index, whatever its alpha
 pub record New (dim capacity degree given : ℕ) (bytes rows vectors targets edges versions marks pool : List ℕ) : Type 0 where
   pub does : (alpha : Float)
       → arrays dim degree vectors targets edges versions marks

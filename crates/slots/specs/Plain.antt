@@ -1,4 +1,5 @@
--- The plain index (document 01: the plain book): no versions, no blanks. It is what a view shows, so the view is the whole of it. Assumes nothing.
+-- The graph of the plain index (document 01: the plain book): no versions, no blanks, just what a view shows. Its live count, guard and pool stand
+-- beside it. Assumes nothing.
 use Prim.Native.Nat.{ℕ, _-_, _*_}
 use mathlib.Core.Bool.{Bool, true, false, not, _&&_, cond}
 use mathlib.Core.List.{List, [], _++_}

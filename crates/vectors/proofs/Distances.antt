@@ -7,7 +7,7 @@ use native.Mathlib.Numerals.{add-one}
 use native.Mathlib.Omega.{arith}
 use lib.ListN.{length, getD, take, drop, length-take, length-drop}
 use lib.Seq.{drop-cons}
-use Rattle.lists.specs.Lists.{part}
+use Rattle.lists.specs.Lists.{All, part}
 use Rattle.vectors.specs.Distance.{squared-difference, distance}
 
 -- ---- for the loop
@@ -50,3 +50,16 @@ distance-sym (x ∷ a) (y ∷ b) = rw (add-comm (x - y) (y - x), distance-sym a 
 -- the vector of a slot inside is dim long
 pub length-part : (dim s : ℕ) (vectors : List ℕ) → s * dim + dim ≤ length vectors → length (part dim s vectors) ≡ dim
 length-part dim s vectors h = simp (length-take, length-drop) (omega arith)
+
+-- ---- bytes
+
+pub square-small : (x y : ℕ) → x < 256 → y < 256 → squared-difference x y ≤ 65025
+unfolding squared-difference
+square-small x y h k = byte-square {d = (x - y) + (y - x)} (omega arith)
+
+-- the distance of two vectors of bytes; of 256 bytes at most 16,646,400
+pub distance-small : (a b : List ℕ) → All (λ x. x < 256) a → All (λ y. y < 256) b → distance a b ≤ 65025 * length a
+unfolding distance
+distance-small [] b h k = omega arith
+distance-small (x ∷ a) [] h k = omega arith
+distance-small (x ∷ a) (y ∷ b) h k = omega (arith, square-small x y (h .0) (k .0), distance-small a b (h .1) (k .1))
