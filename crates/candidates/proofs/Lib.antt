@@ -6,6 +6,8 @@ pub mod Exact
 pub mod Words
 pub mod Insertion
 pub mod Keeping
+pub mod Meeting
 pub mod Sorting
+pub mod Merging
 pub mod Copying
 pub mod After

@@ -1,6 +1,7 @@
 // Candidates: a distance and a slot. Their order and the quotient of two distances; and lists of them in lent words.
 mod candidate;
 mod list;
+mod sort;
 
 pub use candidate::Candidate;
 pub use candidate::LARGEST;
@@ -14,4 +15,4 @@ pub use list::insert_ordered;
 pub use list::keep_first;
 pub use list::keep_valid;
 pub use list::put;
-pub use list::sort_by_distance;
+pub use sort::sort_by_distance;

@@ -9,3 +9,4 @@ pub mod Unique
 pub mod Pasting
 pub mod Places
 pub mod Firsts
+pub mod Merging

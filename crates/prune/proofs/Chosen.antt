@@ -48,6 +48,14 @@ module _ (P : Candidate → Type 0) (live : ℕ → Bool) (source : ℕ) (cs : L
   pub all-of-given : All P cs → All P (considered live source cs)
   all-of-given a = all-considered (all-filter P (λ c. not (eqb (c .id) source) && live (c .id)) cs a)
 
+-- each is live and not the source
+pub considered-kept : (live : ℕ → Bool) (source : ℕ) (cs : List Candidate) → All (λ c. not (eqb (c .id) source) && live (c .id) ≡ true) (considered live source cs)
+considered-kept live source cs =
+    all-considered (λ c. not (eqb (c .id) source) && live (c .id) ≡ true) live source cs (filter-test (λ c. not (eqb (c .id) source) && live (c .id)) cs)
+
+pub considered-live : (live : ℕ → Bool) (source : ℕ) (cs : List Candidate) → All (λ c. live (c .id) ≡ true) (considered live source cs)
+considered-live live source cs = all-map _ _ (λ c e. and-r (not (eqb (c .id) source)) (live (c .id)) e) (considered live source cs) (considered-kept live source cs)
+
 pub considered-unique : (live : ℕ → Bool) (source : ℕ) (cs : List Candidate) → Unique (ids (considered live source cs))
 unfolding considered
 considered-unique live source cs =
@@ -142,9 +150,7 @@ module _ (degree : ℕ) (alpha : Float) (live : ℕ → Bool) (d : ℕ → ℕ �
 
   kept : All (λ c. not (eqb (c .id) source) && live (c .id) ≡ true) (prune-scored degree alpha live d source cs)
   unfolding prune-scored
-  kept =
-      let P : Candidate → Type 0 = λ c. not (eqb (c .id) source) && live (c .id) ≡ true in
-      all-passes degree alpha d P (considered live source cs) (all-considered P live source cs (filter-test (λ c. not (eqb (c .id) source) && live (c .id)) cs))
+  kept = all-passes degree alpha d (λ c. not (eqb (c .id) source) && live (c .id) ≡ true) (considered live source cs) (considered-kept live source cs)
 
   pub chosen-live : All (λ c. live (c .id) ≡ true) (prune-scored degree alpha live d source cs)
   chosen-live = all-map _ _ (λ c e. and-r (not (eqb (c .id) source)) (live (c .id)) e) (prune-scored degree alpha live d source cs) kept

@@ -2,6 +2,10 @@ pub mod Cases
 pub mod Chosen
 pub mod Loop
 pub mod Passes
+pub mod Pruned
 pub mod Robust
+pub mod Scored
+pub mod Selecting
+pub mod Settling
 pub mod Thresholds
 pub mod WholeNumbers

@@ -1,2 +1,3 @@
 pub mod Prune
 pub mod RobustPrune
+pub mod Selecting
