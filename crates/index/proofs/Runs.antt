@@ -1,15 +1,12 @@
 -- Demand 3 over runs of the code: the proof of `History-of-runs`. Assumes nothing.
-use Prim.Native.Nat.{ℕ, _*_}
-use mathlib.Core.Bool.{Bool, true, false, not, _&&_, _||_}
+use Prim.Native.Nat.{ℕ}
+use mathlib.Core.Bool.{Bool, true, false, not}
 use mathlib.Core.Option.{Option, none, some}
 use mathlib.Core.Path.{_≡_, refl, sym, ap, ap₂, _∙_, subst}
 use mathlib.Core.List.{List, [], _∷_, map}
 use native.Mathlib.Omega.{arith}
-use borrow.Author.Tests.{eq-eqb, eqb-true}
-use lib.ListN.{length}
-use lib.Dec.{eqb}
 use Rattle.lists.specs.Lists.{times}
-use Rattle.slots.specs.Sizes.{Sizes, Lengths, limits, sizes-ok, alpha-ok, lengths-ok}
+use Rattle.slots.specs.Sizes.{Lengths, limits, sizes-ok, alpha-ok, lengths-ok}
 use Rattle.slots.specs.View.{View}
 use Rattle.slots.specs.Store.{Store, Shaped, store-view, store-ops}
 use Rattle.slots.proofs.Agree.{Agree, Sound}
@@ -18,44 +15,10 @@ use Rattle.index.specs.Refusals.{Test, first-of, making-tests, index-tes
 use Rattle.index.specs.Step.{State, stored, plain, made, perform, refusal, settle, step}
 use Rattle.index.specs.History.{Seen, seen, log-after, Within, trace}
 use Rattle.index.specs.Runs.{Run, lengths-of, call-of, Value, value-of, Lends, the-index, other-slices, a-new-one, run-refusal, Meets, after-run, next, Chain, observed, History-of-runs}
-use Rattle.index.proofs.Tests.{and-both}
+use Rattle.index.proofs.Tests.{exact, passed-lengths}
 use Rattle.index.proofs.History.{Same, Both, step-both, same-seen, made-both, made-step}
 
 -- ---- slices of other lengths are refused
-
--- lengths that pass are those of the sizes
-exact : Sizes → Lengths
-exact z = record {
-  vectors = z .capacity * z .dim;
-  targets = z .capacity * z .degree;
-  edge-versions = z .capacity * z .degree;
-  versions = z .capacity;
-  marks = z .capacity;
-  pool = limits .pool;
-}
-
-passed-lengths : (z : Sizes) (n : Lengths) → lengths-ok limits z n ≡ true → n ≡ exact z
-unfolding lengths-ok exact
-passed-lengths z n e =
-    let v = eqb (n .vectors) (z .capacity * z .dim) in
-    let t = eqb (n .targets) (z .capacity * z .degree) in
-    let g = eqb (n .edge-versions) (z .capacity * z .degree) in
-    let r = eqb (n .versions) (z .capacity) in
-    let m = eqb (n .marks) (z .capacity) in
-    let q = eqb (n .pool) (limits .pool) in
-    let a₁ = and-both (v && t && g && r && m) q e in
-    let a₂ = and-both (v && t && g && r) m (a₁ .0) in
-    let a₃ = and-both (v && t && g) r (a₂ .0) in
-    let a₄ = and-both (v && t) g (a₃ .0) in
-    let a₅ = and-both v t (a₄ .0) in
-    λ i. record {
-      vectors = eqb-true (n .vectors) (z .capacity * z .dim) (a₅ .0) i;
-      targets = eqb-true (n .targets) (z .capacity * z .degree) (a₅ .1) i;
-      edge-versions = eqb-true (n .edge-versions) (z .capacity * z .degree) (a₄ .1) i;
-      versions = eqb-true (n .versions) (z .capacity) (a₃ .1) i;
-      marks = eqb-true (n .marks) (z .capacity) (a₂ .1) i;
-      pool = eqb-true (n .pool) (limits .pool) (a₁ .1) i;
-    }
 
 -- a reached index has slices of exactly its lengths
 own-lengths : (log : List ℕ) (w : State Store) (p : State View) → Same log w p → lengths-of w ≡ exact (store-view (w .graph) .sizes)

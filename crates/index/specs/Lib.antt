@@ -1,6 +1,10 @@
 pub mod Calls
 pub mod Refusals
 pub mod Step
+pub mod Index
+pub mod Deciding
 pub mod History
 pub mod Runs
+pub mod Create
+pub mod Read
 pub mod Table

@@ -1,0 +1,256 @@
+-- The tests that calls share: what the code finds is what the table says, and what follows. Assumes nothing.
+use Prim.Native.Nat.{ℕ, _*_, _^_, _≤_, _<_}
+use mathlib.Core.Bool.{Bool, true, false, not, _&&_, _||_}
+use mathlib.Core.Path.{_≡_, refl, sym, ap, _∙_, subst⁻¹}
+use mathlib.Core.List.{List, [], _∷_}
+use mathlib.Core.Option.{Option, none, some}
+use native.Mathlib.Nat.{le-of-lt, lt-of-le-of-lt, mul-le-mul-left, mul-lt-mul-of-pos-right}
+use native.Mathlib.Omega.{arith}
+use borrow.Author.Tests.{leb-true, ltb-true, ltb-false, eqb-true, not-true, not-false, lt-leb, le-leb}
+use lib.Pow.{pow-pos, pow-add}
+use lib.Ieee.{Float}
+use lib.ListN.{length}
+use lib.Dec.{eqb, ltb, leb}
+use Rattle.candidates.specs.Quotient.{f32}
+use Rattle.lists.specs.Lists.{filter, range}
+use Rattle.slots.specs.Sizes.{Sizes, Lengths, limits, within, sizes-ok, alpha-ok, lengths-ok}
+use Rattle.vectors.specs.Vector.{Bytes}
+use Rattle.slots.specs.Store.{Store, is-valid, store-view, store-ops}
+use Rattle.slots.specs.Rows.{arrays, RowShape}
+use Rattle.slots.proofs.Places.{rows-shaped}
+use Rattle.index.specs.declared.Index.{Index}
+use Rattle.index.specs.declared.Words.the-variants.{Refused, Words as words}
+use Rattle.index.specs.Calls.{Call, refused-as}
+use Rattle.index.specs.Refusals.{Test, first-of, or-zero, index-tests, tests, guard-fault}
+use Rattle.index.specs.Step.{State, view-of, stored, perform, refusal, settle, step}
+use Rattle.index.specs.Runs.{lengths-of}
+use Rattle.index.specs.Index.{size-answer, sizes, lengths, guard-of, state-of}
+use Rattle.index.specs.Deciding.{words-for, Decided, Passed}
+use Rattle.index.proofs.Tests.{and-both, or-neither, exact, passed-lengths}
+
+-- ---- numbers
+
+pub ltb-leb : (a b : ℕ) → ltb a b ≡ not (leb b a)
+ltb-leb a b = go (ltb a b) refl
+  where
+    go : (q : Bool) → ltb a b ≡ q → ltb a b ≡ not (leb b a)
+    go true e = e ∙ sym (ap not (lt-leb b a (ltb-true a b e)))
+    go false e = e ∙ sym (ap not (le-leb b a (ltb-false a b e)))
+
+-- the product of two numbers of 32 bits has 64
+pub product-fits : {a b : ℕ} → a < 2 ^ 32 → b < 2 ^ 32 → a * b < 2 ^ 64
+product-fits {a} {b} ha hb =
+    subst⁻¹ (λ (n : ℕ). a * b < n) (pow-add 2 32 32) (lt-of-le-of-lt (mul-le-mul-left a (le-of-lt hb)) (mul-lt-mul-of-pos-right ha (pow-pos 32)))
+
+-- ---- sizes
+
+pub record Ranges (z : Sizes) : Type 0 where
+  pub dim-low : 1 ≤ z .dim
+  pub dim-high : z .dim ≤ 256
+  pub capacity-low : 1 ≤ z .capacity
+  pub capacity-high : z .capacity ≤ 65536
+  pub degree-low : 1 ≤ z .degree
+  pub degree-high : z .degree ≤ 64
+
+between : (high n : ℕ) → within 1 high n ≡ true → (1 ≤ n) × (n ≤ high)
+between high n e = let b = and-both (leb 1 n) (leb n high) e in (leb-true 1 n (b .0), leb-true n high (b .1))
+
+pub ranges : (z : Sizes) → sizes-ok limits z ≡ true → Ranges z
+unfolding sizes-ok limits
+ranges z e =
+    let p = and-both (within 1 256 (z .dim) && within 1 65536 (z .capacity)) (within 1 64 (z .degree)) e in
+    let q = and-both (within 1 256 (z .dim)) (within 1 65536 (z .capacity)) (p .0) in
+    let d = between 256 (z .dim) (q .0) in
+    let c = between 65536 (z .capacity) (q .1) in
+    let g = between 64 (z .degree) (p .1) in
+    record { dim-low = d .0; dim-high = d .1; capacity-low = c .0; capacity-high = c .1; degree-low = g .0; degree-high = g .1 }
+
+-- the size answer of accepted sizes is no more than document 01 allows, and not 0
+pub words-bound : (z : Sizes) → sizes-ok limits z ≡ true → (0 < size-answer (z .dim) (z .capacity) (z .degree)) × (size-answer (z .dim) (z .capacity) (z .degree) ≤ 8388608)
+unfolding size-answer
+words-bound z e = let r = ranges z e in (omega arith, omega arith)
+
+-- what `sizes_bad` finds: the size answer is given, or 1
+module _ (dim capacity degree : ℕ) {r : Bool} (e : (alpha : Float) → r ≡ not (sizes-ok limits (sizes dim capacity degree alpha))) where
+  pub words-refused : r ≡ true → (alpha : Float) → Refused 1 ≡ words-for (sizes dim capacity degree alpha)
+  unfolding words-for
+  words-refused t alpha = rw (not-true (sizes-ok limits (sizes dim capacity degree alpha)) (sym (e alpha) ∙ t))
+
+  pub words-given : r ≡ false → (alpha : Float) → words (size-answer dim capacity degree) ≡ words-for (sizes dim capacity degree alpha)
+  unfolding words-for
+  words-given t alpha = rw (not-false (sizes-ok limits (sizes dim capacity degree alpha)) (sym (e alpha) ∙ t))
+
+  pub sized : r ≡ false → Ranges (sizes dim capacity degree (f32 1))
+  sized t = ranges (sizes dim capacity degree (f32 1)) (not-false _ (sym (e (f32 1)) ∙ t))
+
+-- ---- the shared tests, one after the other
+
+-- the four tests of an index; the last one over n marks
+abbrev size : Index → Sizes
+size index = sizes (index .dim) (index .capacity) (index .degree) (index .alpha)
+
+abbrev bad₁ : Index → Bool
+bad₁ index = not (sizes-ok limits (size index))
+
+abbrev bad₂ : Index → Bool
+bad₂ index = not (alpha-ok (index .alpha))
+
+abbrev bad₃ : Index → Lengths → Bool
+bad₃ index n = not (lengths-ok limits (size index) n)
+
+abbrev bad₆ : Index → List ℕ → ℕ → Bool
+bad₆ index marks n =
+    not (eqb (index .live) (length (filter (is-valid marks) (range 0 n)))) || not (ltb (index .entry) (index .capacity)) || guard-fault (guard-of (index .guard))
+
+-- where the lengths are right, there are as many marks as slots
+marked : (index : Index) (vectors targets edges versions : ℕ) (marks : List ℕ) (pool : ℕ) {r₆ : Bool}
+    → bad₃ index (lengths vectors targets edges versions (length marks) pool) ≡ false → r₆ ≡ bad₆ index marks (length marks) → r₆ ≡ bad₆ index marks (index .capacity)
+unfolding exact
+marked index vectors targets edges versions marks pool h sound =
+    let n = lengths vectors targets edges versions (length marks) pool in
+    let m : length marks ≡ index .capacity = ap (λ l. l .marks) (passed-lengths (size index) n (not-false (lengths-ok limits (size index) n) h)) in
+    rw m at sound
+
+module _ {index : Index} {vectors targets edges versions : ℕ} {marks : List ℕ} {pool : ℕ} {wrong r₁ : Bool}
+    (sized : (alpha : Float) → r₁ ≡ not (sizes-ok limits (sizes (index .dim) (index .capacity) (index .degree) alpha))) where
+  pub decided-sizes : r₁ ≡ true → Decided index vectors targets edges versions marks pool wrong 1
+  unfolding index-tests store-view state-of
+  decided-sizes t₁ = record { does = λ vs ts es ns ps. rw (sym (sized (index .alpha)) ∙ t₁) }
+
+  module _ {r₂ : Bool} (t₁ : r₁ ≡ false) (grown : r₂ ≡ not (alpha-ok (index .alpha))) where
+    pub decided-alpha : r₂ ≡ true → Decided index vectors targets edges versions marks pool wrong 2
+    unfolding index-tests store-view state-of
+    decided-alpha t₂ = record { does = λ vs ts es ns ps. rw (sym (sized (index .alpha)) ∙ t₁, sym grown ∙ t₂) }
+
+    module _ {r₃ : Bool} (t₂ : r₂ ≡ false) (long : (alpha : Float) → r₃ ≡ not (lengths-ok limits (sizes (index .dim) (index .capacity) (index .degree) alpha) (lengths vectors targets edges versions (length marks) pool))) where
+      pub decided-lengths : r₃ ≡ true → Decided index vectors targets edges versions marks pool wrong 3
+      unfolding index-tests store-view state-of
+      decided-lengths t₃ = record { does = λ vs ts es ns ps. rw (sym (sized (index .alpha)) ∙ t₁, sym grown ∙ t₂, sym (long (index .alpha)) ∙ t₃) }
+
+      module _ (t₃ : r₃ ≡ false) where
+        pub decided-wrong : wrong ≡ true → Decided index vectors targets edges versions marks pool wrong 3
+        unfolding index-tests store-view state-of
+        decided-wrong t = record { does = λ vs ts es ns ps. rw (sym (sized (index .alpha)) ∙ t₁, sym grown ∙ t₂, sym (long (index .alpha)) ∙ t₃, t) }
+
+        module _ {r₆ : Bool} (t : wrong ≡ false) (sound : r₆ ≡ bad₆ index marks (length marks)) where
+          pub decided-index : r₆ ≡ true → Decided index vectors targets edges versions marks pool wrong 6
+          unfolding index-tests store-view state-of
+          decided-index t₆ = record { does = λ vs ts es ns ps. rw (sym (sized (index .alpha)) ∙ t₁, sym grown ∙ t₂, sym (long (index .alpha)) ∙ t₃, t, sym (marked index vectors targets edges versions marks pool (sym (long (index .alpha)) ∙ t₃) sound) ∙ t₆) }
+
+          pub decided-none : r₆ ≡ false → Decided index vectors targets edges versions marks pool wrong 0
+          unfolding index-tests store-view state-of
+          decided-none t₆ = record { does = λ vs ts es ns ps. rw (sym (sized (index .alpha)) ∙ t₁, sym grown ∙ t₂, sym (long (index .alpha)) ∙ t₃, t, sym (marked index vectors targets edges versions marks pool (sym (long (index .alpha)) ∙ t₃) sound) ∙ t₆) }
+
+-- ---- what the number says
+
+pub first-number : (o : Option ℕ) (r : ℕ) → r ≡ or-zero o → (r ≡ 0 → ⊥) → o ≡ some r
+first-number none r e n = absurd (n e)
+first-number (some k) r e n = ap some (sym e)
+
+-- none of the four holds
+record Four (q₁ q₂ q₃ q₆ : Bool) : Type 0 where
+  pub one : q₁ ≡ false
+  pub two : q₂ ≡ false
+  pub three : q₃ ≡ false
+  pub six : q₆ ≡ false
+
+abbrev four : Bool → Bool → Bool → Bool → List Test → List Test
+four q₁ q₂ q₃ q₆ rest = (1, q₁) ∷ (2, q₂) ∷ (3, q₃) ∷ (6, q₆) ∷ rest
+
+none-of : (q₁ q₂ q₃ q₆ : Bool) → or-zero (first-of (four q₁ q₂ q₃ q₆ [])) ≡ 0 → Four q₁ q₂ q₃ q₆
+none-of true q₂ q₃ q₆ e = absurd (omega (arith, e))
+none-of false true q₃ q₆ e = absurd (omega (arith, e))
+none-of false false true q₆ e = absurd (omega (arith, e))
+none-of false false false true e = absurd (omega (arith, e))
+none-of false false false false e = record { one = refl; two = refl; three = refl; six = refl }
+
+some-of : (q₁ q₂ q₃ q₆ : Bool) (rest : List Test) (r : ℕ) → r ≡ or-zero (first-of (four q₁ q₂ q₃ q₆ [])) → (r ≡ 0 → ⊥) → first-of (four q₁ q₂ q₃ q₆ rest) ≡ some r
+some-of true q₂ q₃ q₆ rest r e n = ap some (sym e)
+some-of false true q₃ q₆ rest r e n = ap some (sym e)
+some-of false false true q₆ rest r e n = ap some (sym e)
+some-of false false false true rest r e n = ap some (sym e)
+some-of false false false false rest r e n = absurd (n e)
+
+module _ (index : Index) (vectors targets edges versions marks pool : List ℕ) {wrong : Bool} {r : ℕ}
+    (d : Decided index (length vectors) (length targets) (length edges) (length versions) marks (length pool) wrong r) where
+  abbrev lent : Lengths
+  lent = lengths (length vectors) (length targets) (length edges) (length versions) (length marks) (length pool)
+
+  found : r ≡ or-zero (first-of (four (bad₁ index) (bad₂ index) (bad₃ index lent || wrong) (bad₆ index marks (index .capacity)) []))
+  unfolding index-tests store-view state-of
+  found = d .does vectors targets edges versions pool
+
+  none-found : r ≡ 0 → Four (bad₁ index) (bad₂ index) (bad₃ index lent || wrong) (bad₆ index marks (index .capacity))
+  none-found z = none-of _ _ _ _ (sym found ∙ z)
+
+  -- a number that is not 0 is the number given, whatever tests come after the shared ones
+  pub turned-back : (r ≡ 0 → ⊥) → (rest : List Test)
+      → let w = state-of index vectors targets edges versions marks pool in first-of (index-tests size-answer (lengths-of w) (view-of stored w) (w .live) (w .guard) wrong rest) ≡ some r
+  unfolding index-tests stored store-ops store-view lengths-of state-of
+  turned-back n rest =
+      some-of (bad₁ index) (bad₂ index) (bad₃ index lent || wrong) (bad₆ index marks (index .capacity)) rest r found n
+
+  -- 0 leaves it to the tests that come after the shared ones
+  pub let-through : r ≡ 0 → (rest : List Test)
+      → let w = state-of index vectors targets edges versions marks pool in first-of (index-tests size-answer (lengths-of w) (view-of stored w) (w .live) (w .guard) wrong rest) ≡ first-of rest
+  unfolding index-tests stored store-ops store-view lengths-of state-of
+  let-through z rest = let f = none-found z in rw (f .one, f .two, f .three, f .six)
+
+  pub not-wrong : r ≡ 0 → wrong ≡ false
+  not-wrong z = or-neither (bad₃ index lent) wrong (none-found z .three) .1
+
+  -- and says all that a call may rest on
+  pub passed : r ≡ 0 → Passed index vectors targets edges versions marks pool
+  unfolding exact store-view state-of
+  passed z =
+      let f = none-found z in
+      let m = size index in
+      let sized = not-false (sizes-ok limits m) (f .one) in
+      let s = ranges m sized in
+      let l = passed-lengths m lent (not-false (lengths-ok limits m lent) (or-neither (bad₃ index lent) wrong (f .three) .0)) in
+      let e = eqb (index .live) (length (filter (is-valid marks) (range 0 (index .capacity)))) in
+      let i = ltb (index .entry) (index .capacity) in
+      let o = or-neither (not e || not i) (guard-fault (guard-of (index .guard))) (f .six) in
+      let p = or-neither (not e) (not i) (o .0) in
+      record {
+        shaped = record {
+          vectors-long = ap (λ x. x .vectors) l;
+          targets-long = ap (λ x. x .targets) l;
+          edges-long = ap (λ x. x .edge-versions) l;
+          versions-long = ap (λ x. x .versions) l;
+          marks-long = ap (λ x. x .marks) l;
+        };
+        pool-long = ap (λ x. x .pool) l;
+        dim-low = s .dim-low;
+        dim-high = s .dim-high;
+        capacity-low = s .capacity-low;
+        capacity-high = s .capacity-high;
+        degree-low = s .degree-low;
+        degree-high = s .degree-high;
+        sizes-right = sized;
+        alpha-right = not-false (alpha-ok (index .alpha)) (f .two);
+        entry-inside = ltb-true (index .entry) (index .capacity) (not-false i (p .1));
+        live-right = eqb-true (index .live) _ (not-false e (p .0));
+        guard-right = o .1;
+      }
+
+-- what the functions on rows and on vectors ask
+pub passed-rows : {index : Index} {vectors targets edges versions marks pool : List ℕ} → Passed index vectors targets edges versions marks pool
+    → RowShape (index .degree) targets edges versions marks
+passed-rows {index} {vectors} {targets} {edges} {versions} {marks} p =
+    rows-shaped (index .capacity) (arrays (index .dim) (index .degree) vectors targets edges versions marks) (p .shaped) (p .capacity-high)
+
+pub passed-bytes : {index : Index} {vectors targets edges versions marks pool : List ℕ} → Passed index vectors targets edges versions marks pool
+    → Bytes (index .dim) (length marks) vectors
+passed-bytes p = record { long = rw (p .shaped .marks-long) (p .shaped .vectors-long); small = p .dim-high }
+
+-- ---- one call, turned back or not
+
+module _ (w : State Store) (c : Call) where
+  pub step-back : (n : ℕ) → first-of (tests size-answer (c .lent) (view-of stored w) (w .live) (w .guard) (c .operation)) ≡ some n → step size-answer stored w c ≡ (w, refused-as n (c .operation))
+  unfolding step refusal settle
+  step-back n e = ap (settle size-answer stored w c) e
+
+  pub step-on : first-of (tests size-answer (c .lent) (view-of stored w) (w .live) (w .guard) (c .operation)) ≡ none → step size-answer stored w c ≡ perform stored w (c .operation)
+  unfolding step refusal settle
+  step-on e = ap (settle size-answer stored w c) e

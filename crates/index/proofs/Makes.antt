@@ -1,0 +1,204 @@
+-- Making an index: what the code finds is what the table says, and what it leaves is what making makes. Assumes nothing.
+use Prim.Native.Nat.{ℕ, zero, suc, _+_, _-_, _*_, _≤_, _<_}
+use mathlib.Core.Bool.{Bool, true, false, not, _&&_, _||_, cond}
+use mathlib.Core.Path.{_≡_, refl, sym, ap, _∙_, subst}
+use mathlib.Core.List.{List, [], _∷_}
+use mathlib.Core.Option.{some}
+use native.Mathlib.Numerals.{add-one}
+use native.Mathlib.Omega.{arith}
+use borrow.Author.Tests.{eq-eqb, ne-eqb, lt-ltb, le-ltb, ltb-true, ltb-false, not-true, not-false}
+use lib.Ieee.{Float}
+use lib.ListN.{length, drop, getD, drop-of-length-le}
+use lib.Seq.{drop-cons}
+use lib.Dec.{eqb, ltb}
+use Rattle.lists.specs.Lists.{filter, range}
+use Rattle.slots.specs.View.{live-slots}
+use Rattle.slots.specs.Store.{blank, store-view, store-ops}
+use Rattle.slots.specs.Plain.{new-plain}
+use Rattle.slots.specs.Making.{Room, New}
+use Rattle.slots.proofs.New.{Accepted, agree-new}
+use Rattle.index.specs.declared.Index.{Index}
+use Rattle.index.specs.declared.Guard.the-variants.{Off}
+use Rattle.index.specs.declared.Created.{Created}
+use Rattle.index.specs.declared.Created.the-variants.{Refused, Done}
+use Rattle.slots.specs.Sizes.{limits, sizes-ok, alpha-ok, lengths-ok}
+use Rattle.index.specs.Calls.{Making}
+use Rattle.index.specs.Refusals.{first-of, or-zero, names-given, entry-given, making-tests}
+use Rattle.index.specs.Index.{sizes, lengths, guard-of, state-of}
+use Rattle.index.specs.Step.{stored, with-graph, made}
+use Rattle.index.specs.Create.{making, fresh-index, making-of, Judged, Creates}
+use Rattle.index.proofs.Decide.{first-number}
+use Rattle.index.proofs.Tests.{exact, none-judged, lengths-made, accepted}
+
+-- ---- row 5, one word a turn
+
+-- what is left of the words decides
+pub record Naming (count : ℕ) (rows : List ℕ) (i : ℕ) : Type 0 where
+  pub left : names-given count (drop i rows) ≡ names-given count rows
+
+pub naming-none : (count : ℕ) (rows : List ℕ) → Naming count rows 0
+naming-none count rows = record { left = refl }
+
+module _ {count : ℕ} {rows : List ℕ} {i : ℕ} (h : i < length rows) (k : Naming count rows i) where
+  step : ((eqb (getD rows i 0) blank || ltb (getD rows i 0) count) && names-given count (drop (i + 1) rows)) ≡ names-given count rows
+  step = (let e : drop i rows ≡ getD rows i 0 ∷ drop (i + 1) rows = rw (add-one i) (drop-cons rows i 0 h) in ap (names-given count) (sym e)) ∙ k .left
+
+  pub naming-blank : getD rows i 0 ≡ blank → Naming count rows (i + 1)
+  naming-blank e = record { left = rw (eq-eqb (getD rows i 0) blank e) at step }
+
+  pub naming-given : (getD rows i 0 ≡ blank → ⊥) → getD rows i 0 < count → Naming count rows (i + 1)
+  naming-given n l = record { left = rw (ne-eqb (getD rows i 0) blank n, lt-ltb (getD rows i 0) count l) at step }
+
+  pub naming-bad : (getD rows i 0 ≡ blank → ⊥) → count ≤ getD rows i 0 → true ≡ not (names-given count rows)
+  naming-bad n l = ap not (rw (ne-eqb (getD rows i 0) blank n, le-ltb (getD rows i 0) count l) at step)
+
+pub naming-done : {count : ℕ} {rows : List ℕ} {i : ℕ} → length rows ≤ i → Naming count rows i → false ≡ not (names-given count rows)
+naming-done {count} {rows} {i} h k = ap not (rw (drop-of-length-le rows h) at (k .left))
+
+-- ---- the entry
+
+pub entry-taken : {entry count : ℕ} → entry < count → false ≡ not (entry-given count entry)
+entry-taken {entry} {count} h = rw (lt-ltb entry count h)
+
+pub entry-none : {entry count : ℕ} → count ≤ entry → count ≡ 0 → not (eqb entry 0) ≡ not (entry-given count entry)
+entry-none {entry} {count} h z = rw (le-ltb entry count h, eq-eqb count 0 z)
+
+pub entry-left : {entry count : ℕ} → count ≤ entry → (count ≡ 0 → ⊥) → true ≡ not (entry-given count entry)
+entry-left {entry} {count} h z = rw (le-ltb entry count h, ne-eqb count 0 z)
+
+-- ---- the tests, one after the other
+
+module _ {m : Making} {vectors targets edges versions marks pool : ℕ} {r₁ : Bool}
+    (sized : (alpha : Float) → r₁ ≡ not (sizes-ok limits (sizes (m .sizes .dim) (m .sizes .capacity) (m .sizes .degree) alpha))) where
+  pub judged-sizes : r₁ ≡ true → Judged m vectors targets edges versions marks pool 1
+  unfolding making-tests
+  judged-sizes t₁ = record { does = rw (sym (sized (m .sizes .alpha)) ∙ t₁) }
+
+  module _ {r₂ : Bool} (t₁ : r₁ ≡ false) (grown : r₂ ≡ not (alpha-ok (m .sizes .alpha))) where
+    pub judged-alpha : r₂ ≡ true → Judged m vectors targets edges versions marks pool 2
+    unfolding making-tests
+    judged-alpha t₂ = record { does = rw (sym (sized (m .sizes .alpha)) ∙ t₁, sym grown ∙ t₂) }
+
+    module _ {r₃ : Bool} (t₂ : r₂ ≡ false)
+        (long : (alpha : Float) → r₃ ≡ not (lengths-ok limits (sizes (m .sizes .dim) (m .sizes .capacity) (m .sizes .degree) alpha) (lengths vectors targets edges versions marks pool))) where
+      pub judged-lengths : r₃ ≡ true → Judged m vectors targets edges versions marks pool 3
+      unfolding making-tests
+      judged-lengths t₃ =
+          let q = lengths-ok limits (m .sizes) (lengths vectors targets edges versions marks pool) in
+          record { does = rw (sym (sized (m .sizes .alpha)) ∙ t₁, sym grown ∙ t₂, not-true q (sym (long (m .sizes .alpha)) ∙ t₃)) }
+
+      module _ {r₄ : Bool} (t₃ : r₃ ≡ false) (given : r₄ ≡ not (eqb (length (m .vectors)) (m .given * m .sizes .dim) && eqb (length (m .rows)) (m .given * m .sizes .degree))) where
+        pub judged-given : r₄ ≡ true → Judged m vectors targets edges versions marks pool 3
+        unfolding making-tests
+        judged-given t₄ =
+            let q = lengths-ok limits (m .sizes) (lengths vectors targets edges versions marks pool) in
+            record { does = rw (sym (sized (m .sizes .alpha)) ∙ t₁, sym grown ∙ t₂, not-false q (sym (long (m .sizes .alpha)) ∙ t₃), sym given ∙ t₄) }
+
+        pub judged-rest : {r : ℕ} → r₄ ≡ false
+            → r ≡ or-zero (first-of ((4, ltb (m .sizes .capacity) (m .given)) ∷ (5, not (names-given (m .given) (m .rows) && entry-given (m .given) (m .entry))) ∷ []))
+            → Judged m vectors targets edges versions marks pool r
+        unfolding making-tests
+        judged-rest t₄ e =
+            let q = lengths-ok limits (m .sizes) (lengths vectors targets edges versions marks pool) in
+            record { does = rw (sym (sized (m .sizes .alpha)) ∙ t₁, sym grown ∙ t₂, not-false q (sym (long (m .sizes .alpha)) ∙ t₃), sym given ∙ t₄) e }
+
+-- ---- the live slots of a new index are those given
+
+none-above : (given a n : ℕ) → given ≤ a → length (filter (λ s. ltb s given) (range a n)) ≡ 0
+none-above given a zero h = refl
+none-above given a (suc n) h = rw (le-ltb a given h) (none-above given (suc a) n (omega arith))
+
+all-below : (given a n : ℕ) → a ≤ given → given ≤ a + n → a + length (filter (λ s. ltb s given) (range a n)) ≡ given
+all-below given a zero h k = omega arith
+all-below given a (suc n) h k = go (ltb a given) refl (λ l. all-below given (suc a) n l (omega arith))
+  where
+    rest : List ℕ
+    rest = filter (λ s. ltb s given) (range (suc a) n)
+
+    go : (q : Bool) → ltb a given ≡ q → (a < given → suc a + length rest ≡ given) → a + length (cond q (a ∷ rest) rest) ≡ given
+    go true e ih = omega (arith, ih (ltb-true a given e))
+    go false e ih = omega (arith, none-above given (suc a) n (omega (arith, ltb-false a given e)), ltb-false a given e)
+
+live-given : (m : Making) → Accepted (m .sizes) (m .given) (m .vectors) (m .rows) (m .entry) → length (live-slots (store-view (stored .new m))) ≡ m .given
+unfolding stored new-plain
+live-given m ok =
+    ap (λ v. length (live-slots v)) (agree-new (m .sizes) (m .given) (m .vectors) (m .rows) (m .entry) ok .same)
+    ∙ omega (arith, all-below (m .given) 0 (m .sizes .capacity) (omega arith) (omega (arith, ok .room)))
+
+-- what is written, with the new index by value, is what making makes
+made-new : {index : Index} {bytes rows vectors targets edges versions marks pool : List ℕ} → index .guard ≡ Off
+    → Accepted (sizes (index .dim) (index .capacity) (index .degree) (index .alpha)) (index .live) bytes rows (index .entry)
+    → New (index .dim) (index .capacity) (index .degree) (index .live) bytes rows vectors targets edges versions marks pool
+    → state-of index vectors targets edges versions marks pool ≡ made stored (making-of index bytes rows)
+unfolding state-of made with-graph stored store-ops guard-of
+made-new {index} {bytes} {rows} g ok w = λ i. record {
+  graph = record { arrays = w .does (index .alpha) i; capacity = index .capacity; alpha = index .alpha; entry = index .entry };
+  live = sym (live-given (making-of index bytes rows) ok) i;
+  guard = ap guard-of g i;
+  words = w .pool-empty i;
+}
+
+-- ---- what the number says
+
+module _ {m : Making} {vectors targets edges versions marks pool : List ℕ} {r : ℕ}
+    (j : Judged m (length vectors) (length targets) (length edges) (length versions) (length marks) (length pool) r) where
+  -- a making that is turned back
+  pub creates-back : (r ≡ 0 → ⊥) → Creates m vectors targets edges versions marks pool vectors targets edges versions marks pool (Refused r)
+  creates-back n = record {
+    back = λ k e. record {
+      number = first-number _ r (j .does) n ∙ ap some (let q : r ≡ k = cc in q);
+      vectors-kept = refl;
+      targets-kept = refl;
+      edges-kept = refl;
+      versions-kept = refl;
+      marks-kept = refl;
+      pool-kept = refl;
+    };
+    done = λ i e. absurd (let z : _≡_ {A = ℕ} 0 1 = cc in omega arith);
+  }
+
+  -- one that is not has the room for what it writes
+  pub creates-room : r ≡ 0 → Room (m .sizes .dim) (m .sizes .capacity) (m .sizes .degree) (m .given) (m .vectors) (m .rows) vectors targets edges versions marks pool
+  unfolding exact
+  creates-room z =
+      let h = none-judged _ m (sym (j .does) ∙ z) in
+      let ok = accepted _ m h in
+      let l = lengths-made _ m h in
+      record {
+        room = ok .room;
+        bytes-long = ok .vectors-long;
+        rows-long = ok .rows-long;
+        vectors-long = ap (λ x. x .vectors) l;
+        targets-long = ap (λ x. x .targets) l;
+        edges-long = ap (λ x. x .edge-versions) l;
+        versions-long = ap (λ x. x .versions) l;
+        marks-long = ap (λ x. x .marks) l;
+        pool-long = ap (λ x. x .pool) l;
+      }
+
+-- and what it writes is the new index
+pub creates-done : {index : Index} {bytes rows vectors targets edges versions marks pool vectors′ targets′ edges′ versions′ marks′ pool′ : List ℕ} {r : ℕ} {v : Created}
+    → Judged (making-of index bytes rows) (length vectors) (length targets) (length edges) (length versions) (length marks) (length pool) r → r ≡ 0 → index .guard ≡ Off
+    → (v ≡ Done index) × New (index .dim) (index .capacity) (index .degree) (index .live) bytes rows vectors′ targets′ edges′ versions′ marks′ pool′
+    → Creates (making-of index bytes rows) vectors targets edges versions marks pool vectors′ targets′ edges′ versions′ marks′ pool′ v
+creates-done {index} {bytes} {rows} {vectors′ = vectors′} {targets′ = targets′} {edges′ = edges′} {versions′ = versions′} {marks′ = marks′} {pool′ = pool′} j z g w =
+    let m = making-of index bytes rows in
+    let h = none-judged _ m (sym (j .does) ∙ z) in
+    let e = w .0 in
+    record {
+      back = λ n q. absurd (let z : _≡_ {A = ℕ} 0 1 = cc in omega arith);
+      done = λ i q.
+          let k : i ≡ index = cc in
+          record { accepted = h; new = ap (λ k. state-of k vectors′ targets′ edges′ versions′ marks′ pool′) k ∙ made-new g (accepted _ m h) (w .1) };
+    }
+
+-- the new index by value
+module _ {dim capacity degree : ℕ} {alpha : Float} {entry count : ℕ} {index : Index} (e : index ≡ fresh-index dim capacity degree alpha entry count) where
+  pub fresh-off : index .guard ≡ Off
+  fresh-off = ap (λ i. i .guard) e
+
+  pub creates-fresh : {bytes rows vectors targets edges versions marks pool vectors′ targets′ edges′ versions′ marks′ pool′ : List ℕ} {v : Created}
+      → Creates (making-of index bytes rows) vectors targets edges versions marks pool vectors′ targets′ edges′ versions′ marks′ pool′ v
+      → Creates (making dim capacity degree alpha entry count bytes rows) vectors targets edges versions marks pool vectors′ targets′ edges′ versions′ marks′ pool′ v
+  creates-fresh {bytes} {rows} {vectors} {targets} {edges} {versions} {marks} {pool} {vectors′} {targets′} {edges′} {versions′} {marks′} {pool′} {v} c =
+      subst (λ i. Creates (making-of i bytes rows) vectors targets edges versions marks pool vectors′ targets′ edges′ versions′ marks′ pool′ v) e c

@@ -1,0 +1,45 @@
+use mathlib.Core.Path.{refl}
+use Rattle.index.proofs.Decide.{passed, passed-bytes}
+use Rattle.index.proofs.Shown.{vector-back, vector-on}
+use borrow.Author.Needs.{needs}
+use Rattle.index.proofs.readings.read_vector.Statement.{statement}
+use Rattle.index.proofs.readings.read_vector.Tie as tie
+
+index-refusal-requires : tie.Need-index-refusal-requires
+index-refusal-requires c κs = search needs
+
+sub-result : tie.Need-sub-result
+sub-result c = search needs
+
+part-result-start : tie.Need-part-result-start
+part-result-start c = search needs
+
+part-result-end : tie.Need-part-result-end
+part-result-end c = search needs
+
+returns : tie.Need-returns
+returns c = vector-back (c .before .before .index-refusal .ensures) (c .before .if1 .taken) refl
+
+cast-dim : tie.Need-cast-dim
+cast-dim c = search needs
+
+live-vector-requires : tie.Need-live-vector-requires
+live-vector-requires c κs =
+    let a = c .before .before .before .before .before .before .before .before .before .args in
+    passed-bytes (passed (a .index) (a .vectors .now) (a .targets .now) (a .edges .now) (a .versions .now) (a .marks .now) (a .pool .now) (c .before .before .index-refusal .ensures) (c .before .if1 .left))
+
+returns-2 : tie.Need-returns-2
+returns-2 c = vector-on (c .before .before .before .index-refusal .ensures) (c .before .before .if1 .left) (c .live-vector .ensures)
+
+pub read-vector-spec : {M : Type 1} → statement M
+read-vector-spec =
+    tie.close
+    (tie.spec
+    index-refusal-requires
+    sub-result
+    part-result-start
+    part-result-end
+    returns
+    cast-dim
+    live-vector-requires
+    returns-2)

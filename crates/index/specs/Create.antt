@@ -1,0 +1,95 @@
+-- What a call of `create` leaves and answers. Assumes nothing.
+use Prim.Native.Nat.{ℕ}
+use mathlib.Core.List.{List}
+use mathlib.Core.Option.{none, some}
+use mathlib.Core.Path.{_≡_}
+use lib.Ieee.{Float}
+use lib.ListN.{length}
+use Rattle.slots.specs.Sizes.{Lengths}
+use Rattle.slots.specs.Store.{Store}
+use Rattle.slots.specs.Rows.{arrays}
+use Rattle.index.specs.declared.Index.{Index}
+use Rattle.index.specs.declared.Guard.the-variants.{Off}
+use Rattle.index.specs.declared.Created.{Created}
+use Rattle.index.specs.declared.Created.the-variants.{Refused, Done}
+use Rattle.index.specs.Calls.{Making, Answer, create, refused, created}
+use Rattle.index.specs.Refusals.{first-of, or-zero, making-tests}
+use Rattle.index.specs.Step.{State, stored, made}
+use Rattle.index.specs.Runs.{Run}
+use Rattle.index.specs.Index.{sizes, lengths, state-of}
+
+-- what making is given, one by one
+abbrev pub making : ℕ → ℕ → ℕ → Float → ℕ → ℕ → List ℕ → List ℕ → Making
+making dim capacity degree alpha entry count bytes rows =
+    record { sizes = sizes dim capacity degree alpha; given = count; vectors = bytes; rows = rows; entry = entry }
+
+-- the new index by value
+abbrev pub fresh-index : ℕ → ℕ → ℕ → Float → ℕ → ℕ → Index
+fresh-index dim capacity degree alpha entry count =
+    record { dim = dim; capacity = capacity; degree = degree; alpha = alpha; entry = entry; live = count; guard = Off }
+
+-- what making is given for it
+abbrev pub making-of : Index → List ℕ → List ℕ → Making
+making-of i bytes rows = making (i .dim) (i .capacity) (i .degree) (i .alpha) (i .entry) (i .live) bytes rows
+
+-- r is the number of the first of making's tests that holds, 0 if none does
+pub record Judged (m : Making) (vectors targets edges versions marks pool : ℕ) (r : ℕ) : Type 0 where
+  pub does : r ≡ or-zero (first-of (making-tests (lengths vectors targets edges versions marks pool) m))
+
+-- the slices as they are lent, and, each with a prime, as they are left
+module _ (m : Making) (vectors targets edges versions marks pool vectors′ targets′ edges′ versions′ marks′ pool′ : List ℕ) where
+  abbrev lent : Lengths
+  lent = lengths (length vectors) (length targets) (length edges) (length versions) (length marks) (length pool)
+
+  -- a making that is turned back: its number, and slices as they were
+  pub record Turned-back (n : ℕ) : Type 0 where
+    pub number : first-of (making-tests lent m) ≡ some n
+    pub vectors-kept : vectors′ ≡ vectors
+    pub targets-kept : targets′ ≡ targets
+    pub edges-kept : edges′ ≡ edges
+    pub versions-kept : versions′ ≡ versions
+    pub marks-kept : marks′ ≡ marks
+    pub pool-kept : pool′ ≡ pool
+
+  -- one that is carried out: the new index with its slices is what making makes
+  pub record Carried-out (i : Index) : Type 0 where
+    pub accepted : first-of (making-tests lent m) ≡ none
+    pub new : state-of i vectors′ targets′ edges′ versions′ marks′ pool′ ≡ made stored m
+
+  -- what `create` promises
+  pub record Creates (r : Created) : Type 0 where
+    pub back : (n : ℕ) → r ≡ Refused n → Turned-back n
+    pub done : (i : Index) → r ≡ Done i → Carried-out i
+
+-- ---- a run of `create`, whatever index the app had before
+
+abbrev pub with-slices : State Store → List ℕ → List ℕ → List ℕ → List ℕ → List ℕ → List ℕ → State Store
+with-slices w vectors targets edges versions marks pool =
+    let b = w .graph in
+    record {
+      graph = record { arrays = arrays (b .arrays .dim) (b .arrays .degree) vectors targets edges versions marks; capacity = b .capacity; alpha = b .alpha; entry = b .entry };
+      live = w .live;
+      guard = w .guard;
+      words = pool;
+    }
+
+unfoldable pub created-as : Created → Answer
+created-as (Refused n) = refused n
+created-as (Done i) = created
+
+-- the index that the app has: the one that it had, or the new one
+unfoldable pub left-by : Created → State Store → List ℕ → List ℕ → List ℕ → List ℕ → List ℕ → List ℕ → State Store
+left-by (Refused n) w vectors targets edges versions marks pool = with-slices w vectors targets edges versions marks pool
+left-by (Done i) w vectors targets edges versions marks pool = state-of i vectors targets edges versions marks pool
+
+-- `create` takes no scratch
+abbrev pub create-run : Making → State Store → List ℕ → List ℕ → List ℕ → List ℕ → List ℕ → List ℕ → List ℕ → List ℕ → List ℕ → List ℕ → List ℕ → List ℕ → Created → List ℕ → Run
+create-run m w vectors targets edges versions marks pool vectors′ targets′ edges′ versions′ marks′ pool′ r scratch =
+    record {
+      operation = create m;
+      before = with-slices w vectors targets edges versions marks pool;
+      after = left-by r w vectors′ targets′ edges′ versions′ marks′ pool′;
+      answer = created-as r;
+      scratch-before = scratch;
+      scratch-after = scratch;
+    }

@@ -1,0 +1,42 @@
+-- The index by value with its six lent slices, as the definitions' state; the size answer. Assumes nothing.
+use Prim.Native.Nat.{ℕ, _+_, _*_}
+use mathlib.Core.List.{List}
+use lib.Ieee.{Float}
+use Rattle.slots.specs.Sizes.{Sizes, Lengths}
+use Rattle.slots.specs.Store.{Store}
+use Rattle.slots.specs.Rows.{arrays}
+use Rattle.guard.specs.Guard.{Config, off, on}
+use Rattle.guard.specs.Guard as Guards
+use Rattle.index.specs.declared.Index.{Index}
+use Rattle.index.specs.declared.Guard.{Guard}
+use Rattle.index.specs.declared.Guard.the-variants.{Off, On}
+use Rattle.index.specs.Step.{State}
+
+-- the library's own size answer, in words of 32 bits: for the walk's list and marks, the plans of a batch, the candidates of all delete plans, and the
+-- guard's sample. It is the same for every dim.
+unfoldable pub size-answer : ℕ → ℕ → ℕ → ℕ
+size-answer dim capacity degree = 81920 + 4 * capacity + 2048 * degree
+
+-- sizes, lengths and settings, one by one
+abbrev pub sizes : ℕ → ℕ → ℕ → Float → Sizes
+sizes dim capacity degree alpha = record { dim = dim; capacity = capacity; degree = degree; alpha = alpha }
+
+abbrev pub lengths : ℕ → ℕ → ℕ → ℕ → ℕ → ℕ → Lengths
+lengths vectors targets edges versions marks pool =
+    record { vectors = vectors; targets = targets; edge-versions = edges; versions = versions; marks = marks; pool = pool }
+
+abbrev pub config : ℕ → ℕ → ℕ → ℕ → Config
+config count multiplier sample beam = record { landmark-count = count; multiplier = multiplier; sample-size = sample; beam = beam }
+
+unfoldable pub guard-of : Guard → Guards.Guard
+guard-of Off = off
+guard-of (On s) = on (config (s .count) (s .multiplier) (s .sample) (s .beam)) (s .pool)
+
+unfoldable pub state-of : Index → List ℕ → List ℕ → List ℕ → List ℕ → List ℕ → List ℕ → State Store
+state-of i vectors targets edges versions marks pool =
+    record {
+      graph = record { arrays = arrays (i .dim) (i .degree) vectors targets edges versions marks; capacity = i .capacity; alpha = i .alpha; entry = i .entry };
+      live = i .live;
+      guard = guard-of (i .guard);
+      words = pool;
+    }

@@ -1,0 +1,207 @@
+// The tests of document 01's table that calls share, and the size answer.
+use super::Guard;
+use super::Index;
+use super::Settings;
+use super::Words;
+ghost use mathlib.Core.Bool.{not, _||_};
+ghost use mathlib.Core.Path.{_≡_};
+ghost use Prim.Native.Nat.{_*_};
+ghost use lib.Ieee.{Float};
+ghost use lib.Dec.{eqb, ltb};
+ghost use lib.ListN.{length};
+ghost use Rattle.lists.specs.Lists.{filter, range};
+ghost use Rattle.slots.specs.Sizes.{limits, within, sizes-ok, alpha-ok, lengths-ok};
+ghost use Rattle.slots.specs.Store.{is-valid};
+ghost use Rattle.index.specs.Refusals.{guard-fault, config-over, config-zero};
+ghost use Rattle.index.specs.Index.{guard-of, config, sizes, lengths};
+ghost use Rattle.index.specs.Deciding.{words-for, Decided};
+
+// Whether a number is outside a range that begins at 1.
+fn outside(high: u32, n: u32) -> bool
+    ensures { λ r. ⌜ r ≡ not (within 1 high n) ⌝ }
+{
+    if n < 1 {
+        return true;
+    }
+    high < n
+}
+
+// Row 1: dim, capacity or degree is outside its range.
+pub fn sizes_bad(dim: u32, capacity: u32, degree: u32) -> bool
+    ensures { λ r. ⌜ ((alpha : Float) → r ≡ not (sizes-ok limits (sizes dim capacity degree alpha))) ⌝ }
+{
+    if outside(256, dim) {
+        return true;
+    }
+    if outside(65536, capacity) {
+        return true;
+    }
+    outside(64, degree)
+}
+
+// Row 2: alpha is outside 1.0 to 2.0, or no number.
+pub fn alpha_bad(alpha: f32) -> bool
+    ensures { λ r. ⌜ r ≡ not (alpha-ok alpha) ⌝ }
+{
+    if 1.0 <= alpha {
+        if alpha <= 2.0 {
+            return false;
+        }
+    }
+    true
+}
+
+// The product of two sizes; it fits whatever they are.
+pub fn product(a: u32, b: u32) -> usize
+    ensures { λ r. ⌜ r ≡ a * b ⌝ }
+{
+    slots::marks::wide(a) * slots::marks::wide(b)
+}
+
+// Row 3, of the six slices of an index: one of them has another length.
+pub fn lengths_bad(
+    dim: u32,
+    capacity: u32,
+    degree: u32,
+    vectors: usize,
+    targets: usize,
+    edges: usize,
+    versions: usize,
+    marks: usize,
+    pool: usize,
+) -> bool
+    ensures { λ r. ⌜ ((alpha : Float) → r ≡ not (lengths-ok limits (sizes dim capacity degree alpha) (lengths vectors targets edges versions marks pool))) ⌝ }
+{
+    let rows = product(capacity, degree);
+    let count = slots::marks::wide(capacity);
+    if vectors != product(capacity, dim) {
+        return true;
+    }
+    if targets != rows {
+        return true;
+    }
+    if edges != rows {
+        return true;
+    }
+    if versions != count {
+        return true;
+    }
+    if marks != count {
+        return true;
+    }
+    pool != 1024
+}
+
+// Row 7, of a guard's settings: one of them is over its limit.
+pub fn config_over(count: u32, multiplier: u32, sample: u32, beam: u32) -> bool
+    ensures { λ r. ⌜ r ≡ config-over (config count multiplier sample beam) ⌝ }
+{
+    if 64 < count {
+        return true;
+    }
+    if 16 < multiplier {
+        return true;
+    }
+    if 65536 < sample {
+        return true;
+    }
+    1024 < beam
+}
+
+// Whether one of a guard's settings is 0.
+fn config_zero(count: u32, multiplier: u32, sample: u32, beam: u32) -> bool
+    ensures { λ r. ⌜ r ≡ config-zero (config count multiplier sample beam) ⌝ }
+{
+    if count == 0 {
+        return true;
+    }
+    if multiplier == 0 {
+        return true;
+    }
+    if sample == 0 {
+        return true;
+    }
+    beam == 0
+}
+
+// Whether a guard has a fault: a setting that is 0 or over its limit, or too long a pool.
+fn guard_bad(guard: Guard) -> bool
+    ensures { λ r. ⌜ r ≡ guard-fault (guard-of guard) ⌝ }
+{
+    let Guard::On(s) = guard else {
+        return false;
+    };
+    if config_zero(s.count, s.multiplier, s.sample, s.beam) {
+        return true;
+    }
+    if config_over(s.count, s.multiplier, s.sample, s.beam) {
+        return true;
+    }
+    1024 < s.pool
+}
+
+// Row 6: the live count is not that of the marks, the entry is outside, or the guard has a fault.
+fn index_bad(index: Index, marks: &[u8]) -> bool
+    ensures { λ r. ⌜ r ≡ (not (eqb (index .live) (length (filter (is-valid (now (marks .entry))) (range 0 (length (now (marks .entry))))))) || not (ltb (index .entry) (index .capacity)) || guard-fault (guard-of (index .guard))) ⌝ }
+{
+    let live = slots::marks::wide(index.live);
+    if live != slots::marks::count_valid(marks) {
+        return true;
+    }
+    if index.capacity <= index.entry {
+        return true;
+    }
+    let guard = index.guard;
+    guard_bad(guard)
+}
+
+// The first of rows 1, 2, 3 and 6 that turns a call back, else 0; `wrong` is the call's own part of row 3.
+pub fn index_refusal(
+    index: Index,
+    vectors: usize,
+    targets: usize,
+    edges: usize,
+    versions: usize,
+    marks: &[u8],
+    pool: usize,
+    wrong: bool,
+) -> u32
+    ensures { λ r. ⌜ Decided index vectors targets edges versions (now (marks .entry)) pool wrong r ⌝ }
+{
+    if sizes_bad(index.dim, index.capacity, index.degree) {
+        return 1;
+    }
+    if alpha_bad(index.alpha) {
+        return 2;
+    }
+    if lengths_bad(
+        index.dim,
+        index.capacity,
+        index.degree,
+        vectors,
+        targets,
+        edges,
+        versions,
+        marks.len(),
+        pool,
+    ) {
+        return 3;
+    }
+    if wrong {
+        return 3;
+    }
+    if index_bad(index, marks) {
+        return 6;
+    }
+    0
+}
+
+// The size answer: how many words of scratch the calls on an index of these sizes ask for.
+pub fn scratch_words(dim: u32, capacity: u32, degree: u32) -> Words
+    ensures { λ r. ⌜ ((alpha : Float) → r ≡ words-for (sizes dim capacity degree alpha)) ⌝ }
+{
+    if sizes_bad(dim, capacity, degree) {
+        return Words::Refused(1);
+    }
+    Words::Words(81920 + 4 * capacity + 2048 * degree)
+}
