@@ -60,6 +60,12 @@ pub record Shifted (w : List ℕ) (from to : ℕ) (w′ : List ℕ) : Type 0 whe
   pub size : length w′ ≡ length w
   pub same : Outside (from + 2) (to - from) w w′
 
+-- x is inserted into the n candidates at a, at place r
+pub record Inserted (w : List ℕ) (a n : ℕ) (x : Candidate) (r : ℕ) (w′ : List ℕ) : Type 0 where
+  pub within : r ≤ n
+  pub front : cands w′ a r ≡ cands w a r
+  pub holds : Holds w a (n + 1) (insert-by before x (cands w a n)) w′
+
 -- ---- other tests and copies
 -- whether a slot is not the source and has a mark other than 0; one outside has none
 unfoldable pub kept : List ℕ → ℕ → ℕ → Bool

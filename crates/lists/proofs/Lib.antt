@@ -10,3 +10,4 @@ pub mod Pasting
 pub mod Places
 pub mod Firsts
 pub mod Merging
+pub mod Members

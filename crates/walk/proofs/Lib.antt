@@ -3,3 +3,10 @@ pub mod Turns
 pub mod Greedy
 pub mod Considers
 pub mod Cases
+pub mod Marks
+pub mod Entering
+pub mod Walking
+pub mod Seen
+pub mod Same
+pub mod Without
+pub mod Found

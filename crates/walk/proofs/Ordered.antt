@@ -35,7 +35,7 @@ module _ (beam : ℕ) (list : List Candidate) (c : Candidate) where
       (λ e. by-cases (Ordered before) (ltb (c .dist) (worst list))
       (λ f. ordered-insert before before-before c (init list) (all-init _ list d) (pairwise-init _ list o)) (λ f. o))
 
-  enter-short : 1 ≤ beam → length list ≤ beam → length (enter beam list c) ≤ beam
+  pub enter-short : 1 ≤ beam → length list ≤ beam → length (enter beam list c) ≤ beam
   unfolding enter
   enter-short o h =
       let room : ltb (length list) beam ≡ true → length (insert-by before c list) ≤ beam =

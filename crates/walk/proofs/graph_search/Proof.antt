@@ -1,0 +1,21 @@
+use Rattle.walk.proofs.Found.{found-all}
+use borrow.Author.Needs.{needs}
+use Rattle.walk.proofs.graph_search.Statement.{statement}
+use Rattle.walk.proofs.graph_search.Tie as tie
+
+slice-aggregate-residual-search : tie.Need-slice-aggregate-residual-search
+slice-aggregate-residual-search c = search needs
+
+residual-search-requires : tie.Need-residual-search-requires
+residual-search-requires c κs = search needs
+
+same-length : tie.Need-same-length
+same-length c = search needs
+
+returns : tie.Need-returns
+returns c = found-all (c .before .before .before .before .before .before .before .before .before .before .before .before .pre) (c .before .before .residual-search .ensures)
+
+pub graph-search-spec : {M : Type 1} → statement M
+graph-search-spec =
+    tie.close
+    (tie.spec slice-aggregate-residual-search residual-search-requires same-length returns)

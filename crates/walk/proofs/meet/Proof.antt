@@ -1,0 +1,61 @@
+use Rattle.walk.proofs.Walking.{met-goes, met-old, met-new}
+use Rattle.walk.proofs.Seen.{dist-by, dist-small, dist-ready}
+use borrow.Author.Needs.{needs}
+use Rattle.walk.proofs.meet.Statement.{statement}
+use Rattle.walk.proofs.meet.Tie as tie
+
+wide-requires : tie.Need-wide-requires
+wide-requires c κs = search needs
+
+add-at : tie.Need-add-at
+add-at c = search needs
+
+mul-if1 : tie.Need-mul-if1
+mul-if1 c = search needs
+
+slice-read-if1 : tie.Need-slice-read-if1
+slice-read-if1 c = search needs
+
+returns : tie.Need-returns
+returns c = let p = c .before .before .before .before .before .before .pre in met-old _ _ (p .1) (p .2) (c .before .before .wide .ensures) (c .if1 .taken)
+
+mul-scratch : tie.Need-mul-scratch
+mul-scratch c = search needs
+
+slice-write-scratch : tie.Need-slice-write-scratch
+slice-write-scratch c = search needs
+
+query-distance-requires : tie.Need-query-distance-requires
+query-distance-requires c κs = let p = c .before .before .before .before .before .before .pre in dist-ready (p .0) (p .2) (c .before .before .wide .ensures)
+
+enter-requires : tie.Need-enter-requires
+enter-requires c κs =
+    let p = c .before .before .before .before .before .before .before .before .pre in
+    let g = met-goes (p .1) (p .2) (c .before .before .before .before .wide .ensures) (c .before .before .if1 .left) in
+    (g .listed, g .passed, dist-small (c .before .query-distance .ensures))
+
+returns-2 : tie.Need-returns-2
+returns-2 c =
+    let a = c .before .before .before .before .before .before .before .before .before .before .before .args in
+    let p = c .before .before .before .before .before .before .before .before .before .before .before .pre in
+    let d = c .before .before .before .before .query-distance .ensures in
+    met-new _ _ (p .1) (p .2) (c .before .before .before .before .before .before .before .wide .ensures) (c .before .before .before .before .before .if1 .left) (dist-by (a .dim) (a .vectors .now) _ d) (dist-small d) (c .before .before .enter .ensures)
+
+same-length : tie.Need-same-length
+same-length c = returns-2 c .size
+
+pub meet-spec : {M : Type 1} → statement M
+meet-spec =
+    tie.close
+    (tie.spec
+    wide-requires
+    add-at
+    mul-if1
+    slice-read-if1
+    returns
+    mul-scratch
+    slice-write-scratch
+    query-distance-requires
+    enter-requires
+    same-length
+    returns-2)

@@ -1,0 +1,167 @@
+-- The walk in lent words: what its functions ask of the words, and what they leave in them. The list lies from word 0 on; from word 2,048 on there is
+-- a mark for each slot. Assumes nothing.
+use Prim.Native.Nat.{ℕ, _+_, _*_, max, _≤_, _<_}
+use mathlib.Core.Bool.{true, false, not}
+use mathlib.Core.List.{List, [], _∷_}
+use mathlib.Core.Path.{_≡_}
+use lib.ListN.{length, take, drop, getD, set, replicate}
+use Rattle.lists.specs.Lists.{All, Ordered, filter, elem, foldl, part}
+use Rattle.vectors.specs.Distance.{distance}
+use Rattle.candidates.specs.Candidates.{Candidate, before}
+use Rattle.candidates.specs.Words.{pair, cand, cands, Small, Outside}
+use Rattle.slots.specs.Store.{Arrays, Store, is-valid, refs-of, store-view}
+use Rattle.slots.specs.Rows.{RowShape}
+use Rattle.walk.specs.Walk.{State, enter, ends, graph-search, search-pool}
+use Rattle.walk.specs.Walk as Walk
+
+-- ---- what the walk sees of the lent slices: `query-distance` and `live-neighbors` of a view (`walk-view`)
+unfoldable pub dist-to : ℕ → List ℕ → List ℕ → ℕ → ℕ
+dist-to dim vectors query s = distance query (part dim s vectors)
+
+unfoldable pub near-of : Arrays → ℕ → List ℕ
+near-of a s = filter (is-valid (a .marks)) (refs-of a s)
+
+-- with the slots of a list left out
+unfoldable pub near-but : List ℕ → Arrays → ℕ → List ℕ
+near-but ids a s = filter (λ t. not (elem t ids)) (near-of a s)
+
+-- ---- the words
+-- the mark of slot s
+abbrev pub mark : List ℕ → ℕ → ℕ
+mark w s = getD w (2048 + s) 0
+
+-- the marks of all slots
+abbrev pub marks-of : ℕ → List ℕ → List ℕ
+marks-of capacity w = take capacity (drop 2048 w)
+
+-- the state of the walk that the words hold: n candidates, and the marks
+abbrev pub state-of : ℕ → List ℕ → ℕ → State
+state-of capacity w n = record { list = cands w 0 n; marks = marks-of capacity w }
+
+-- slots marked as met
+abbrev pub mark-all : List ℕ → List ℕ → List ℕ
+mark-all marks ids = foldl (λ m s. set m s 1) marks ids
+
+-- what the definition makes of the state in the words: slot t is met, the candidate at place i is expanded, and all turns are taken
+abbrev pub meets : ℕ → List ℕ → List ℕ → ℕ → ℕ → List ℕ → ℕ → ℕ → State
+meets dim vectors query capacity beam w n t = Walk.meet beam (dist-to dim vectors query) (λ _. []) (state-of capacity w n) t
+
+abbrev pub expands : Arrays → List ℕ → ℕ → List ℕ → ℕ → ℕ → State
+expands a query beam w n i = Walk.expand beam (dist-to (a .dim) (a .vectors) query) (near-of a) (state-of (length (a .marks)) w n) (cand w (2 * i))
+
+abbrev pub takes-turns : Arrays → List ℕ → ℕ → List ℕ → ℕ → State
+takes-turns a query beam w n = Walk.turns beam (dist-to (a .dim) (a .vectors) query) (near-of a) (length (a .marks)) (state-of (length (a .marks)) w n)
+
+-- the first state: the start is in the list, and it and the slots to be left out are met
+abbrev pub first-state : ℕ → List ℕ → ℕ → ℕ → State
+first-state capacity ids d start = record { list = pair d start ∷ []; marks = set (mark-all (replicate capacity 0) ids) start 1 }
+
+-- n candidates in order, which one can enter
+pub record Listed (beam : ℕ) (w : List ℕ) (n : ℕ) : Type 0 where
+  pub long : 2048 ≤ length w
+  pub some : 1 ≤ beam
+  pub most : beam ≤ 1024
+  pub few : n ≤ beam
+  pub order : Ordered before (cands w 0 n)
+  pub small : Small (cands w 0 n)
+
+-- words with which the walk can go on: each candidate's slot is inside and met, and those of the first `next` are expanded
+pub record Walkable (capacity beam : ℕ) (w : List ℕ) (n next : ℕ) : Type 0 where
+  pub room : 2048 + capacity ≤ length w
+  pub listed : Listed beam w n
+  pub inside : All (λ c. c .id < capacity) (cands w 0 n)
+  pub met : All (λ c. mark w (c .id) ≡ 0 → ⊥) (cands w 0 n)
+  pub passed : next ≤ n
+  pub done : All (λ c. mark w (c .id) ≡ 2) (cands w 0 next)
+
+-- n candidates with marks, of which the first `next` are expanded
+pub record Scannable (w : List ℕ) (n next : ℕ) : Type 0 where
+  pub long : 2048 ≤ length w
+  pub most : n ≤ 1024
+  pub inside : All (λ c. 2048 + c .id < length w) (cands w 0 n)
+  pub passed : next ≤ n
+  pub done : All (λ c. mark w (c .id) ≡ 2) (cands w 0 next)
+
+-- ---- what the functions leave
+-- x enters the n candidates of w: n′ are there then; those of the first `next` that are still the first are the first next′
+pub record Entered (beam : ℕ) (w : List ℕ) (n next : ℕ) (x : Candidate) (w′ : List ℕ) (n′ next′ : ℕ) : Type 0 where
+  pub list : cands w′ 0 n′ ≡ enter beam (cands w 0 n) x
+  pub passed : next′ ≤ next
+  pub within : next′ ≤ n′
+  pub front : cands w′ 0 next′ ≡ cands w 0 next′
+  pub size : length w′ ≡ length w
+  pub same : Outside 0 2048 w w′
+
+-- the first of n candidates whose slot is not expanded is at r; where all are, r is n
+pub record Unexpanded (w : List ℕ) (n r : ℕ) : Type 0 where
+  pub within : r ≤ n
+  pub done : All (λ c. mark w (c .id) ≡ 2) (cands w 0 r)
+  pub stops : r < n → mark w (cand w (2 * r) .id) ≡ 2 → ⊥
+
+-- of n candidates the one at r is expanded next; where the walk ends, r is n
+pub record Next (beam : ℕ) (w : List ℕ) (n r : ℕ) : Type 0 where
+  pub first : ℕ
+  pub found : Unexpanded w n first
+  pub goes : (r ≡ n → ⊥) → (first ≡ r) × (ends beam (cands w 0 n) (cand w (2 * r)) ≡ false)
+  pub over : r ≡ n → (first < n) → ends beam (cands w 0 n) (cand w (2 * first)) ≡ true
+
+-- no slot is met
+pub record Cleared (capacity : ℕ) (w w′ : List ℕ) : Type 0 where
+  pub marks : marks-of capacity w′ ≡ replicate capacity 0
+  pub size : length w′ ≡ length w
+  pub same : Outside 2048 capacity w w′
+
+-- some slots are met, too
+pub record LeftOut (capacity : ℕ) (ids w w′ : List ℕ) : Type 0 where
+  pub marks : marks-of capacity w′ ≡ mark-all (marks-of capacity w) ids
+  pub size : length w′ ≡ length w
+  pub same : Outside 2048 capacity w w′
+
+-- the walk begins
+pub record Begun (capacity : ℕ) (ids : List ℕ) (d start : ℕ) (w w′ : List ℕ) : Type 0 where
+  pub holds : state-of capacity w′ 1 ≡ first-state capacity ids d start
+  pub goes : (beam : ℕ) → 1 ≤ beam → beam ≤ 1024 → Walkable capacity beam w′ 1 0
+  pub size : length w′ ≡ length w
+  pub same : Outside 0 (2048 + capacity) w w′
+
+-- the words w have come to w′, which hold the state `to`
+pub record Stepped (capacity beam : ℕ) (w : List ℕ) (to : State) (w′ : List ℕ) (n next : ℕ) : Type 0 where
+  pub holds : state-of capacity w′ n ≡ to
+  pub goes : Walkable capacity beam w′ n next
+  pub size : length w′ ≡ length w
+  pub same : Outside 0 (2048 + capacity) w w′
+
+-- ---- the calls
+-- vectors for all slots, and a query
+pub record Vectors (dim capacity : ℕ) (vectors query : List ℕ) : Type 0 where
+  pub vectors-long : length vectors ≡ capacity * dim
+  pub dim-most : dim ≤ 256
+  pub query-long : length query ≡ dim
+
+-- slices that belong together
+pub record Lent (a : Arrays) (query : List ℕ) : Type 0 where
+  pub vectors : Vectors (a .dim) (length (a .marks)) (a .vectors) query
+  pub rows : RowShape (a .degree) (a .targets) (a .edge-versions) (a .versions) (a .marks)
+
+-- what a walk asks
+pub record Ready (a : Arrays) (query : List ℕ) (start beam : ℕ) (w : List ℕ) : Type 0 where
+  pub lent : Lent a query
+  pub start-inside : start < length (a .marks)
+  pub beam-most : beam ≤ 1024
+  pub room : 2048 + length (a .marks) ≤ length w
+
+-- what a walk leaves: r candidates, those of `graph-search`; `near` is `near-of`, or `near-but` some slots
+pub record Found (a : Arrays) (query : List ℕ) (near : Arrays → ℕ → List ℕ) (start beam : ℕ) (w w′ : List ℕ) (r : ℕ) : Type 0 where
+  pub list : cands w′ 0 r ≡ graph-search (length (a .marks)) start beam (dist-to (a .dim) (a .vectors) query) (near a)
+  pub few : r ≤ max 1 beam
+  pub small : Small (cands w′ 0 r)
+  pub size : length w′ ≡ length w
+  pub same : Outside 0 (2048 + length (a .marks)) w w′
+
+-- `search-pool`
+pub record Pool (a : Arrays) (query : List ℕ) (entry beam : ℕ) (w w′ : List ℕ) (r : ℕ) : Type 0 where
+  pub list : (b : Store) → b .arrays ≡ a → b .capacity ≡ length (a .marks) → b .entry ≡ entry → cands w′ 0 r ≡ search-pool (store-view b) query beam
+  pub few : r ≤ max 1 beam
+  pub small : Small (cands w′ 0 r)
+  pub size : length w′ ≡ length w
+  pub same : Outside 0 (2048 + length (a .marks)) w w′

@@ -1,0 +1,137 @@
+// What a walk keeps in lent words. The list lies in words 0 to 2,047, two words for each of at most 1,024 candidates. From word 2,048 on there is a
+// mark for each slot: 0 before it is met, 1 when it is met, 2 when it is expanded. The words behind the marks are not touched.
+use candidates::dist_at;
+use candidates::id_at;
+use candidates::insert_ordered;
+use candidates::put;
+use slots::marks::wide;
+ghost use mathlib.Core.Path.{_≡_};
+ghost use Prim.Native.Nat.{_+_, _*_, min, _<_, _≤_};
+ghost use lib.ListN.{length};
+ghost use Rattle.candidates.specs.Words.{pair, cand, cands};
+ghost use Rattle.walk.specs.Walk as Walk;
+ghost use Rattle.walk.specs.Scratch.{Listed, Scannable, Entered, Unexpanded, Next, Cleared, LeftOut, Begun};
+
+pub const MARKS: usize = 2048;
+
+pub const MET: u32 = 1;
+
+pub const EXPANDED: u32 = 2;
+
+// How many candidates the list holds, and how many of its first are known to be expanded.
+pub struct Held {
+    pub count: usize,
+    pub next: usize,
+}
+
+// The lesser of two numbers.
+fn least(a: usize, b: usize) -> usize
+    ensures { λ r. ⌜ r ≡ min a b ⌝ }
+{
+    if a < b { a } else { b }
+}
+
+// Marks no slot as met.
+fn clear(scratch: &mut [u32], capacity: usize)
+    requires { ⌜ 2048 + capacity ≤ length (now scratch) ⌝ }
+    ensures { λ _. ⌜ Cleared capacity (now (scratch .entry)) (now (scratch .exit)) ⌝ }
+{
+    let mut s: usize = 0;
+    while s < capacity {
+        scratch[MARKS + s] = 0;
+        s += 1;
+    }
+}
+
+// Marks those of `ids` that are slots as met, so that the walk leaves them out.
+fn leave_out(scratch: &mut [u32], capacity: usize, ids: &[u32])
+    requires { ⌜ 2048 + capacity ≤ length (now scratch) ⌝ }
+    ensures { λ _. ⌜ LeftOut capacity (now (ids .entry)) (now (scratch .entry)) (now (scratch .exit)) ⌝ }
+{
+    let mut i: usize = 0;
+    while i < ids.len() {
+        let s = wide(ids[i]);
+        if s < capacity {
+            scratch[MARKS + s] = MET;
+        }
+        i += 1;
+    }
+}
+
+// Puts the start into the list, alone, and marks it and `ids` as met.
+pub fn begin(scratch: &mut [u32], capacity: usize, ids: &[u32], dist: u32, start: u32)
+    requires { ⌜ (2048 + capacity ≤ length (now scratch)) × (start < capacity) × (dist ≤ 16777216) ⌝ }
+    ensures { λ _. ⌜ Begun capacity (now (ids .entry)) dist start (now (scratch .entry)) (now (scratch .exit)) ⌝ }
+{
+    clear(scratch, capacity);
+    leave_out(scratch, capacity, ids);
+    scratch[MARKS + wide(start)] = MET;
+    put(scratch, 0, dist, start);
+}
+
+// The place of the first of `n` candidates whose slot is not expanded, of which the first `from` are; `n` where there is none.
+fn unexpanded(scratch: &[u32], n: usize, from: usize) -> usize
+    requires { ⌜ Scannable (now scratch) n from ⌝ }
+    ensures { λ r. ⌜ Unexpanded (now (scratch .entry)) n r ⌝ }
+{
+    let mut i = from;
+    while i < n {
+        let s = wide(id_at(scratch, 0, i));
+        if scratch[MARKS + s] != EXPANDED {
+            return i;
+        }
+        i += 1;
+    }
+    i
+}
+
+// Whether the walk ends before candidate `i` of `n` is expanded: the list is full, and the candidate is not nearer than the worst.
+fn ends(scratch: &[u32], beam: usize, n: usize, i: usize) -> bool
+    requires { ⌜ (i < n) × (2 * n ≤ length (now scratch)) ⌝ }
+    ensures { λ r. ⌜ r ≡ Walk.ends beam (cands (now (scratch .entry)) 0 n) (cand (now (scratch .entry)) (2 * i)) ⌝ }
+{
+    if beam <= n {
+        return dist_at(scratch, 0, n - 1) <= dist_at(scratch, 0, i);
+    }
+    false
+}
+
+// The place of the candidate that is expanded next; `held.count` where the walk ends.
+pub fn next(scratch: &[u32], beam: usize, held: Held) -> usize
+    requires { ⌜ Scannable (now scratch) (held .count) (held .next) ⌝ }
+    ensures { λ r. ⌜ Next beam (now (scratch .entry)) (held .count) r ⌝ }
+{
+    let n = held.count;
+    let i = unexpanded(scratch, n, held.next);
+    if i == n {
+        return n;
+    }
+    if ends(scratch, beam, n, i) {
+        return n;
+    }
+    i
+}
+
+// A candidate enters the list where there is room, or where it is nearer than the worst, which leaves.
+pub fn enter(scratch: &mut [u32], beam: usize, held: Held, dist: u32, id: u32) -> Held
+    requires { ⌜ Listed beam (now scratch) (held .count) × (held .next ≤ held .count) × (dist ≤ 16777216) ⌝ }
+    ensures { λ r. ⌜ Entered beam (now (scratch .entry)) (held .count) (held .next) (pair dist id) (now (scratch .exit)) (r .count) (r .next) ⌝ }
+{
+    let n = held.count;
+    if n < beam {
+        let place = insert_ordered(scratch, 0, n, dist, id);
+        return Held {
+            count: n + 1,
+            next: least(place, held.next),
+        };
+    }
+    let last = n - 1;
+    if dist_at(scratch, 0, last) <= dist {
+        return held;
+    }
+    let place = insert_ordered(scratch, 0, last, dist, id);
+    Held {
+        count: n,
+        next: least(place, held.next),
+    }
+}
