@@ -1,0 +1,179 @@
+//! Times of the library beside the Rust: one thread, one process, the same index and the same input, one run.
+//! A child module of `driver`, so that it sees the Rust's private functions.
+
+use super::*;
+use std::hint::black_box;
+
+/// `search_pool` and `prune_scored` of the library.
+pub type Search = unsafe extern "C" fn(
+    usize, usize, *const u8, usize, *const u32, usize, *const u16, usize, *const u16, usize, *const u8, usize, *const u8, usize, u32, usize, *mut u32, usize,
+) -> usize;
+pub type Prune = unsafe extern "C" fn(usize, f32, usize, *const u8, usize, *const u8, usize, u32, *mut u32, usize, usize, usize, usize) -> usize;
+
+/// The slices of an index of the Rust.
+struct Slices {
+    dim: usize,
+    degree: usize,
+    vectors: Vec<u8>,
+    targets: Vec<u32>,
+    edges: Vec<u16>,
+    versions: Vec<u16>,
+    marks: Vec<u8>,
+}
+
+fn slices(b: &Book<Sq>) -> Slices {
+    let (capacity, degree) = (b.meta.capacity, b.meta.max_degree);
+    let mut s = Slices { dim: b.meta.dim, degree, vectors: vec![], targets: vec![], edges: vec![], versions: vec![], marks: vec![] };
+    for id in 0..capacity as u32 {
+        s.vectors.extend_from_slice(b.vector(id));
+        s.versions.push(b.node_version(id));
+        s.marks.push(mark(b, id));
+        for place in 0..degree {
+            let p = b.adj_pos(id, place);
+            s.targets.push(u32::from_le_bytes(b.mmap[p..p + 4].try_into().unwrap()));
+            let q = b.edge_ver_pos(id, place);
+            s.edges.push(u16::from_le_bytes(b.mmap[q..q + 2].try_into().unwrap()));
+        }
+    }
+    s
+}
+
+impl Slices {
+    fn search(&self, f: Search, query: &[u8], entry: u32, beam: usize, scratch: &mut [u32]) -> usize {
+        unsafe {
+            f(
+                self.dim, self.degree, self.vectors.as_ptr(), self.vectors.len(), self.targets.as_ptr(), self.targets.len(),
+                self.edges.as_ptr(), self.edges.len(), self.versions.as_ptr(), self.versions.len(), self.marks.as_ptr(), self.marks.len(),
+                query.as_ptr(), query.len(), entry, beam, scratch.as_mut_ptr(), scratch.len(),
+            )
+        }
+    }
+}
+
+fn built(dim: usize, capacity: usize, degree: usize, alpha: f32, cloud: &Cloud, rng: &mut Rng) -> Book<Sq> {
+    let vectors: Vec<Vec<u8>> = (0..capacity).map(|_| cloud.draw(rng)).collect();
+    let mut book = make(dim, capacity, degree, alpha, 0, &vectors[..1], &[vec![]], Sq::default()).unwrap();
+    for chunk in vectors[1..].chunks(256) {
+        book.insert_batch(chunk.to_vec(), 64).unwrap();
+    }
+    book
+}
+
+fn searches(search: Search) {
+    let (dim, degree) = (256, 32);
+    println!("search, dim {dim}, degree {degree}, alpha 1.2, clustered vectors; time of one search by the Rust's search_with_dists and by the library's search_pool");
+    for capacity in [1_000usize, 5_000, 20_000, 65_536] {
+        let mut rng = Rng(1);
+        let cloud = Cloud::new(&mut rng, 200, dim, 40, 32);
+        let book = built(dim, capacity, degree, 1.2, &cloud, &mut rng);
+        let s = slices(&book);
+        let queries: Vec<Vec<u8>> = (0..400).map(|_| cloud.draw(&mut rng)).collect();
+        let mut scratch = vec![0xdead_beefu32; 2048 + capacity];
+        for beam in [16usize, 64, 256, 1024] {
+            let mut best = [f64::MAX; 2];
+            let mut differences = 0;
+            let part = if beam == 1024 { 100 } else { 400 };
+            for round in 0..5 {
+                let started = cpu();
+                for q in &queries[..part] {
+                    black_box(book.search_with_dists(q, beam, beam));
+                }
+                best[0] = best[0].min((cpu() - started) * 1e6 / part as f64);
+                let started = cpu();
+                for q in &queries[..part] {
+                    black_box(s.search(search, q, book.meta.medoid_id, beam, &mut scratch));
+                }
+                best[1] = best[1].min((cpu() - started) * 1e6 / part as f64);
+                if round == 0 {
+                    for q in &queries[..part] {
+                        let n = s.search(search, q, book.meta.medoid_id, beam, &mut scratch);
+                        let ours: Vec<(u32, f32)> = (0..n).map(|i| (scratch[2 * i + 1], scratch[2 * i] as f32)).collect();
+                        differences += (ours != book.search_with_dists(q, beam, beam)) as usize;
+                    }
+                }
+            }
+            println!(
+                "capacity {capacity} beam {beam}: rust {:.1} us, library {:.1} us, ratio {:.2}, {differences} of {part} differ",
+                best[0], best[1], best[1] / best[0]
+            );
+        }
+    }
+}
+
+fn prunes(prune: Prune) {
+    println!("prune_scored, degree 32, alpha 1.2, clustered vectors; time of one selection by the Rust's prune_scored and by the library's");
+    for dim in [256usize, 16] {
+        let capacity = 20_000;
+        let mut rng = Rng(2);
+        let cloud = Cloud::new(&mut rng, 200, dim, 40, 32);
+        let vectors: Vec<Vec<u8>> = (0..capacity).map(|_| cloud.draw(&mut rng)).collect();
+        let book = make(dim, capacity, 32, 1.2, 0, &vectors, &vec![vec![]; capacity], Sq::default()).unwrap();
+        let s = slices(&book);
+        for n in [64usize, 320, 750] {
+            for sorted in [true, false] {
+                // the lists of 60 sources: near slots and far ones
+                let lists: Vec<(u32, Vec<(u32, f32)>)> = (0..60)
+                    .map(|_| {
+                        let source = rng.below(capacity as u64) as u32;
+                        let mut ids: Vec<u32> = (0..4 * n).map(|_| rng.below(capacity as u64) as u32).filter(|&i| i != source).collect();
+                        ids.sort_unstable();
+                        ids.dedup();
+                        for i in (1..ids.len()).rev() {
+                            ids.swap(i, rng.below(i as u64 + 1) as usize);
+                        }
+                        let mut list: Vec<(u32, f32)> = ids.iter().map(|&i| (i, sq_plain(book.vector(source), book.vector(i)) as f32)).collect();
+                        list.sort_by(|a, b| a.1.total_cmp(&b.1));
+                        list.truncate(n);
+                        if !sorted {
+                            for i in (1..list.len()).rev() {
+                                list.swap(i, rng.below(i as u64 + 1) as usize);
+                            }
+                        }
+                        (source, list)
+                    })
+                    .collect();
+                let mut best = [f64::MAX; 2];
+                let mut differences = 0;
+                for round in 0..7 {
+                    let copies: Vec<_> = lists.clone();
+                    let started = cpu();
+                    for (source, list) in copies {
+                        black_box(book.prune_scored(source, list));
+                    }
+                    best[0] = best[0].min((cpu() - started) * 1e6 / lists.len() as f64);
+                    let mut scratches: Vec<Vec<u32>> = lists
+                        .iter()
+                        .map(|(_, list)| {
+                            let mut w: Vec<u32> = list.iter().flat_map(|&(id, dist)| [dist as u32, id]).collect();
+                            w.resize(2 * list.len() + 64, 0);
+                            w
+                        })
+                        .collect();
+                    let started = cpu();
+                    let mut counts = Vec::with_capacity(lists.len());
+                    for ((source, list), w) in lists.iter().zip(scratches.iter_mut()) {
+                        counts.push(unsafe {
+                            prune(32, 1.2, dim, s.vectors.as_ptr(), s.vectors.len(), s.marks.as_ptr(), s.marks.len(), *source, w.as_mut_ptr(), w.len(), 0, list.len(), 2 * list.len())
+                        });
+                    }
+                    best[1] = best[1].min((cpu() - started) * 1e6 / lists.len() as f64);
+                    if round == 0 {
+                        for (((source, list), w), count) in lists.iter().zip(&scratches).zip(&counts) {
+                            let ours: Vec<u32> = (0..*count).map(|i| w[2 * list.len() + 2 * i + 1]).collect();
+                            differences += (ours != book.prune_scored(*source, list.clone())) as usize;
+                        }
+                    }
+                }
+                println!(
+                    "dim {dim} candidates {n} {}: rust {:.1} us, library {:.1} us, ratio {:.2}, {differences} of {} differ",
+                    if sorted { "sorted" } else { "unsorted" }, best[0], best[1], best[1] / best[0], lists.len()
+                );
+            }
+        }
+    }
+}
+
+pub fn main(search: Search, prune: Prune) {
+    searches(search);
+    prunes(prune);
+}

@@ -1,0 +1,15 @@
+//! The library beside the Rust; see ../beside.rs.
+unsafe extern "C" {
+    fn exported_search(
+        dim: usize, degree: usize, vectors: *const u8, vl: usize, targets: *const u32, tl: usize, edges: *const u16, el: usize, versions: *const u16, nl: usize,
+        marks: *const u8, ml: usize, query: *const u8, ql: usize, entry: u32, beam: usize, scratch: *mut u32, sl: usize,
+    ) -> usize;
+    fn exported_prune(
+        degree: usize, alpha: f32, dim: usize, vectors: *const u8, vl: usize, marks: *const u8, ml: usize, source: u32, scratch: *mut u32, sl: usize, a: usize,
+        n: usize, to: usize,
+    ) -> usize;
+}
+
+fn main() {
+    diskann_sorted::beside_main(exported_search, exported_prune);
+}
