@@ -12,7 +12,7 @@ use lib.Ieee.{Float}
 use lib.ListN.{length}
 use lib.Dec.{eqb, ltb, leb}
 use Rattle.candidates.specs.Quotient.{f32}
-use Rattle.lists.specs.Lists.{filter, range}
+use Rattle.lists.specs.Lists.{All, filter, range}
 use Rattle.slots.specs.Sizes.{Sizes, Lengths, limits, within, sizes-ok, alpha-ok, lengths-ok}
 use Rattle.vectors.specs.Vector.{Bytes}
 use Rattle.slots.specs.Store.{Store, is-valid, store-view, store-ops}
@@ -24,7 +24,7 @@ use Rattle.index.specs.Calls.{Call, refused-as}
 use Rattle.index.specs.Refusals.{Test, first-of, or-zero, index-tests, tests, guard-fault}
 use Rattle.index.specs.Step.{State, view-of, stored, perform, refusal, settle, step}
 use Rattle.index.specs.Runs.{lengths-of}
-use Rattle.index.specs.Index.{size-answer, sizes, lengths, guard-of, state-of}
+use Rattle.index.specs.Index.{size-answer, sizes, sizes-of, lengths, guard-of, state-of}
 use Rattle.index.specs.Deciding.{words-for, Decided, Passed}
 use Rattle.index.proofs.Tests.{and-both, or-neither, exact, passed-lengths}
 
@@ -86,17 +86,14 @@ module _ (dim capacity degree : ℕ) {r : Bool} (e : (alpha : Float) → r ≡ n
 -- ---- the shared tests, one after the other
 
 -- the four tests of an index; the last one over n marks
-abbrev size : Index → Sizes
-size index = sizes (index .dim) (index .capacity) (index .degree) (index .alpha)
-
 abbrev bad₁ : Index → Bool
-bad₁ index = not (sizes-ok limits (size index))
+bad₁ index = not (sizes-ok limits (sizes-of index))
 
 abbrev bad₂ : Index → Bool
 bad₂ index = not (alpha-ok (index .alpha))
 
 abbrev bad₃ : Index → Lengths → Bool
-bad₃ index n = not (lengths-ok limits (size index) n)
+bad₃ index n = not (lengths-ok limits (sizes-of index) n)
 
 abbrev bad₆ : Index → List ℕ → ℕ → Bool
 bad₆ index marks n =
@@ -108,36 +105,36 @@ marked : (index : Index) (vectors targets edges versions : ℕ) (marks : List �
 unfolding exact
 marked index vectors targets edges versions marks pool h sound =
     let n = lengths vectors targets edges versions (length marks) pool in
-    let m : length marks ≡ index .capacity = ap (λ l. l .marks) (passed-lengths (size index) n (not-false (lengths-ok limits (size index) n) h)) in
+    let m : length marks ≡ index .capacity = ap (λ l. l .marks) (passed-lengths (sizes-of index) n (not-false (lengths-ok limits (sizes-of index) n) h)) in
     rw m at sound
 
 module _ {index : Index} {vectors targets edges versions : ℕ} {marks : List ℕ} {pool : ℕ} {wrong r₁ : Bool}
     (sized : (alpha : Float) → r₁ ≡ not (sizes-ok limits (sizes (index .dim) (index .capacity) (index .degree) alpha))) where
-  pub decided-sizes : r₁ ≡ true → Decided index vectors targets edges versions marks pool wrong 1
+  pub decided-sizes : r₁ ≡ true → Decided index vectors targets edges versions marks pool wrong [] 1
   unfolding index-tests store-view state-of
   decided-sizes t₁ = record { does = λ vs ts es ns ps. rw (sym (sized (index .alpha)) ∙ t₁) }
 
   module _ {r₂ : Bool} (t₁ : r₁ ≡ false) (grown : r₂ ≡ not (alpha-ok (index .alpha))) where
-    pub decided-alpha : r₂ ≡ true → Decided index vectors targets edges versions marks pool wrong 2
+    pub decided-alpha : r₂ ≡ true → Decided index vectors targets edges versions marks pool wrong [] 2
     unfolding index-tests store-view state-of
     decided-alpha t₂ = record { does = λ vs ts es ns ps. rw (sym (sized (index .alpha)) ∙ t₁, sym grown ∙ t₂) }
 
     module _ {r₃ : Bool} (t₂ : r₂ ≡ false) (long : (alpha : Float) → r₃ ≡ not (lengths-ok limits (sizes (index .dim) (index .capacity) (index .degree) alpha) (lengths vectors targets edges versions (length marks) pool))) where
-      pub decided-lengths : r₃ ≡ true → Decided index vectors targets edges versions marks pool wrong 3
+      pub decided-lengths : r₃ ≡ true → Decided index vectors targets edges versions marks pool wrong [] 3
       unfolding index-tests store-view state-of
       decided-lengths t₃ = record { does = λ vs ts es ns ps. rw (sym (sized (index .alpha)) ∙ t₁, sym grown ∙ t₂, sym (long (index .alpha)) ∙ t₃) }
 
       module _ (t₃ : r₃ ≡ false) where
-        pub decided-wrong : wrong ≡ true → Decided index vectors targets edges versions marks pool wrong 3
+        pub decided-wrong : wrong ≡ true → Decided index vectors targets edges versions marks pool wrong [] 3
         unfolding index-tests store-view state-of
         decided-wrong t = record { does = λ vs ts es ns ps. rw (sym (sized (index .alpha)) ∙ t₁, sym grown ∙ t₂, sym (long (index .alpha)) ∙ t₃, t) }
 
         module _ {r₆ : Bool} (t : wrong ≡ false) (sound : r₆ ≡ bad₆ index marks (length marks)) where
-          pub decided-index : r₆ ≡ true → Decided index vectors targets edges versions marks pool wrong 6
+          pub decided-index : r₆ ≡ true → Decided index vectors targets edges versions marks pool wrong [] 6
           unfolding index-tests store-view state-of
           decided-index t₆ = record { does = λ vs ts es ns ps. rw (sym (sized (index .alpha)) ∙ t₁, sym grown ∙ t₂, sym (long (index .alpha)) ∙ t₃, t, sym (marked index vectors targets edges versions marks pool (sym (long (index .alpha)) ∙ t₃) sound) ∙ t₆) }
 
-          pub decided-none : r₆ ≡ false → Decided index vectors targets edges versions marks pool wrong 0
+          pub decided-none : r₆ ≡ false → Decided index vectors targets edges versions marks pool wrong [] 0
           unfolding index-tests store-view state-of
           decided-none t₆ = record { does = λ vs ts es ns ps. rw (sym (sized (index .alpha)) ∙ t₁, sym grown ∙ t₂, sym (long (index .alpha)) ∙ t₃, t, sym (marked index vectors targets edges versions marks pool (sym (long (index .alpha)) ∙ t₃) sound) ∙ t₆) }
 
@@ -146,6 +143,14 @@ module _ {index : Index} {vectors targets edges versions : ℕ} {marks : List �
 pub first-number : (o : Option ℕ) (r : ℕ) → r ≡ or-zero o → (r ≡ 0 → ⊥) → o ≡ some r
 first-number none r e n = absurd (n e)
 first-number (some k) r e n = ap some (sym e)
+
+abbrev pub Numbered : Test → Type 0
+Numbered t = 0 < t .0
+
+no-number : (ts : List Test) → All Numbered ts → or-zero (first-of ts) ≡ 0 → first-of ts ≡ none
+no-number [] p e = refl
+no-number ((n, true) ∷ ts) p e = absurd (omega (arith, e, p .0))
+no-number ((n, false) ∷ ts) p e = no-number ts (p .1) e
 
 -- none of the four holds
 record Four (q₁ q₂ q₃ q₆ : Bool) : Type 0 where
@@ -157,44 +162,60 @@ record Four (q₁ q₂ q₃ q₆ : Bool) : Type 0 where
 abbrev four : Bool → Bool → Bool → Bool → List Test → List Test
 four q₁ q₂ q₃ q₆ rest = (1, q₁) ∷ (2, q₂) ∷ (3, q₃) ∷ (6, q₆) ∷ rest
 
-none-of : (q₁ q₂ q₃ q₆ : Bool) → or-zero (first-of (four q₁ q₂ q₃ q₆ [])) ≡ 0 → Four q₁ q₂ q₃ q₆
-none-of true q₂ q₃ q₆ e = absurd (omega (arith, e))
-none-of false true q₃ q₆ e = absurd (omega (arith, e))
-none-of false false true q₆ e = absurd (omega (arith, e))
-none-of false false false true e = absurd (omega (arith, e))
-none-of false false false false e = record { one = refl; two = refl; three = refl; six = refl }
+none-of : (q₁ q₂ q₃ q₆ : Bool) (rest : List Test) → All Numbered rest → or-zero (first-of (four q₁ q₂ q₃ q₆ rest)) ≡ 0 → Four q₁ q₂ q₃ q₆
+none-of true q₂ q₃ q₆ rest p e = absurd (omega (arith, e))
+none-of false true q₃ q₆ rest p e = absurd (omega (arith, e))
+none-of false false true q₆ rest p e = absurd (omega (arith, e))
+none-of false false false true rest p e = absurd (omega (arith, e))
+none-of false false false false rest p e = record { one = refl; two = refl; three = refl; six = refl }
 
-some-of : (q₁ q₂ q₃ q₆ : Bool) (rest : List Test) (r : ℕ) → r ≡ or-zero (first-of (four q₁ q₂ q₃ q₆ [])) → (r ≡ 0 → ⊥) → first-of (four q₁ q₂ q₃ q₆ rest) ≡ some r
-some-of true q₂ q₃ q₆ rest r e n = ap some (sym e)
-some-of false true q₃ q₆ rest r e n = ap some (sym e)
-some-of false false true q₆ rest r e n = ap some (sym e)
-some-of false false false true rest r e n = ap some (sym e)
-some-of false false false false rest r e n = absurd (n e)
+-- a call's own tests come after the shared ones: where one of those holds they do not count, and where none does they decide
+first-four : (q₁ q₂ q₃ q₆ : Bool) (rest : List Test) (r : ℕ) → r ≡ or-zero (first-of (four q₁ q₂ q₃ q₆ [])) → (r ≡ 0 → ⊥) → r ≡ or-zero (first-of (four q₁ q₂ q₃ q₆ rest))
+first-four true q₂ q₃ q₆ rest r e n = e
+first-four false true q₃ q₆ rest r e n = e
+first-four false false true q₆ rest r e n = e
+first-four false false false true rest r e n = e
+first-four false false false false rest r e n = absurd (n e)
 
-module _ (index : Index) (vectors targets edges versions marks pool : List ℕ) {wrong : Bool} {r : ℕ}
-    (d : Decided index (length vectors) (length targets) (length edges) (length versions) marks (length pool) wrong r) where
+after-four : (q₁ q₂ q₃ q₆ : Bool) (rest : List Test) (r : ℕ) → 0 ≡ or-zero (first-of (four q₁ q₂ q₃ q₆ [])) → r ≡ or-zero (first-of rest) → r ≡ or-zero (first-of (four q₁ q₂ q₃ q₆ rest))
+after-four q₁ q₂ q₃ q₆ rest r e h = let f = none-of q₁ q₂ q₃ q₆ [] tt (sym e) in rw (f .one, f .two, f .three, f .six) h
+
+module _ {index : Index} {vectors targets edges versions : ℕ} {marks : List ℕ} {pool : ℕ} {wrong : Bool} {r₁ : ℕ} (d : Decided index vectors targets edges versions marks pool wrong [] r₁) where
+  pub decided-before : (rest : List Test) → (r₁ ≡ 0 → ⊥) → Decided index vectors targets edges versions marks pool wrong rest r₁
+  unfolding index-tests store-view state-of
+  decided-before rest n = record { does = λ vs ts es ns ps. first-four (bad₁ index) (bad₂ index) (bad₃ index (lengths vectors targets edges versions (length marks) pool) || wrong) (bad₆ index marks (index .capacity)) rest r₁ (d .does vs ts es ns ps) n }
+
+  pub decided-after : (rest : List Test) (r : ℕ) → r₁ ≡ 0 → r ≡ or-zero (first-of rest) → Decided index vectors targets edges versions marks pool wrong rest r
+  unfolding index-tests store-view state-of
+  decided-after rest r z h = record { does = λ vs ts es ns ps. after-four (bad₁ index) (bad₂ index) (bad₃ index (lengths vectors targets edges versions (length marks) pool) || wrong) (bad₆ index marks (index .capacity)) rest r (sym z ∙ d .does vs ts es ns ps) h }
+
+module _ (index : Index) (vectors targets edges versions marks pool : List ℕ) {wrong : Bool} {rest : List Test} {r : ℕ} (p : All Numbered rest)
+    (d : Decided index (length vectors) (length targets) (length edges) (length versions) marks (length pool) wrong rest r) where
   abbrev lent : Lengths
   lent = lengths (length vectors) (length targets) (length edges) (length versions) (length marks) (length pool)
 
-  found : r ≡ or-zero (first-of (four (bad₁ index) (bad₂ index) (bad₃ index lent || wrong) (bad₆ index marks (index .capacity)) []))
+  found : r ≡ or-zero (first-of (four (bad₁ index) (bad₂ index) (bad₃ index lent || wrong) (bad₆ index marks (index .capacity)) rest))
   unfolding index-tests store-view state-of
   found = d .does vectors targets edges versions pool
 
   none-found : r ≡ 0 → Four (bad₁ index) (bad₂ index) (bad₃ index lent || wrong) (bad₆ index marks (index .capacity))
-  none-found z = none-of _ _ _ _ (sym found ∙ z)
+  none-found z = none-of _ _ _ _ rest p (sym found ∙ z)
 
-  -- a number that is not 0 is the number given, whatever tests come after the shared ones
-  pub turned-back : (r ≡ 0 → ⊥) → (rest : List Test)
+  -- a number that is not 0 is the number given
+  pub turned-back : (r ≡ 0 → ⊥)
       → let w = state-of index vectors targets edges versions marks pool in first-of (index-tests size-answer (lengths-of w) (view-of stored w) (w .live) (w .guard) wrong rest) ≡ some r
   unfolding index-tests stored store-ops store-view lengths-of state-of
-  turned-back n rest =
-      some-of (bad₁ index) (bad₂ index) (bad₃ index lent || wrong) (bad₆ index marks (index .capacity)) rest r found n
+  turned-back n = first-number _ r found n
 
-  -- 0 leaves it to the tests that come after the shared ones
-  pub let-through : r ≡ 0 → (rest : List Test)
-      → let w = state-of index vectors targets edges versions marks pool in first-of (index-tests size-answer (lengths-of w) (view-of stored w) (w .live) (w .guard) wrong rest) ≡ first-of rest
+  -- 0 is none
+  pub let-through : r ≡ 0
+      → let w = state-of index vectors targets edges versions marks pool in first-of (index-tests size-answer (lengths-of w) (view-of stored w) (w .live) (w .guard) wrong rest) ≡ none
   unfolding index-tests stored store-ops store-view lengths-of state-of
-  let-through z rest = let f = none-found z in rw (f .one, f .two, f .three, f .six)
+  let-through z = no-number (four (bad₁ index) (bad₂ index) (bad₃ index lent || wrong) (bad₆ index marks (index .capacity)) rest) (omega arith, (omega arith, (omega arith, (omega arith, p)))) (sym found ∙ z)
+
+  -- nor does a test of the call's own hold
+  pub own-none : r ≡ 0 → first-of rest ≡ none
+  own-none z = let f = none-found z in no-number rest p (rw (f .one, f .two, f .three, f .six) at (sym found ∙ z))
 
   pub not-wrong : r ≡ 0 → wrong ≡ false
   not-wrong z = or-neither (bad₃ index lent) wrong (none-found z .three) .1
@@ -204,7 +225,7 @@ module _ (index : Index) (vectors targets edges versions marks pool : List ℕ) 
   unfolding exact store-view state-of
   passed z =
       let f = none-found z in
-      let m = size index in
+      let m = sizes-of index in
       let sized = not-false (sizes-ok limits m) (f .one) in
       let s = ranges m sized in
       let l = passed-lengths m lent (not-false (lengths-ok limits m lent) (or-neither (bad₃ index lent) wrong (f .three) .0)) in

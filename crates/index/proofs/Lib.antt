@@ -3,6 +3,7 @@ pub mod Tests
 pub mod Decide
 pub mod Makes
 pub mod Shown
+pub mod Finds
 pub mod Calls
 pub mod History
 pub mod Runs

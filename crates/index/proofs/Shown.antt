@@ -141,31 +141,31 @@ refused-number n (Target s place) = refl
 
 -- the tests of a reading are the shared ones alone
 module _ {index : Index} {vectors targets edges versions marks pool : List ℕ} {r : ℕ}
-    (d : Decided index (length vectors) (length targets) (length edges) (length versions) marks (length pool) false r) where
+    (d : Decided index (length vectors) (length targets) (length edges) (length versions) marks (length pool) false [] r) where
   pub reads-back : {q : Reading} → (r ≡ 0 → ⊥) → Reads index vectors targets edges versions marks pool q (Refused r)
   unfolding tests answer-of
   reads-back {q} n =
       let w = state-of index vectors targets edges versions marks pool in
-      record { does = sym (step-back w (reads w (reading-of q)) r (turned-back index vectors targets edges versions marks pool d n []) ∙ ap (λ a. (w, a)) (refused-number r q)) }
+      record { does = sym (step-back w (reads w (reading-of q)) r (turned-back index vectors targets edges versions marks pool tt d n) ∙ ap (λ a. (w, a)) (refused-number r q)) }
 
   pub reads-on : {q : Reading} {v : Value} → r ≡ 0 → Answers index targets edges versions marks q v → Reads index vectors targets edges versions marks pool q v
   unfolding tests perform
   reads-on {q} z a =
       let w = state-of index vectors targets edges versions marks pool in
-      record { does = ap (λ a. (w, a)) (a .does vectors pool) ∙ sym (step-on w (reads w (reading-of q)) (let-through index vectors targets edges versions marks pool d z [])) }
+      record { does = ap (λ a. (w, a)) (a .does vectors pool) ∙ sym (step-on w (reads w (reading-of q)) (let-through index vectors targets edges versions marks pool tt d z)) }
 
   -- a vector that is not given is the empty part
   pub vector-back : {slot : ℕ} {part : List ℕ} → (r ≡ 0 → ⊥) → part ≡ [] → Reads-vector index vectors targets edges versions marks pool slot part
   unfolding tests refused-as reading-refused
   vector-back {slot} n e =
       let w = state-of index vectors targets edges versions marks pool in
-      record { does = ap (λ l. (w, vector l)) e ∙ sym (step-back w (reads w (read-vector slot)) r (turned-back index vectors targets edges versions marks pool d n [])) }
+      record { does = ap (λ l. (w, vector l)) e ∙ sym (step-back w (reads w (read-vector slot)) r (turned-back index vectors targets edges versions marks pool tt d n)) }
 
   pub vector-on : {slot : ℕ} {part : List ℕ} → r ≡ 0 → part ≡ live-vector (index .dim) vectors marks slot → Reads-vector index vectors targets edges versions marks pool slot part
   unfolding tests perform reading stored store-ops store-view state-of live-vector is-valid vector-of
   vector-on {slot} z e =
       let w = state-of index vectors targets edges versions marks pool in
-      record { does = ap (λ l. (w, vector l)) (e ∙ other (eqb (getD marks slot 0) 0)) ∙ sym (step-on w (reads w (read-vector slot)) (let-through index vectors targets edges versions marks pool d z [])) }
+      record { does = ap (λ l. (w, vector l)) (e ∙ other (eqb (getD marks slot 0) 0)) ∙ sym (step-on w (reads w (read-vector slot)) (let-through index vectors targets edges versions marks pool tt d z)) }
     where
       other : (b : Bool) → cond b [] (part (index .dim) slot vectors) ≡ cond (not b) (part (index .dim) slot vectors) []
       other true = refl

@@ -15,6 +15,7 @@ use Rattle.index.specs.declared.Created.the-variants.{Refused, Done}
 use Rattle.index.specs.Calls.{Making, Answer, create, refused, created}
 use Rattle.index.specs.Refusals.{first-of, or-zero, making-tests}
 use Rattle.index.specs.Step.{State, stored, made}
+use Rattle.index.specs.Outputs.{no-outputs}
 use Rattle.index.specs.Runs.{Run}
 use Rattle.index.specs.Index.{sizes, lengths, state-of}
 
@@ -82,7 +83,7 @@ unfoldable pub left-by : Created → State Store → List ℕ → List ℕ → L
 left-by (Refused n) w vectors targets edges versions marks pool = with-slices w vectors targets edges versions marks pool
 left-by (Done i) w vectors targets edges versions marks pool = state-of i vectors targets edges versions marks pool
 
--- `create` takes no scratch
+-- `create` takes neither outputs nor scratch
 abbrev pub create-run : Making → State Store → List ℕ → List ℕ → List ℕ → List ℕ → List ℕ → List ℕ → List ℕ → List ℕ → List ℕ → List ℕ → List ℕ → List ℕ → Created → List ℕ → Run
 create-run m w vectors targets edges versions marks pool vectors′ targets′ edges′ versions′ marks′ pool′ r scratch =
     record {
@@ -90,6 +91,8 @@ create-run m w vectors targets edges versions marks pool vectors′ targets′ e
       before = with-slices w vectors targets edges versions marks pool;
       after = left-by r w vectors′ targets′ edges′ versions′ marks′ pool′;
       answer = created-as r;
+      outputs-before = no-outputs;
+      outputs-after = no-outputs;
       scratch-before = scratch;
       scratch-after = scratch;
     }

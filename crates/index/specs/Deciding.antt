@@ -1,7 +1,7 @@
--- What the tests that calls share decide, and what is known where none of them holds. Assumes nothing.
+-- What the tests decide, and what is known where none that calls share holds. Assumes nothing.
 use Prim.Native.Nat.{ℕ, _≤_, _<_}
 use mathlib.Core.Bool.{Bool, true, false, cond}
-use mathlib.Core.List.{List, []}
+use mathlib.Core.List.{List}
 use mathlib.Core.Path.{_≡_}
 use lib.ListN.{length}
 use Rattle.slots.specs.Sizes.{Sizes, limits, sizes-ok, alpha-ok}
@@ -11,18 +11,18 @@ use Rattle.slots.specs.Rows.{arrays}
 use Rattle.index.specs.declared.Index.{Index}
 use Rattle.index.specs.declared.Words.{Words}
 use Rattle.index.specs.declared.Words.the-variants.{Refused, Words as words}
-use Rattle.index.specs.Refusals.{first-of, or-zero, index-tests, guard-fault}
+use Rattle.index.specs.Refusals.{Test, first-of, or-zero, index-tests, guard-fault}
 use Rattle.index.specs.Index.{size-answer, lengths, guard-of, state-of}
 
 -- the size answer; 1 outside the ranges
 unfoldable pub words-for : Sizes → Words
 words-for z = cond (sizes-ok limits z) (words (size-answer (z .dim) (z .capacity) (z .degree))) (Refused 1)
 
--- r is the number of the first of the shared tests that holds, 0 if none does; of five slices the lengths alone count
-pub record Decided (index : Index) (vectors targets edges versions : ℕ) (marks : List ℕ) (pool : ℕ) (wrong : Bool) (r : ℕ) : Type 0 where
+-- r is the number of the first test that holds, of the shared ones and then of a call's own, 0 if none does; of five slices the lengths alone count
+pub record Decided (index : Index) (vectors targets edges versions : ℕ) (marks : List ℕ) (pool : ℕ) (wrong : Bool) (rest : List Test) (r : ℕ) : Type 0 where
   pub does : (vs ts es ns ps : List ℕ)
       → r ≡ or-zero (first-of (index-tests size-answer (lengths vectors targets edges versions (length marks) pool)
-      (store-view (state-of index vs ts es ns marks ps .graph)) (index .live) (guard-of (index .guard)) wrong []))
+      (store-view (state-of index vs ts es ns marks ps .graph)) (index .live) (guard-of (index .guard)) wrong rest))
 
 -- an index and six slices of which no shared test holds
 pub record Passed (index : Index) (vectors targets edges versions marks pool : List ℕ) : Type 0 where

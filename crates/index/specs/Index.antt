@@ -21,6 +21,9 @@ size-answer dim capacity degree = 81920 + 4 * capacity + 2048 * degree
 abbrev pub sizes : ℕ → ℕ → ℕ → Float → Sizes
 sizes dim capacity degree alpha = record { dim = dim; capacity = capacity; degree = degree; alpha = alpha }
 
+abbrev pub sizes-of : Index → Sizes
+sizes-of i = sizes (i .dim) (i .capacity) (i .degree) (i .alpha)
+
 abbrev pub lengths : ℕ → ℕ → ℕ → ℕ → ℕ → ℕ → Lengths
 lengths vectors targets edges versions marks pool =
     record { vectors = vectors; targets = targets; edge-versions = edges; versions = versions; marks = marks; pool = pool }

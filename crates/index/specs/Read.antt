@@ -11,6 +11,7 @@ use Rattle.index.specs.declared.Value.the-variants.{Refused, Number, Alp
 use Rattle.index.specs.Calls.{read-dim, read-capacity, read-degree, read-alpha, read-entry, read-live, read-mark, read-version, read-target, read-vector, read, Call, Answer, refused, number, alpha, version, vector}
 use Rattle.index.specs.Calls as Calls
 use Rattle.index.specs.Step.{State, stored, reading, step}
+use Rattle.index.specs.Outputs.{no-outputs}
 use Rattle.index.specs.Runs.{Run, lengths-of}
 use Rattle.index.specs.Index.{size-answer, state-of}
 
@@ -51,11 +52,20 @@ module _ (index : Index) (vectors targets edges versions marks pool : List ℕ) 
   pub record Reads-vector (slot : ℕ) (part : List ℕ) : Type 0 where
     pub does : (before, vector part) ≡ step size-answer stored before (reads before (read-vector slot))
 
-  -- ---- their runs; they take no scratch
+  -- ---- their runs; they take neither outputs nor scratch
 
   abbrev reading-run : Calls.Reading → Answer → List ℕ → Run
   reading-run q answer scratch =
-      record { operation = read q; before = before; after = before; answer = answer; scratch-before = scratch; scratch-after = scratch }
+      record {
+        operation = read q;
+        before = before;
+        after = before;
+        answer = answer;
+        outputs-before = no-outputs;
+        outputs-after = no-outputs;
+        scratch-before = scratch;
+        scratch-after = scratch;
+      }
 
   abbrev pub read-run : Reading → Value → List ℕ → Run
   read-run q r scratch = reading-run (reading-of q) (answer-of r) scratch

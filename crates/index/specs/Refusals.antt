@@ -67,6 +67,13 @@ or-zero (some n) = n
 unfoldable pub new-pool : View → Config → List ℕ
 new-pool v c = landmark-pool v (normalized c) (or-zero (residual-entry v []))
 
+-- ---- search
+
+-- 7 and 8, of a search; z are the sizes of the index
+abbrev pub search-tests : (ℕ → ℕ → ℕ → ℕ) → Sizes → ℕ → ℕ → ℕ → ℕ → List Test
+search-tests size-answer z k beam room scratch =
+    (7, ltb (limits .beam) beam || ltb room k) ∷ (8, ltb scratch (size-answer (z .dim) (z .capacity) (z .degree))) ∷ []
+
 -- ---- every call
 
 -- `size-answer` is the library's own size answer, by dim, capacity and degree; `lent` the lengths of the six slices lent; v, live and g what the call
@@ -92,7 +99,7 @@ module _ (size-answer : ℕ → ℕ → ℕ → ℕ) (lent : Lengths) (v : View)
   tests (create m) = making-tests lent m
   tests (read r) = index-tests false []
   tests (search-for query k beam room scratch) =
-      index-tests (not (eqb (length query) (v .sizes .dim))) ((7, ltb (limits .beam) beam || ltb room k) ∷ (8, short scratch) ∷ [])
+      index-tests (not (eqb (length query) (v .sizes .dim))) (search-tests size-answer (v .sizes) k beam room scratch)
   tests (insert bytes beam room scratch) =
       let n = length bytes / v .sizes .dim in
       index-tests (ltb room n)

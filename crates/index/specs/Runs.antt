@@ -9,16 +9,19 @@ use Rattle.slots.specs.View.{View}
 use Rattle.slots.specs.Store.{Store, store-view}
 use Rattle.guard.specs.Guard.{Guard}
 use Rattle.index.specs.Calls.{Making, Operation, create, Call, Answer}
+use Rattle.index.specs.Outputs.{Outputs, written, Named}
 use Rattle.index.specs.Refusals.{first-of, making-tests}
 use Rattle.index.specs.Step.{State, step, refusal, made, stored, plain}
 use Rattle.index.specs.History.{Seen, seen, trace, Within}
 
--- one run of a public function: what it was given and lent, what the scratch held, and what it left and answered
+-- one run of a public function: what it was given and lent, what outputs and scratch held, and what it left and answered
 pub record Run : Type 0 where
   pub operation : Operation
   pub before : State Store
   pub after : State Store
   pub answer : Answer
+  pub outputs-before : Outputs
+  pub outputs-after : Outputs
   pub scratch-before : List ℕ
   pub scratch-after : List ℕ
 
@@ -61,7 +64,9 @@ module _ (size-answer : ℕ → ℕ → ℕ → ℕ) where
 
   -- the contract of every public function: nothing is said of the scratch but that a call that is turned back leaves it
   pub record Meets (r : Run) : Type 0 where
+    pub named : Named (r .operation) (r .outputs-before) (r .scratch-before)
     pub does : (r .after, r .answer) ≡ step size-answer stored (r .before) (call-of r)
+    pub writes : r .outputs-after ≡ written (r .answer) (r .outputs-before)
     pub keeps : (n : ℕ) → run-refusal r ≡ some n → r .scratch-after ≡ r .scratch-before
 
   -- what the app has after a run: where it was turned back, what it had

@@ -4,8 +4,8 @@ use Prim.Native.Nat.{ℕ, _-_, _*_, _/_}
 use mathlib.Core.Bool.{Bool, true, false, cond}
 use mathlib.Core.List.{List, [], _∷_, _++_, map}
 use mathlib.Core.Option.{Option, none, some}
-use lib.ListN.{length, take, drop, getD, replicate}
-use Rattle.lists.specs.Lists.{range, part}
+use lib.ListN.{length, take, getD, replicate}
+use Rattle.lists.specs.Lists.{range, part, put-front}
 use Rattle.slots.specs.Sizes.{Sizes, Lengths, limits}
 use Rattle.slots.specs.View.{View, live-neighbors, live-slots, free-slots}
 use Rattle.slots.specs.Ops.{Ops}
@@ -40,7 +40,7 @@ stored = record {
   ops = store-ops;
   new = λ m. record { arrays = new-arrays (m .sizes) (m .given) (m .vectors) (m .rows); capacity = m .sizes .capacity; alpha = m .sizes .alpha; entry = m .entry };
   no-words = replicate (limits .pool) 0;
-  put-pool = λ words pool. pool ++ drop (length pool) words;
+  put-pool = λ words pool. put-front pool words;
   version-of = λ b s. getD (b .arrays .versions) s 0;
 }
 

@@ -2,11 +2,13 @@
 mod making;
 mod readings;
 mod refusals;
+mod searching;
 
 pub use making::create;
 pub use readings::read;
 pub use readings::read_vector;
 pub use refusals::scratch_words;
+pub use searching::search;
 
 // The settings of a guard that is on, and the length of its landmark pool.
 pub struct Settings {
@@ -65,4 +67,10 @@ pub enum Value {
     Number(u32),
     Alpha(f32),
     Version(u16),
+}
+
+// How many were found, or the number of a refusal.
+pub enum Found {
+    Refused(u32),
+    Found(u32),
 }

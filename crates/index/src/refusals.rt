@@ -4,8 +4,9 @@ use super::Index;
 use super::Settings;
 use super::Words;
 ghost use mathlib.Core.Bool.{not, _||_};
+ghost use mathlib.Core.List.{[]};
 ghost use mathlib.Core.Path.{_≡_};
-ghost use Prim.Native.Nat.{_*_};
+ghost use Prim.Native.Nat.{ℕ, _*_};
 ghost use lib.Ieee.{Float};
 ghost use lib.Dec.{eqb, ltb};
 ghost use lib.ListN.{length};
@@ -13,7 +14,7 @@ ghost use Rattle.lists.specs.Lists.{filter, range};
 ghost use Rattle.slots.specs.Sizes.{limits, within, sizes-ok, alpha-ok, lengths-ok};
 ghost use Rattle.slots.specs.Store.{is-valid};
 ghost use Rattle.index.specs.Refusals.{guard-fault, config-over, config-zero};
-ghost use Rattle.index.specs.Index.{guard-of, config, sizes, lengths};
+ghost use Rattle.index.specs.Index.{size-answer, guard-of, config, sizes, lengths};
 ghost use Rattle.index.specs.Deciding.{words-for, Decided};
 
 // Whether a number is outside a range that begins at 1.
@@ -166,7 +167,7 @@ pub fn index_refusal(
     pool: usize,
     wrong: bool,
 ) -> u32
-    ensures { λ r. ⌜ Decided index vectors targets edges versions (now (marks .entry)) pool wrong r ⌝ }
+    ensures { λ r. ⌜ Decided index vectors targets edges versions (now (marks .entry)) pool wrong [] r ⌝ }
 {
     if sizes_bad(index.dim, index.capacity, index.degree) {
         return 1;
@@ -194,6 +195,13 @@ pub fn index_refusal(
         return 6;
     }
     0
+}
+
+// Row 8: the scratch is shorter than the size answer.
+pub fn scratch_short(capacity: u32, degree: u32, scratch: usize) -> bool
+    ensures { λ r. ⌜ ((dim : ℕ) → r ≡ ltb scratch (size-answer dim capacity degree)) ⌝ }
+{
+    scratch < 81920 + 4 * slots::marks::wide(capacity) + 2048 * slots::marks::wide(degree)
 }
 
 // The size answer: how many words of scratch the calls on an index of these sizes ask for.

@@ -11,3 +11,4 @@ pub mod Places
 pub mod Firsts
 pub mod Merging
 pub mod Members
+pub mod Front

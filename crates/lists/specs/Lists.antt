@@ -3,7 +3,7 @@ use Prim.Native.Nat.{ℕ, zero, suc, _+_, _*_}
 use mathlib.Core.Bool.{Bool, true, false, not, _||_, cond}
 use mathlib.Core.List.{List, [], _∷_, _++_}
 use mathlib.Core.Path.{_≡_}
-use lib.ListN.{take, drop}
+use lib.ListN.{length, take, drop}
 use lib.Dec.{eqb, ltb}
 
 module _ {A : Type 0} where
@@ -47,6 +47,10 @@ module _ {A : Type 0} where
   chunks zero n xs = []
   chunks (suc k) n [] = []
   chunks (suc k) n (x ∷ xs) = take n (x ∷ xs) ∷ chunks k n (drop n (x ∷ xs))
+
+  -- a list with its first elements replaced
+  abbrev pub put-front : List A → List A → List A
+  put-front xs l = xs ++ drop (length xs) l
 
 module _ {A B : Type 0} where
   abbrev pub foldl : (B → A → B) → B → List A → B

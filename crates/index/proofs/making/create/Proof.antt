@@ -2,44 +2,31 @@ use Rattle.index.proofs.Makes.{fresh-off, creates-fresh}
 use borrow.Author.Needs.{needs}
 use Rattle.index.proofs.making.create.Statement.{statement}
 use Rattle.index.proofs.making.create.Tie as tie
-use Rattle.index.proofs.making.create.Reads as reads
-use Rattle.index.proofs.making.create.Lts as lts
-use Rattle.index.proofs.making.make.Reads as make-reads
-use Rattle.index.proofs.making.new_index.Reads as new-index-reads
 
--- src/making.rt:230:9
 new-index-requires : tie.Need-new-index-requires
 new-index-requires c κs = search needs
 
--- src/making.rt:231:5
 make-requires : tie.Need-make-requires
 make-requires c κs = fresh-off (c .before .before .before .before .before .before .new-index .ensures)
 
--- src/making.rt:212:1
 same-length : tie.Need-same-length
 same-length c = search needs
 
--- src/making.rt:212:1
 same-length-2 : tie.Need-same-length-2
 same-length-2 c = search needs
 
--- src/making.rt:212:1
 same-length-3 : tie.Need-same-length-3
 same-length-3 c = search needs
 
--- src/making.rt:212:1
 same-length-4 : tie.Need-same-length-4
 same-length-4 c = search needs
 
--- src/making.rt:212:1
 same-length-5 : tie.Need-same-length-5
 same-length-5 c = search needs
 
--- src/making.rt:212:1
 same-length-6 : tie.Need-same-length-6
 same-length-6 c = search needs
 
--- src/making.rt:212:1
 returns : tie.Need-returns
 returns c = creates-fresh (c .before .before .before .before .before .before .before .before .before .before .before .before .before .before .before .before .before .before .before .new-index .ensures) (c .before .before .before .before .before .before .before .before .before .before .before .before .make .ensures)
 

@@ -2,48 +2,34 @@ use Rattle.index.proofs.Makes.{creates-back, creates-room, creates-done
 use borrow.Author.Needs.{needs}
 use Rattle.index.proofs.making.make.Statement.{statement}
 use Rattle.index.proofs.making.make.Tie as tie
-use Rattle.index.proofs.making.make.Reads as reads
-use Rattle.index.proofs.making.make.Lts as lts
-use Rattle.index.proofs.making.making_refusal.Reads as making-refusal-reads
-use Rattle.index.proofs.making.write.Reads as write-reads
 
--- src/making.rt:184:9
 making-refusal-requires : tie.Need-making-refusal-requires
 making-refusal-requires c κs = search needs
 
--- src/making.rt:196:9
 returns : tie.Need-returns
 returns c = creates-back (c .before .making-refusal .ensures) (c .if1 .taken)
 
--- src/making.rt:198:5
 write-requires : tie.Need-write-requires
 write-requires c κs = creates-room (c .before .before .before .before .before .before .before .making-refusal .ensures) (c .before .before .before .before .before .before .if1 .left)
 
--- src/making.rt:170:1
 same-length : tie.Need-same-length
 same-length c = search needs
 
--- src/making.rt:170:1
 same-length-2 : tie.Need-same-length-2
 same-length-2 c = search needs
 
--- src/making.rt:170:1
 same-length-3 : tie.Need-same-length-3
 same-length-3 c = search needs
 
--- src/making.rt:170:1
 same-length-4 : tie.Need-same-length-4
 same-length-4 c = search needs
 
--- src/making.rt:170:1
 same-length-5 : tie.Need-same-length-5
 same-length-5 c = search needs
 
--- src/making.rt:170:1
 same-length-6 : tie.Need-same-length-6
 same-length-6 c = search needs
 
--- src/making.rt:170:1
 returns-2 : tie.Need-returns-2
 returns-2 c = creates-done (c .before .before .before .before .before .before .before .before .before .before .before .before .before .before .before .before .before .before .before .before .making-refusal .ensures) (c .before .before .before .before .before .before .before .before .before .before .before .before .before .before .before .before .before .before .before .if1 .left) (c .before .before .before .before .before .before .before .before .before .before .before .before .before .before .before .before .before .before .before .before .before .before .before .before .before .before .before .before .before .pre) (c .before .before .before .before .before .before .before .before .before .before .before .before .write .ensures)
 

@@ -13,7 +13,7 @@ returns c = reads-back (c .before .index-refusal .ensures) (c .if1 .taken)
 answer-requires : tie.Need-answer-requires
 answer-requires c κs =
     let a = c .before .before .before .before .before .before .before .before .args in
-    passed-rows (passed (a .index) (a .vectors .now) (a .targets .now) (a .edges .now) (a .versions .now) (a .marks .now) (a .pool .now) (c .before .index-refusal .ensures) (c .if1 .left))
+    passed-rows (passed (a .index) (a .vectors .now) (a .targets .now) (a .edges .now) (a .versions .now) (a .marks .now) (a .pool .now) tt (c .before .index-refusal .ensures) (c .if1 .left))
 
 returns-2 : tie.Need-returns-2
 returns-2 c = reads-on (c .before .before .index-refusal .ensures) (c .before .if1 .left) (c .answer .ensures)

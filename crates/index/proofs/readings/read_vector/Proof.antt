@@ -26,7 +26,7 @@ cast-dim c = search needs
 live-vector-requires : tie.Need-live-vector-requires
 live-vector-requires c κs =
     let a = c .before .before .before .before .before .before .before .before .before .args in
-    passed-bytes (passed (a .index) (a .vectors .now) (a .targets .now) (a .edges .now) (a .versions .now) (a .marks .now) (a .pool .now) (c .before .before .index-refusal .ensures) (c .before .if1 .left))
+    passed-bytes (passed (a .index) (a .vectors .now) (a .targets .now) (a .edges .now) (a .versions .now) (a .marks .now) (a .pool .now) tt (c .before .before .index-refusal .ensures) (c .before .if1 .left))
 
 returns-2 : tie.Need-returns-2
 returns-2 c = vector-on (c .before .before .before .index-refusal .ensures) (c .before .before .if1 .left) (c .live-vector .ensures)
