@@ -15,16 +15,16 @@ use Rattle.index.specs.declared.Found.{Found}
 use Rattle.index.specs.declared.Found.the-variants as Shown
 use Rattle.index.specs.declared.Created.{Created}
 use Rattle.index.specs.declared.Created.the-variants.{Refused, Done}
-use Rattle.index.specs.Calls.{Making, Answer, refused, created, refused-as}
-use Rattle.index.specs.Outputs.{no-outputs, written, Named}
-use Rattle.index.specs.Refusals.{tests}
-use Rattle.index.specs.Step.{State, stored, perform, refusal, step}
-use Rattle.index.specs.Runs.{lengths-of, call-of, run-refusal, Meets, History-of-runs}
+use Rattle.calls.specs.Calls.{Making, Answer, refused, created, refused-as}
+use Rattle.calls.specs.Outputs.{no-outputs, written, Named}
+use Rattle.calls.specs.Refusals.{tests}
+use Rattle.calls.specs.Step.{State, stored, perform, refusal, step}
+use Rattle.calls.specs.Runs.{lengths-of, call-of, run-refusal, Meets, History-of-runs}
 use Rattle.index.specs.Index.{size-answer, state-of}
 use Rattle.index.specs.Create.{Turned-back, Carried-out, Creates, with-slices, created-as, left-by, create-run}
 use Rattle.index.specs.Read.{answer-of, Reads, Reads-vector, read-run, read-vector-run}
 use Rattle.index.specs.Search.{found-as, Searches, search-run}
-use Rattle.index.proofs.Runs.{history-of-runs}
+use Rattle.calls.proofs.Runs.{history-of-runs}
 use Rattle.index.proofs.Decide.{step-back, step-on}
 
 -- ---- making, whatever index the app had before

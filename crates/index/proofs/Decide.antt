@@ -20,13 +20,13 @@ use Rattle.slots.specs.Rows.{arrays, RowShape}
 use Rattle.slots.proofs.Places.{rows-shaped}
 use Rattle.index.specs.declared.Index.{Index}
 use Rattle.index.specs.declared.Words.the-variants.{Refused, Words as words}
-use Rattle.index.specs.Calls.{Call, refused-as}
-use Rattle.index.specs.Refusals.{Test, first-of, or-zero, index-tests, tests, guard-fault}
-use Rattle.index.specs.Step.{State, view-of, stored, perform, refusal, settle, step}
-use Rattle.index.specs.Runs.{lengths-of}
+use Rattle.calls.specs.Calls.{Call, refused-as}
+use Rattle.calls.specs.Refusals.{Test, first-of, or-zero, index-tests, tests, guard-fault}
+use Rattle.calls.specs.Step.{State, view-of, stored, perform, refusal, settle, step}
+use Rattle.calls.specs.Runs.{lengths-of}
 use Rattle.index.specs.Index.{size-answer, sizes, sizes-of, lengths, guard-of, state-of}
 use Rattle.index.specs.Deciding.{words-for, Decided, Passed}
-use Rattle.index.proofs.Tests.{and-both, or-neither, exact, passed-lengths}
+use Rattle.calls.proofs.Tests.{and-both, or-neither, exact, passed-lengths}
 
 -- ---- numbers
 

@@ -23,15 +23,15 @@ use Rattle.walk.specs.Walk.{search-pool}
 use Rattle.walk.specs.Scratch.{Ready, Pool}
 use Rattle.index.specs.declared.Index.{Index}
 use Rattle.index.specs.declared.Found.the-variants.{Refused, Found as Nearest}
-use Rattle.index.specs.Calls.{Call, found, refused-as}
-use Rattle.index.specs.Refusals.{search-tests, tests}
-use Rattle.index.specs.Outputs.{distances, written}
-use Rattle.index.specs.Step.{State, stored, perform}
-use Rattle.index.specs.Runs.{lengths-of}
+use Rattle.calls.specs.Calls.{Call, found, refused-as}
+use Rattle.calls.specs.Refusals.{search-tests, tests}
+use Rattle.calls.specs.Outputs.{distances, written}
+use Rattle.calls.specs.Step.{State, stored, perform}
+use Rattle.calls.specs.Runs.{lengths-of}
 use Rattle.index.specs.Index.{size-answer, sizes-of, state-of}
 use Rattle.index.specs.Deciding.{Decided, Passed}
 use Rattle.index.specs.Search.{Fits, Shown, found-as, search-outputs, searches, Searches}
-use Rattle.index.proofs.Tests.{first-none, or-neither}
+use Rattle.calls.proofs.Tests.{first-none, or-neither}
 use Rattle.index.proofs.Decide.{Numbered, decided-before, decided-after, turned-back, let-through, own-none, not-wrong, passed, passed-rows, passed-bytes, step-back, step-on}
 
 -- ---- rows 7 and 8

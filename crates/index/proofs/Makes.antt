@@ -22,13 +22,13 @@ use Rattle.index.specs.declared.Guard.the-variants.{Off}
 use Rattle.index.specs.declared.Created.{Created}
 use Rattle.index.specs.declared.Created.the-variants.{Refused, Done}
 use Rattle.slots.specs.Sizes.{limits, sizes-ok, alpha-ok, lengths-ok}
-use Rattle.index.specs.Calls.{Making}
-use Rattle.index.specs.Refusals.{first-of, or-zero, names-given, entry-given, making-tests}
+use Rattle.calls.specs.Calls.{Making}
+use Rattle.calls.specs.Refusals.{first-of, or-zero, names-given, entry-given, making-tests}
 use Rattle.index.specs.Index.{sizes, lengths, guard-of, state-of}
-use Rattle.index.specs.Step.{stored, with-graph, made}
+use Rattle.calls.specs.Step.{stored, with-graph, made}
 use Rattle.index.specs.Create.{making, fresh-index, making-of, Judged, Creates}
 use Rattle.index.proofs.Decide.{first-number}
-use Rattle.index.proofs.Tests.{exact, none-judged, lengths-made, accepted}
+use Rattle.calls.proofs.Tests.{exact, none-judged, lengths-made, accepted}
 
 -- ---- row 5, one word a turn
 

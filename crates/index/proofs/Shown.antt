@@ -20,9 +20,9 @@ use Rattle.index.specs.declared.Reading.{Reading}
 use Rattle.index.specs.declared.Reading.the-variants.{Dim, Capacity, Degree, Alpha, Entry, Live, Mark, Version, Target}
 use Rattle.index.specs.declared.Value.{Value}
 use Rattle.index.specs.declared.Value.the-variants.{Refused, Number, Alpha as Factor, Version as Stamp}
-use Rattle.index.specs.Calls.{read-vector, read, refused, number, version, vector, refused-as, reading-refused}
-use Rattle.index.specs.Refusals.{tests}
-use Rattle.index.specs.Step.{stored, reading, perform}
+use Rattle.calls.specs.Calls.{read-vector, read, refused, number, version, vector, refused-as, reading-refused}
+use Rattle.calls.specs.Refusals.{tests}
+use Rattle.calls.specs.Step.{stored, reading, perform}
 use Rattle.index.specs.Index.{state-of}
 use Rattle.index.specs.Deciding.{Decided}
 use Rattle.index.specs.Read.{reading-of, answer-of, reads, Answers, Reads, Reads-vector}

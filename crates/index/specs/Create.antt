@@ -12,11 +12,11 @@ use Rattle.index.specs.declared.Index.{Index}
 use Rattle.index.specs.declared.Guard.the-variants.{Off}
 use Rattle.index.specs.declared.Created.{Created}
 use Rattle.index.specs.declared.Created.the-variants.{Refused, Done}
-use Rattle.index.specs.Calls.{Making, Answer, create, refused, created}
-use Rattle.index.specs.Refusals.{first-of, or-zero, making-tests}
-use Rattle.index.specs.Step.{State, stored, made}
-use Rattle.index.specs.Outputs.{no-outputs}
-use Rattle.index.specs.Runs.{Run}
+use Rattle.calls.specs.Calls.{Making, Answer, create, refused, created}
+use Rattle.calls.specs.Refusals.{first-of, or-zero, making-tests}
+use Rattle.calls.specs.Step.{State, stored, made}
+use Rattle.calls.specs.Outputs.{no-outputs}
+use Rattle.calls.specs.Runs.{Run}
 use Rattle.index.specs.Index.{sizes, lengths, state-of}
 
 -- what making is given, one by one

@@ -11,7 +11,7 @@ use Rattle.slots.specs.Rows.{arrays}
 use Rattle.index.specs.declared.Index.{Index}
 use Rattle.index.specs.declared.Words.{Words}
 use Rattle.index.specs.declared.Words.the-variants.{Refused, Words as words}
-use Rattle.index.specs.Refusals.{Test, first-of, or-zero, index-tests, guard-fault}
+use Rattle.calls.specs.Refusals.{Test, first-of, or-zero, index-tests, guard-fault}
 use Rattle.index.specs.Index.{size-answer, lengths, guard-of, state-of}
 
 -- the size answer; 1 outside the ranges

@@ -10,7 +10,7 @@ use Rattle.guard.specs.Guard as Guards
 use Rattle.index.specs.declared.Index.{Index}
 use Rattle.index.specs.declared.Guard.{Guard}
 use Rattle.index.specs.declared.Guard.the-variants.{Off, On}
-use Rattle.index.specs.Step.{State}
+use Rattle.calls.specs.Step.{State}
 
 -- the library's own size answer, in words of 32 bits: for the walk's list and marks, the plans of a batch, the candidates of all delete plans, and the
 -- guard's sample. It is the same for every dim.

@@ -1,12 +1,5 @@
-pub mod Calls
-pub mod Outputs
-pub mod Refusals
-pub mod Step
 pub mod Index
 pub mod Deciding
-pub mod History
-pub mod Runs
 pub mod Create
 pub mod Read
 pub mod Search
-pub mod Table

@@ -8,11 +8,11 @@ use Rattle.index.specs.declared.Reading.{Reading}
 use Rattle.index.specs.declared.Reading.the-variants.{Dim, Capacity, Degree, Alpha, Entry, Live, Mark, Version, Target}
 use Rattle.index.specs.declared.Value.{Value}
 use Rattle.index.specs.declared.Value.the-variants.{Refused, Number, Alpha as Factor, Version as Stamp}
-use Rattle.index.specs.Calls.{read-dim, read-capacity, read-degree, read-alpha, read-entry, read-live, read-mark, read-version, read-target, read-vector, read, Call, Answer, refused, number, alpha, version, vector}
-use Rattle.index.specs.Calls as Calls
-use Rattle.index.specs.Step.{State, stored, reading, step}
-use Rattle.index.specs.Outputs.{no-outputs}
-use Rattle.index.specs.Runs.{Run, lengths-of}
+use Rattle.calls.specs.Calls.{read-dim, read-capacity, read-degree, read-alpha, read-entry, read-live, read-mark, read-version, read-target, read-vector, read, Call, Answer, refused, number, alpha, version, vector}
+use Rattle.calls.specs.Calls as Calls
+use Rattle.calls.specs.Step.{State, stored, reading, step}
+use Rattle.calls.specs.Outputs.{no-outputs}
+use Rattle.calls.specs.Runs.{Run, lengths-of}
 use Rattle.index.specs.Index.{size-answer, state-of}
 
 unfoldable pub reading-of : Reading → Calls.Reading

@@ -11,10 +11,10 @@ use Rattle.candidates.specs.Words.{cands, Small}
 use Rattle.index.specs.declared.Index.{Index}
 use Rattle.index.specs.declared.Found.{Found}
 use Rattle.index.specs.declared.Found.the-variants.{Refused, Found as Nearest}
-use Rattle.index.specs.Calls.{search-for, Operation, Answer, refused, found}
-use Rattle.index.specs.Outputs.{Outputs, distances, written}
-use Rattle.index.specs.Step.{State, stored, step}
-use Rattle.index.specs.Runs.{Run, lengths-of}
+use Rattle.calls.specs.Calls.{search-for, Operation, Answer, refused, found}
+use Rattle.calls.specs.Outputs.{Outputs, distances, written}
+use Rattle.calls.specs.Step.{State, stored, step}
+use Rattle.calls.specs.Runs.{Run, lengths-of}
 use Rattle.index.specs.Index.{size-answer, state-of}
 
 -- n candidates in the words, and room for them

@@ -16,7 +16,7 @@ ghost use lib.ListN.{length};
 ghost use Rattle.slots.specs.Making.{Room, New};
 ghost use Rattle.index.specs.declared.Guard.the-variants.{Off};
 ghost use Rattle.index.specs.declared.Created.the-variants.{Done};
-ghost use Rattle.index.specs.Refusals.{first-of, or-zero, names-given, entry-given};
+ghost use Rattle.calls.specs.Refusals.{first-of, or-zero, names-given, entry-given};
 ghost use Rattle.index.specs.Create.{making, fresh-index, making-of, Judged, Creates};
 
 // Row 5, of the given rows: a word is neither blank nor a given slot.

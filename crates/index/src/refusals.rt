@@ -13,7 +13,7 @@ ghost use lib.ListN.{length};
 ghost use Rattle.lists.specs.Lists.{filter, range};
 ghost use Rattle.slots.specs.Sizes.{limits, within, sizes-ok, alpha-ok, lengths-ok};
 ghost use Rattle.slots.specs.Store.{is-valid};
-ghost use Rattle.index.specs.Refusals.{guard-fault, config-over, config-zero};
+ghost use Rattle.calls.specs.Refusals.{guard-fault, config-over, config-zero};
 ghost use Rattle.index.specs.Index.{size-answer, guard-of, config, sizes, lengths};
 ghost use Rattle.index.specs.Deciding.{words-for, Decided};
 

@@ -14,7 +14,7 @@ ghost use lib.Dec.{eqb, ltb};
 ghost use Rattle.slots.specs.Sizes.{limits};
 ghost use Rattle.slots.specs.Rows.{arrays};
 ghost use Rattle.walk.specs.Scratch.{Ready, Pool};
-ghost use Rattle.index.specs.Refusals.{search-tests};
+ghost use Rattle.calls.specs.Refusals.{search-tests};
 ghost use Rattle.index.specs.Index.{size-answer, sizes-of};
 ghost use Rattle.index.specs.Deciding.{Decided};
 ghost use Rattle.index.specs.Search.{Fits, Shown, Searches};

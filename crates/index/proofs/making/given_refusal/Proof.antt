@@ -1,6 +1,6 @@
 use mathlib.Core.Path.{sym, _∙_}
 use borrow.Author.Tests.{lt-ltb, le-ltb, not-true, not-false}
-use Rattle.index.specs.Refusals.{names-given}
+use Rattle.calls.specs.Refusals.{names-given}
 use borrow.Author.Needs.{needs}
 use Rattle.index.proofs.making.given_refusal.Statement.{statement}
 use Rattle.index.proofs.making.given_refusal.Tie as tie

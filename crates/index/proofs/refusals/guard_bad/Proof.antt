@@ -1,6 +1,6 @@
 use mathlib.Core.Path.{sym, _∙_}
 use Rattle.slots.specs.Sizes.{limits}
-use Rattle.index.specs.Refusals.{guard-fault}
+use Rattle.calls.specs.Refusals.{guard-fault}
 use Rattle.index.specs.Index.{guard-of}
 use borrow.Author.Needs.{needs}
 use Rattle.index.proofs.refusals.guard_bad.Statement.{statement}

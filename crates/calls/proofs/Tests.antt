@@ -1,0 +1,141 @@
+-- What follows from a test of the table that does not hold. Assumes nothing.
+use Prim.Native.Nat.{ℕ, _*_, _≤_, _<_}
+use mathlib.Core.Bool.{Bool, true, false, not, _&&_, _||_}
+use mathlib.Core.Path.{_≡_, refl, ap}
+use mathlib.Core.List.{List, [], _∷_}
+use mathlib.Core.Option.{none}
+use native.Mathlib.Omega.{arith}
+use borrow.Author.Tests.{leb-true, ltb-true, ltb-false, eqb-true, not-false}
+use lib.ListN.{length}
+use lib.Dec.{eqb, ltb, leb}
+use Rattle.slots.specs.Sizes.{Sizes, Lengths, limits, within, sizes-ok, alpha-ok, lengths-ok}
+use Rattle.slots.proofs.New.{Accepted}
+use Rattle.calls.specs.Calls.{Making}
+use Rattle.calls.specs.Refusals.{Test, first-of, or-zero, names-given, entry-given, making-tests}
+
+pub first-none : (n : ℕ) (q : Bool) (ts : List Test) → first-of ((n, q) ∷ ts) ≡ none → (q ≡ false) × (first-of ts ≡ none)
+first-none n true ts e = absurd (let z : _≡_ {A = ℕ} 0 1 = cc in omega arith)
+first-none n false ts e = (refl, e)
+
+pub and-both : (p q : Bool) → (p && q) ≡ true → (p ≡ true) × (q ≡ true)
+and-both true q e = (refl, e)
+and-both false q e = absurd (let z : _≡_ {A = ℕ} 0 1 = cc in omega arith)
+
+pub or-neither : (p q : Bool) → (p || q) ≡ false → (p ≡ false) × (q ≡ false)
+or-neither true q e = absurd (let z : _≡_ {A = ℕ} 0 1 = cc in omega arith)
+or-neither false q e = (refl, e)
+
+-- ---- lengths
+
+-- lengths that pass are those of the sizes
+unfoldable pub exact : Sizes → Lengths
+exact z = record {
+  vectors = z .capacity * z .dim;
+  targets = z .capacity * z .degree;
+  edge-versions = z .capacity * z .degree;
+  versions = z .capacity;
+  marks = z .capacity;
+  pool = limits .pool;
+}
+
+pub passed-lengths : (z : Sizes) (n : Lengths) → lengths-ok limits z n ≡ true → n ≡ exact z
+unfolding lengths-ok exact
+passed-lengths z n e =
+    let v = eqb (n .vectors) (z .capacity * z .dim) in
+    let t = eqb (n .targets) (z .capacity * z .degree) in
+    let g = eqb (n .edge-versions) (z .capacity * z .degree) in
+    let r = eqb (n .versions) (z .capacity) in
+    let m = eqb (n .marks) (z .capacity) in
+    let q = eqb (n .pool) (limits .pool) in
+    let a₁ = and-both (v && t && g && r && m) q e in
+    let a₂ = and-both (v && t && g && r) m (a₁ .0) in
+    let a₃ = and-both (v && t && g) r (a₂ .0) in
+    let a₄ = and-both (v && t) g (a₃ .0) in
+    let a₅ = and-both v t (a₄ .0) in
+    λ i. record {
+      vectors = eqb-true (n .vectors) (z .capacity * z .dim) (a₅ .0) i;
+      targets = eqb-true (n .targets) (z .capacity * z .degree) (a₅ .1) i;
+      edge-versions = eqb-true (n .edge-versions) (z .capacity * z .degree) (a₄ .1) i;
+      versions = eqb-true (n .versions) (z .capacity) (a₃ .1) i;
+      marks = eqb-true (n .marks) (z .capacity) (a₂ .1) i;
+      pool = eqb-true (n .pool) (limits .pool) (a₁ .1) i;
+    }
+
+-- ---- an accepted making
+
+capacity-positive : (z : Sizes) → sizes-ok limits z ≡ true → 1 ≤ z .capacity
+unfolding sizes-ok
+capacity-positive z e =
+    let p = and-both (within 1 (limits .dim) (z .dim) && within 1 (limits .capacity) (z .capacity)) (within 1 (limits .degree) (z .degree)) e in
+    let q = and-both (within 1 (limits .dim) (z .dim)) (within 1 (limits .capacity) (z .capacity)) (p .0) in
+    leb-true 1 (z .capacity) (and-both (leb 1 (z .capacity)) (leb (z .capacity) (limits .capacity)) (q .1) .0)
+
+entry-below : (given capacity entry : ℕ) → given ≤ capacity → 1 ≤ capacity → entry-given given entry ≡ true → entry < capacity
+entry-below given capacity entry h k t = go (ltb entry given) refl t
+  where
+    go : (q : Bool) → ltb entry given ≡ q → (q || eqb given 0 && eqb entry 0) ≡ true → entry < capacity
+    go true r t = omega (arith, ltb-true entry given r)
+    go false r t = omega (arith, eqb-true entry 0 (and-both (eqb given 0) (eqb entry 0) t .1))
+
+-- none of making's tests holds
+record Five (q₁ q₂ q₃ q₄ q₅ : Bool) : Type 0 where
+  pub one : q₁ ≡ false
+  pub two : q₂ ≡ false
+  pub three : q₃ ≡ false
+  pub four : q₄ ≡ false
+  pub five : q₅ ≡ false
+
+abbrev five-tests : Bool → Bool → Bool → Bool → Bool → List Test
+five-tests q₁ q₂ q₃ q₄ q₅ = (1, q₁) ∷ (2, q₂) ∷ (3, q₃) ∷ (4, q₄) ∷ (5, q₅) ∷ []
+
+none-of-five : (q₁ q₂ q₃ q₄ q₅ : Bool) → or-zero (first-of (five-tests q₁ q₂ q₃ q₄ q₅)) ≡ 0 → Five q₁ q₂ q₃ q₄ q₅
+none-of-five true q₂ q₃ q₄ q₅ e = absurd (omega (arith, e))
+none-of-five false true q₃ q₄ q₅ e = absurd (omega (arith, e))
+none-of-five false false true q₄ q₅ e = absurd (omega (arith, e))
+none-of-five false false false true q₅ e = absurd (omega (arith, e))
+none-of-five false false false false true e = absurd (omega (arith, e))
+none-of-five false false false false false e = record { one = refl; two = refl; three = refl; four = refl; five = refl }
+
+module _ (lent : Lengths) (m : Making) where
+  abbrev lent-right : Bool
+  lent-right = lengths-ok limits (m .sizes) lent
+
+  abbrev vectors-right : Bool
+  vectors-right = eqb (length (m .vectors)) (m .given * m .sizes .dim)
+
+  abbrev rows-right : Bool
+  rows-right = eqb (length (m .rows)) (m .given * m .sizes .degree)
+
+  five : or-zero (first-of (making-tests lent m)) ≡ 0
+      → Five (not (sizes-ok limits (m .sizes))) (not (alpha-ok (m .sizes .alpha))) (not (lent-right && vectors-right && rows-right)) (ltb (m .sizes .capacity) (m .given))
+      (not (names-given (m .given) (m .rows) && entry-given (m .given) (m .entry)))
+  unfolding making-tests
+  five e = none-of-five _ _ _ _ _ e
+
+  -- a 0 says that none holds
+  pub none-judged : or-zero (first-of (making-tests lent m)) ≡ 0 → first-of (making-tests lent m) ≡ none
+  unfolding making-tests
+  none-judged e = let f = five e in rw (f .one, f .two, f .three, f .four, f .five)
+
+  pub lengths-made : first-of (making-tests lent m) ≡ none → lent ≡ exact (m .sizes)
+  lengths-made h =
+      let f = five (ap or-zero h) in
+      passed-lengths (m .sizes) lent
+      (and-both lent-right vectors-right (and-both (lent-right && vectors-right) rows-right (not-false (lent-right && vectors-right && rows-right) (f .three)) .0) .0)
+
+  pub accepted : first-of (making-tests lent m) ≡ none → Accepted (m .sizes) (m .given) (m .vectors) (m .rows) (m .entry)
+  accepted h =
+      let f = five (ap or-zero h) in
+      let named = names-given (m .given) (m .rows) in
+      let entered = entry-given (m .given) (m .entry) in
+      let long = and-both (lent-right && vectors-right) rows-right (not-false (lent-right && vectors-right && rows-right) (f .three)) in
+      let sized = not-false (sizes-ok limits (m .sizes)) (f .one) in
+      let room = ltb-false (m .sizes .capacity) (m .given) (f .four) in
+      record {
+        sizes-right = sized;
+        alpha-right = not-false (alpha-ok (m .sizes .alpha)) (f .two);
+        entry-inside = entry-below (m .given) (m .sizes .capacity) (m .entry) room (capacity-positive (m .sizes) sized) (and-both named entered (not-false (named && entered) (f .five)) .1);
+        vectors-long = eqb-true (length (m .vectors)) (m .given * m .sizes .dim) (and-both lent-right vectors-right (long .0) .1);
+        rows-long = eqb-true (length (m .rows)) (m .given * m .sizes .degree) (long .1);
+        room = room;
+      }

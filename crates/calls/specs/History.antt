@@ -1,0 +1,107 @@
+-- Demand 3 over lists of calls: every history of the stored index is one of the plain index. Assumes nothing.
+use Prim.Native.Nat.{ℕ, _≤_}
+use mathlib.Core.Bool.{cond}
+use mathlib.Core.List.{List, [], _∷_, _++_, map}
+use mathlib.Core.Option.{Option, none, some}
+use mathlib.Core.Path.{_≡_}
+use Rattle.lists.specs.Lists.{range, times}
+use Rattle.slots.specs.Sizes.{Lengths}
+use Rattle.slots.specs.View.{View, live-neighbors, live-slots}
+use Rattle.slots.specs.Store.{Store}
+use Rattle.repair.specs.Delete.{emptied}
+use Rattle.guard.specs.Guard.{Guard}
+use Rattle.calls.specs.Calls.{Making, Operation, create, read, search-for, insert, delete, enable, status, assess, guarded-delete, Call, Answer, refused, created, number, alpha, version, vector, found, inserted, deleted, standing, assessed, applied, deferred}
+use Rattle.calls.specs.Refusals.{first-of, making-tests}
+use Rattle.calls.specs.Step.{State, Kind, landmarks, view-of, step, refusal, report-of, made, stored, plain}
+
+-- ---- what is compared after each call
+
+pub record Seen : Type 0 where
+  pub answer : Answer
+  pub entry : ℕ
+  pub live : ℕ
+  pub guard : Guard
+  pub pool : List ℕ
+  pub slots : List ℕ
+  pub vectors : List (List ℕ)
+  pub targets : List (List ℕ)
+
+-- an answer that is a version is not compared
+unfoldable pub hide : Answer → Answer
+hide (refused n) = refused n
+hide created = created
+hide (number n) = number n
+hide (alpha a) = alpha a
+hide (version n) = version 0
+hide (vector xs) = vector xs
+hide (found cs) = found cs
+hide (inserted ss) = inserted ss
+hide (deleted ds) = deleted ds
+hide (standing s) = standing s
+hide (assessed r) = assessed r
+hide (applied ds r) = applied ds r
+hide (deferred r) = deferred r
+
+-- the answer, entry, live count, guard, pool, the live slots and their vectors, and the live targets of every slot
+unfoldable pub look : View → ℕ → Guard → List ℕ → Answer → Seen
+look v n g pool answer =
+    record {
+      answer = hide answer;
+      entry = v .entry;
+      live = n;
+      guard = g;
+      pool = pool;
+      slots = live-slots v;
+      vectors = map (v .vector) (live-slots v);
+      targets = map (live-neighbors v) (range 0 (v .sizes .capacity));
+    }
+
+abbrev pub seen : {B : Type 0} → Kind B → State B → Answer → Seen
+seen K w answer = look (view-of K w) (w .live) (w .guard) (landmarks w) answer
+
+-- ---- how often each slot was emptied
+
+-- the slots emptied since the index was made, after a call that is carried out; `log` has those before it
+unfoldable pub log-performed : List ℕ → State View → Operation → List ℕ
+log-performed log p (create m) = []
+log-performed log p (read r) = log
+log-performed log p (search-for query k beam room scratch) = log
+log-performed log p (insert bytes beam room scratch) = log
+log-performed log p (delete ids beam degree room scratch) = emptied (p .graph) ids ++ log
+log-performed log p (enable config scratch) = log
+log-performed log p status = log
+log-performed log p (assess ids lists scratch) = log
+log-performed log p (guarded-delete ids beam degree room lists scratch) =
+    cond (report-of (p .graph) (p .guard) (landmarks p) ids .admitted) (emptied (p .graph) ids ++ log) log
+
+unfoldable pub log-settled : List ℕ → State View → Call → Option ℕ → List ℕ
+log-settled log p c (some n) = log
+log-settled log p c none = log-performed log p (c .operation)
+
+-- no slot stands in the log more than 65,535 times
+abbrev pub Few : List ℕ → Type 0
+Few log = (s : ℕ) → times s log ≤ 65535
+
+-- ---- histories
+
+module _ (size-answer : ℕ → ℕ → ℕ → ℕ) where
+  unfoldable pub log-after : List ℕ → State View → Call → List ℕ
+  log-after log p c = log-settled log p c (refusal size-answer plain p c)
+
+  -- no slot is emptied more than 65,535 times since the index was last made
+  abbrev pub Within : List ℕ → State View → List Call → Type 0
+  Within log p [] = Unit {0}
+  Within log p (c ∷ cs) = let log′ = log-after log p c in Few log′ × Within log′ (step size-answer plain p c .0) cs
+
+  -- what is seen of a list of calls, each on what the last one left
+  abbrev pub trace : {B : Type 0} → Kind B → State B → List Call → List Seen
+  trace K w [] = []
+  trace K w (c ∷ cs) = let r = step size-answer K w c in seen K (r .0) (r .1) ∷ trace K (r .0) cs
+
+  -- the claim, whatever stood in the memory before the accepted making with which the list begins
+  abbrev pub History : Type 0
+  History =
+      (w : State Store) (p : State View) (lent : Lengths) (m : Making) (cs : List Call)
+      → first-of (making-tests lent m) ≡ none
+      → Within [] (made plain m) cs
+      → let making : Call = record { lent = lent; operation = create m } in trace stored w (making ∷ cs) ≡ trace plain p (making ∷ cs)

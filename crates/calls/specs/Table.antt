@@ -1,0 +1,200 @@
+-- Document 01's small shelf and an example of each refusal that can occur, as one table of calls with their answers. Assumes nothing.
+use Prim.Native.Nat.{ℕ, _*_}
+use mathlib.Core.Bool.{true, false}
+use mathlib.Core.List.{List, [], _∷_, map}
+use mathlib.Core.Option.{none, some}
+use lib.ListN.{replicate}
+use lib.Ieee.{Float, binary32, ofBits}
+use Rattle.candidates.specs.Candidates.{Candidate}
+use Rattle.candidates.specs.Quotient.{f32}
+use Rattle.slots.specs.Sizes.{Sizes, Lengths, limits}
+use Rattle.slots.specs.Store.{Store, blank}
+use Rattle.repair.specs.Delete.{Stats}
+use Rattle.guard.specs.Guard.{Config, Report, off}
+use Rattle.calls.specs.Calls.{Making, Reading, read-entry, read-live, read-mark, read-version, read-target, read-vector, Operation, create, read, search-for, insert, delete, enable, status, assess, guarded-delete, Call, Answer, refused, created, number, version, vector, found, inserted, deleted, standing, assessed, applied, deferred}
+use Rattle.calls.specs.Step.{State, landmarks, step, made, stored}
+
+-- ---- notation
+
+abbrev at : ℕ → ℕ → Candidate
+at slot dist = record { dist = dist; id = slot }
+
+abbrev stats : ℕ → ℕ → ℕ → ℕ → Stats
+stats a b c d = record { outgoing-seeds = a; recovered-in-neighbors = b; repair-candidates = c; repair-edges-attempted = d }
+
+abbrev config : ℕ → ℕ → ℕ → ℕ → Config
+config count multiplier sample beam = record { landmark-count = count; multiplier = multiplier; sample-size = sample; beam = beam }
+
+-- slices of exact length
+abbrev exact : ℕ → ℕ → ℕ → Lengths
+exact dim capacity degree = record {
+  vectors = capacity * dim;
+  targets = capacity * degree;
+  edge-versions = capacity * degree;
+  versions = capacity;
+  marks = capacity;
+  pool = limits .pool;
+}
+
+abbrev lent : Lengths → List Operation → List Call
+lent n os = map (λ o. record { lent = n; operation = o }) os
+
+-- ---- the shelf
+
+unfoldable pub shelf : Making
+shelf = record {
+  sizes = record { dim = 1; capacity = 4; degree = 2; alpha = f32 1 };
+  given = 3;
+  vectors = 0 ∷ 3 ∷ 10 ∷ [];
+  rows = 1 ∷ blank ∷ 0 ∷ 2 ∷ 1 ∷ blank ∷ [];
+  entry = 1;
+}
+
+-- the shelf with other sizes, or given otherwise
+abbrev sized : ℕ → ℕ → Float → Making
+sized dim degree alpha = record { sizes = record { dim = dim; capacity = 4; degree = degree; alpha = alpha }; given = 3; vectors = shelf .vectors; rows = shelf .rows; entry = 1 }
+
+abbrev given : ℕ → List ℕ → List ℕ → ℕ → Making
+given n vectors rows entry = record { sizes = shelf .sizes; given = n; vectors = vectors; rows = rows; entry = entry }
+
+-- three vectors of dim 2 in four slots
+unfoldable pub wide : List ℕ → Making
+wide vectors = record { sizes = record { dim = 2; capacity = 4; degree = 1; alpha = f32 1 }; given = 3; vectors = vectors; rows = replicate 3 blank; entry = 0 }
+
+-- memory that holds nothing
+unfoldable pub nothing : State Store
+nothing = record {
+  graph = record {
+    arrays = record { dim = 0; degree = 0; vectors = []; targets = []; edge-versions = []; versions = []; marks = [] };
+    capacity = 0;
+    alpha = f32 0;
+    entry = 0;
+  };
+  live = 0;
+  guard = off;
+  words = [];
+}
+
+-- the shelf with a live count of 2
+unfoldable pub miscounted : State Store
+miscounted = let w = made stored shelf in record { graph = w .graph; live = 2; guard = w .guard; words = w .words }
+
+-- ---- the table
+
+-- the answers to some calls, and the landmark pool after them
+pub record Outcome : Type 0 where
+  pub answers : List Answer
+  pub pool : List ℕ
+
+pub record Case : Type 0 where
+  pub start : State Store
+  pub calls : List Call
+  pub outcome : Outcome
+
+abbrev on-shelf-with : List ℕ → List Operation → List Answer → Case
+on-shelf-with pool os answers = record { start = nothing; calls = lent (exact 1 4 2) (create shelf ∷ os); outcome = record { answers = created ∷ answers; pool = pool } }
+
+abbrev on-shelf : List Operation → List Answer → Case
+on-shelf os answers = on-shelf-with [] os answers
+
+abbrev making : Making → Lengths → ℕ → Case
+making m n row = record { start = nothing; calls = lent n (create m ∷ []); outcome = record { answers = refused row ∷ []; pool = [] } }
+
+unfoldable pub table : List Case
+table =
+    -- search 2, beam 2; search 0, beam 1
+    on-shelf (search-for (2 ∷ []) 2 2 2 100 ∷ search-for (0 ∷ []) 1 1 1 100 ∷ [])
+    (found (at 1 1 ∷ at 0 4 ∷ []) ∷ found (at 1 9 ∷ []) ∷ [])
+    -- insert 6, beam 2: slot 3, row [1,2], row 1 is [0,3], row 2 is [3]; then delete 1, repair beam 2, repair degree 1: counts 2, 1, 2, 2, entry 0; what
+    -- program `shelf` prints; then search 3, beam 3
+    ∷ on-shelf
+    (insert (6 ∷ []) 2 1 100
+    ∷ read (read-target 3 0) ∷ read (read-target 3 1) ∷ read (read-target 1 0) ∷ read (read-target 1 1) ∷ read (read-target 2 0) ∷ read (read-target 2 1)
+    ∷ delete (1 ∷ []) 2 1 1 100
+    ∷ read read-entry ∷ read read-live
+    ∷ read (read-mark 0) ∷ read (read-version 0) ∷ read (read-target 0 0) ∷ read (read-target 0 1)
+    ∷ read (read-mark 1) ∷ read (read-version 1) ∷ read (read-target 1 0) ∷ read (read-vector 1)
+    ∷ read (read-mark 2) ∷ read (read-version 2) ∷ read (read-target 2 0) ∷ read (read-target 2 1) ∷ read (read-vector 2)
+    ∷ read (read-mark 3) ∷ read (read-version 3) ∷ read (read-target 3 0) ∷ read (read-target 3 1)
+    ∷ read (read-mark 4) ∷ read (read-version 4) ∷ read (read-target 4 0) ∷ read (read-vector 4)
+    ∷ search-for (3 ∷ []) 3 3 3 100
+    ∷ [])
+    (inserted (3 ∷ [])
+    ∷ number 1 ∷ number 2 ∷ number 0 ∷ number 3 ∷ number 3 ∷ number blank
+    ∷ deleted (stats 2 1 2 2 ∷ [])
+    ∷ number 0 ∷ number 3
+    ∷ number 1 ∷ version 0 ∷ number 3 ∷ number blank
+    ∷ number 0 ∷ version 1 ∷ number blank ∷ vector []
+    ∷ number 1 ∷ version 0 ∷ number 3 ∷ number blank ∷ vector (10 ∷ [])
+    ∷ number 1 ∷ version 0 ∷ number 2 ∷ number 0
+    ∷ number 0 ∷ version 0 ∷ number blank ∷ vector []
+    ∷ found (at 0 9 ∷ at 3 9 ∷ at 2 49 ∷ [])
+    ∷ [])
+    -- delete 0, 1, 2: entry stays 1; insert 7 gets slot 0; search is empty
+    ∷ on-shelf (delete (0 ∷ 1 ∷ 2 ∷ []) 2 1 3 100 ∷ read read-entry ∷ insert (7 ∷ []) 1 1 100 ∷ search-for (7 ∷ []) 1 1 1 100 ∷ [])
+    (deleted (stats 1 0 0 0 ∷ stats 2 0 0 0 ∷ stats 1 0 0 0 ∷ []) ∷ number 1 ∷ inserted (0 ∷ []) ∷ found [] ∷ [])
+    -- guard count 0, multiplier 1, sample 4, beam 2: pool [2]; assess 0: admitted; assess 1: entry 0, baseline 1, residual 0, lost [2], not admitted;
+    -- the guarded delete of both; no live id: admitted, requested 0
+    ∷ on-shelf-with (2 ∷ [])
+    (enable (config 0 1 4 2) 100
+    ∷ assess (0 ∷ []) 64 100
+    ∷ assess (1 ∷ []) 64 100
+    ∷ assess (3 ∷ []) 64 100
+    ∷ guarded-delete (1 ∷ []) 2 1 1 64 100
+    ∷ guarded-delete (0 ∷ []) 2 1 1 64 100
+    ∷ status
+    ∷ [])
+    (standing (record { enabled = true; pool-size = 1; live-landmarks = 1; landmark-count = 1; beam = 2 })
+    ∷ assessed (record { admitted = true; requested = 1; entry = some 1; checked = 2 ∷ []; baseline = 1; residual = 1; lost = []; supplemental = 0 })
+    ∷ assessed (record { admitted = false; requested = 1; entry = some 0; checked = 2 ∷ []; baseline = 1; residual = 0; lost = 2 ∷ []; supplemental = 0 })
+    ∷ assessed (record { admitted = true; requested = 0; entry = none; checked = []; baseline = 0; residual = 0; lost = []; supplemental = 0 })
+    ∷ deferred (record { admitted = false; requested = 1; entry = some 0; checked = 2 ∷ []; baseline = 1; residual = 0; lost = 2 ∷ []; supplemental = 0 })
+    ∷ applied (stats 1 1 1 0 ∷ []) (record { admitted = true; requested = 1; entry = some 1; checked = 2 ∷ []; baseline = 1; residual = 1; lost = []; supplemental = 0 })
+    ∷ standing (record { enabled = true; pool-size = 1; live-landmarks = 1; landmark-count = 1; beam = 2 })
+    ∷ [])
+    -- empty batches: no slots, no counts
+    ∷ on-shelf (insert [] 2 0 100 ∷ delete [] 2 1 0 100 ∷ []) (inserted [] ∷ deleted [] ∷ [])
+    -- 1: dim 257; 2: alpha 0.9; 3: three slots of dim 2, 5 bytes; 4: 5 into 4; 5: 3 given, a row names 3; entry not given
+    ∷ making (sized 257 2 (f32 1)) (exact 257 4 2) 1
+    ∷ making (sized 1 0 (f32 1)) (exact 1 4 0) 1
+    ∷ making (sized 1 2 (ofBits binary32 0x3f66_6666)) (exact 1 4 2) 2
+    ∷ making (wide (1 ∷ 2 ∷ 3 ∷ 4 ∷ 5 ∷ [])) (exact 2 4 1) 3
+    ∷ making shelf (exact 1 4 1) 3
+    ∷ making (given 5 (replicate 5 0) (replicate 10 blank) 0) (exact 1 4 2) 4
+    ∷ making (given 3 (shelf .vectors) (1 ∷ blank ∷ 0 ∷ 3 ∷ 1 ∷ blank ∷ []) 1) (exact 1 4 2) 5
+    ∷ making (given 3 (shelf .vectors) (shelf .rows) 3) (exact 1 4 2) 5
+    -- 6: live 2, three marks; a vector that is read is the empty part
+    ∷ record { start = miscounted; calls = lent (exact 1 4 2) (read read-entry ∷ read (read-vector 0) ∷ []); outcome = record { answers = refused 6 ∷ vector [] ∷ []; pool = [] } }
+    -- 3, 7, 8, 10 and 11, and which comes first
+    ∷ on-shelf
+    (search-for (0 ∷ 0 ∷ []) 1 1 1 0
+    ∷ delete (replicate 257 0) 2 1 256 0
+    ∷ assess (replicate 257 0) 63 0
+    ∷ delete (replicate 257 0) 2 1 257 0
+    ∷ search-for (0 ∷ []) 2 1025 2 0
+    ∷ search-for (0 ∷ []) 2 1 1 100
+    ∷ search-for (0 ∷ []) 1 1 1 99
+    ∷ insert (1 ∷ 2 ∷ []) 2 2 100
+    ∷ assess (0 ∷ []) 64 100
+    ∷ [])
+    (refused 3 ∷ refused 3 ∷ refused 3 ∷ refused 7 ∷ refused 7 ∷ refused 7 ∷ refused 8 ∷ refused 10 ∷ refused 11 ∷ [])
+    -- 3: slices of other lengths
+    ∷ record { start = made stored shelf; calls = lent (exact 1 3 2) (read read-entry ∷ read (read-vector 0) ∷ []); outcome = record { answers = refused 3 ∷ vector [] ∷ []; pool = [] } }
+    -- 9: 3 bytes, dim 2, which comes before 10
+    ∷ record {
+      start = made stored (wide (1 ∷ 2 ∷ 3 ∷ 4 ∷ 5 ∷ 6 ∷ []));
+      calls = lent (exact 2 4 1) (insert (1 ∷ 2 ∷ 3 ∷ []) 2 1 100 ∷ insert (1 ∷ 2 ∷ 3 ∷ 4 ∷ 5 ∷ []) 2 2 100 ∷ []);
+      outcome = record { answers = refused 9 ∷ refused 9 ∷ []; pool = [] };
+    }
+    -- 12: all emptied; 13: one live
+    ∷ on-shelf (delete (0 ∷ 1 ∷ []) 2 1 2 100 ∷ enable (config 1 1 4 2) 100 ∷ delete (2 ∷ []) 2 1 1 100 ∷ enable (config 1 1 4 2) 100 ∷ [])
+    (deleted (stats 1 0 0 0 ∷ stats 2 1 1 0 ∷ []) ∷ refused 13 ∷ deleted (stats 0 0 0 0 ∷ []) ∷ refused 12 ∷ [])
+    ∷ []
+
+-- what a list of calls answers and leaves, with a size answer of 100 words
+unfoldable pub outcome-of : State Store → List Call → Outcome
+outcome-of w [] = record { answers = []; pool = landmarks w }
+outcome-of w (c ∷ cs) =
+    let r = step (λ dim capacity degree. 100) stored w c in
+    let rest = outcome-of (r .0) cs in
+    record { answers = r .1 ∷ rest .answers; pool = rest .pool }
