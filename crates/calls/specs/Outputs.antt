@@ -26,7 +26,18 @@ no-outputs = record { slots = []; dists = []; stats = []; checked = []; lost = [
 abbrev pub distances : List Candidate → List Float
 distances cs = map (λ c. f32 (c .dist)) cs
 
--- what a call writes: the answer from the first place on; what stands past it stays
+-- lists written from the first place on; what stands past them stays
+abbrev put : List ℕ → List Float → List Stats → List ℕ → List ℕ → Outputs → Outputs
+put slots dists stats checked lost o =
+    record {
+      slots = put-front slots (o .slots);
+      dists = put-front dists (o .dists);
+      stats = put-front stats (o .stats);
+      checked = put-front checked (o .checked);
+      lost = put-front lost (o .lost);
+    }
+
+-- what a call writes
 unfoldable pub written : Answer → Outputs → Outputs
 written (refused n) o = o
 written created o = o
@@ -34,17 +45,13 @@ written (number n) o = o
 written (alpha a) o = o
 written (version n) o = o
 written (vector l) o = o
-written (found cs) o =
-    record { slots = put-front (ids cs) (o .slots); dists = put-front (distances cs) (o .dists); stats = o .stats; checked = o .checked; lost = o .lost }
-written (inserted ss) o = record { slots = put-front ss (o .slots); dists = o .dists; stats = o .stats; checked = o .checked; lost = o .lost }
-written (deleted ts) o = record { slots = o .slots; dists = o .dists; stats = put-front ts (o .stats); checked = o .checked; lost = o .lost }
+written (found cs) o = put (ids cs) (distances cs) [] [] [] o
+written (inserted ss) o = put ss [] [] [] [] o
+written (deleted ts) o = put [] [] ts [] [] o
 written (standing s) o = o
-written (assessed r) o =
-    record { slots = o .slots; dists = o .dists; stats = o .stats; checked = put-front (r .checked) (o .checked); lost = put-front (r .lost) (o .lost) }
-written (applied ts r) o =
-    record { slots = o .slots; dists = o .dists; stats = put-front ts (o .stats); checked = put-front (r .checked) (o .checked); lost = put-front (r .lost) (o .lost) }
-written (deferred r) o =
-    record { slots = o .slots; dists = o .dists; stats = o .stats; checked = put-front (r .checked) (o .checked); lost = put-front (r .lost) (o .lost) }
+written (assessed r) o = put [] [] [] (r .checked) (r .lost) o
+written (applied ts r) o = put [] [] ts (r .checked) (r .lost) o
+written (deferred r) o = put [] [] [] (r .checked) (r .lost) o
 
 -- the lengths that an operation names are those of the outputs and of the scratch
 unfoldable pub Named : Operation → Outputs → List ℕ → Type 0
