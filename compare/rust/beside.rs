@@ -4,14 +4,23 @@
 use super::*;
 use std::hint::black_box;
 
-/// `search_pool` and `prune_scored` of the library.
+/// `search_pool` and `prune_scored` of the library, and two of its calls: the reading of the live count, and search.
 pub type Search = unsafe extern "C" fn(
     usize, usize, *const u8, usize, *const u32, usize, *const u16, usize, *const u16, usize, *const u8, usize, *const u8, usize, u32, usize, *mut u32, usize,
 ) -> usize;
 pub type Prune = unsafe extern "C" fn(usize, f32, usize, *const u8, usize, *const u8, usize, u32, *mut u32, usize, usize, usize, usize) -> usize;
+pub type Live = unsafe extern "C" fn(
+    *const u32, *const u8, usize, *const u32, usize, *const u16, usize, *const u16, usize, *const u8, usize, *const u32, usize, *mut u32,
+) -> u32;
+pub type Call = unsafe extern "C" fn(
+    *const u32, *const u8, usize, *const u32, usize, *const u16, usize, *const u16, usize, *const u8, usize, *const u32, usize, *const u8, usize, u32, u32,
+    *mut u32, usize, *mut f32, usize, *mut u32, usize, *mut u32,
+) -> u32;
 
-/// The slices of an index of the Rust.
+/// The words and the slices of an index of the Rust.
 struct Slices {
+    index: [u32; 12],
+    pool: Vec<u32>,
     dim: usize,
     degree: usize,
     vectors: Vec<u8>,
@@ -23,7 +32,10 @@ struct Slices {
 
 fn slices(b: &Book<Sq>) -> Slices {
     let (capacity, degree) = (b.meta.capacity, b.meta.max_degree);
-    let mut s = Slices { dim: b.meta.dim, degree, vectors: vec![], targets: vec![], edges: vec![], versions: vec![], marks: vec![] };
+    let index = [
+        b.meta.dim as u32, capacity as u32, degree as u32, b.meta.alpha.to_bits(), b.meta.medoid_id, b.len() as u32, 0, 0, 0, 0, 0, 0,
+    ];
+    let mut s = Slices { index, pool: vec![0; 1024], dim: b.meta.dim, degree, vectors: vec![], targets: vec![], edges: vec![], versions: vec![], marks: vec![] };
     for id in 0..capacity as u32 {
         s.vectors.extend_from_slice(b.vector(id));
         s.versions.push(b.node_version(id));
@@ -50,6 +62,39 @@ impl Slices {
     }
 }
 
+/// What a search answered.
+struct Outputs {
+    slots: Vec<u32>,
+    dists: Vec<f32>,
+    found: u32,
+}
+
+impl Slices {
+    fn call(&self, f: Call, query: &[u8], beam: usize, out: &mut Outputs, scratch: &mut [u32]) {
+        let refused = unsafe {
+            f(
+                self.index.as_ptr(), self.vectors.as_ptr(), self.vectors.len(), self.targets.as_ptr(), self.targets.len(), self.edges.as_ptr(),
+                self.edges.len(), self.versions.as_ptr(), self.versions.len(), self.marks.as_ptr(), self.marks.len(), self.pool.as_ptr(), self.pool.len(),
+                query.as_ptr(), query.len(), beam as u32, beam as u32, out.slots.as_mut_ptr(), out.slots.len(), out.dists.as_mut_ptr(), out.dists.len(),
+                scratch.as_mut_ptr(), scratch.len(), &mut out.found,
+            )
+        };
+        assert_eq!(refused, 0);
+    }
+
+    fn live(&self, f: Live) -> u32 {
+        let mut value = 0;
+        let refused = unsafe {
+            f(
+                self.index.as_ptr(), self.vectors.as_ptr(), self.vectors.len(), self.targets.as_ptr(), self.targets.len(), self.edges.as_ptr(),
+                self.edges.len(), self.versions.as_ptr(), self.versions.len(), self.marks.as_ptr(), self.marks.len(), self.pool.as_ptr(), self.pool.len(), &mut value,
+            )
+        };
+        assert_eq!(refused, 0);
+        value
+    }
+}
+
 fn built(dim: usize, capacity: usize, degree: usize, alpha: f32, cloud: &Cloud, rng: &mut Rng) -> Book<Sq> {
     let vectors: Vec<Vec<u8>> = (0..capacity).map(|_| cloud.draw(rng)).collect();
     let mut book = make(dim, capacity, degree, alpha, 0, &vectors[..1], &[vec![]], Sq::default()).unwrap();
@@ -59,18 +104,33 @@ fn built(dim: usize, capacity: usize, degree: usize, alpha: f32, cloud: &Cloud, 
     book
 }
 
-fn searches(search: Search) {
+fn searches(search: Search, live: Live, call: Call) {
     let (dim, degree) = (256, 32);
-    println!("search, dim {dim}, degree {degree}, alpha 1.2, clustered vectors; time of one search by the Rust's search_with_dists and by the library's search_pool");
+    println!("search, dim {dim}, degree {degree}, alpha 1.2, clustered vectors; time of one search by the Rust's search_with_dists, by the library's search_pool and by finder_search");
     for capacity in [1_000usize, 5_000, 20_000, 65_536] {
         let mut rng = Rng(1);
         let cloud = Cloud::new(&mut rng, 200, dim, 40, 32);
         let book = built(dim, capacity, degree, 1.2, &cloud, &mut rng);
         let s = slices(&book);
         let queries: Vec<Vec<u8>> = (0..400).map(|_| cloud.draw(&mut rng)).collect();
-        let mut scratch = vec![0xdead_beefu32; 2048 + capacity];
+        let mut scratch = vec![0xdead_beefu32; 81_920 + 4 * capacity + 2_048 * degree];
+        let mut out = Outputs { slots: vec![0; 1024], dists: vec![0.0; 1024], found: 0 };
+        let mut best = [f64::MAX; 2];
+        for _ in 0..20 {
+            let started = cpu();
+            for _ in 0..100 {
+                black_box(black_box(&s.marks).iter().filter(|&&m| m != 0).count());
+            }
+            best[0] = best[0].min((cpu() - started) * 1e4);
+            let started = cpu();
+            for _ in 0..100 {
+                assert_eq!(black_box(&s).live(live) as usize, capacity);
+            }
+            best[1] = best[1].min((cpu() - started) * 1e4);
+        }
+        println!("capacity {capacity}: one pass over the marks in Rust {:.2} us, the live count by finder_live {:.2} us", best[0], best[1]);
         for beam in [16usize, 64, 256, 1024] {
-            let mut best = [f64::MAX; 2];
+            let mut best = [f64::MAX; 3];
             let mut differences = 0;
             let part = if beam == 1024 { 100 } else { 400 };
             for round in 0..5 {
@@ -84,17 +144,22 @@ fn searches(search: Search) {
                     black_box(s.search(search, q, book.meta.medoid_id, beam, &mut scratch));
                 }
                 best[1] = best[1].min((cpu() - started) * 1e6 / part as f64);
+                let started = cpu();
+                for q in &queries[..part] {
+                    s.call(call, q, beam, black_box(&mut out), &mut scratch);
+                }
+                best[2] = best[2].min((cpu() - started) * 1e6 / part as f64);
                 if round == 0 {
                     for q in &queries[..part] {
-                        let n = s.search(search, q, book.meta.medoid_id, beam, &mut scratch);
-                        let ours: Vec<(u32, f32)> = (0..n).map(|i| (scratch[2 * i + 1], scratch[2 * i] as f32)).collect();
+                        s.call(call, q, beam, &mut out, &mut scratch);
+                        let ours: Vec<(u32, f32)> = (0..out.found as usize).map(|i| (out.slots[i], out.dists[i])).collect();
                         differences += (ours != book.search_with_dists(q, beam, beam)) as usize;
                     }
                 }
             }
             println!(
-                "capacity {capacity} beam {beam}: rust {:.1} us, library {:.1} us, ratio {:.2}, {differences} of {part} differ",
-                best[0], best[1], best[1] / best[0]
+                "capacity {capacity} beam {beam}: rust {:.1} us, walk {:.1} us, call {:.1} us, ratio of the call {:.2}, {differences} of {part} differ",
+                best[0], best[1], best[2], best[2] / best[0]
             );
         }
     }
@@ -173,7 +238,7 @@ fn prunes(prune: Prune) {
     }
 }
 
-pub fn main(search: Search, prune: Prune) {
-    searches(search);
+pub fn main(search: Search, prune: Prune, live: Live, call: Call) {
+    searches(search, live, call);
     prunes(prune);
 }

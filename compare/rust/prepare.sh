@@ -17,7 +17,7 @@ test "$(grep -cxF '    results.sort();' sorted/src/lib.rs)" = 1
 for v in asis sorted; do
   printf '\n#[path = "../../driver.rs"]\npub(crate) mod driver;\n' >> $v/src/mmap_dynamic.rs
   printf '\npub fn oracle_driver_main(args: Vec<String>) {\n    mmap_dynamic::driver::main(args)\n}\n' >> $v/src/lib.rs
-  printf '\npub fn beside_main(search: mmap_dynamic::driver::beside::Search, prune: mmap_dynamic::driver::beside::Prune) {\n    mmap_dynamic::driver::beside::main(search, prune)\n}\n' >> $v/src/lib.rs
+  printf '\npub use mmap_dynamic::driver::beside::main as beside_main;\n' >> $v/src/lib.rs
   echo "== $v/src/lib.rs"; diff "$S/lib.rs" $v/src/lib.rs || true
   echo "== $v/src/mmap_dynamic.rs"; diff "$S/mmap_dynamic.rs" $v/src/mmap_dynamic.rs || true
 done

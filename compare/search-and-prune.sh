@@ -1,9 +1,9 @@
 #!/bin/sh
-# Times search and pruning beside the Rust, one thread, one run. Needs the Rattle kit, cargo (1.88 or newer) and the packages that
+# Times search, readings and pruning beside the Rust, one thread, one run. Needs the Rattle kit, cargo (1.88 or newer) and the packages that
 # compare/rust/README.md names; writes below target/ and compare/rust/target/ only.
 set -e
 cd "$(dirname "$0")/.."
-work=target/compare-walk-and-prune
+work=target/compare-search-and-prune
 rm -rf "$work"
 mkdir -p "$work/crates/exports/src"
 cp -r crates/lists crates/vectors crates/candidates crates/slots crates/walk crates/prune "$work/crates/"
@@ -52,8 +52,9 @@ pub extern "C" fn exported_prune(
 }
 RT
 (cd "$work" && rt staticlib exports) > "$work/log" 2>&1 || { grep -E '^(rt:|fn exports)|error' "$work/log"; exit 1; }
-archive=$(pwd)/$work/target/staticlib
+rt staticlib finder > "$work/log" 2>&1 || { grep -E '^(rt:|fn finder)|error' "$work/log"; exit 1; }
+archives=$(pwd)/$work/target/staticlib:$(pwd)/target/staticlib
 cd compare/rust
 ./prepare.sh > /dev/null
-LIBRARY=$archive cargo build --release --offline -p beside --quiet
+LIBRARIES=$archives cargo build --release --offline -p beside --quiet
 RAYON_NUM_THREADS=1 target/release/beside
