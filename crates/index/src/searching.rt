@@ -68,8 +68,9 @@ fn search_refusal(
 fn lesser(n: usize, k: u32) -> usize
     ensures { λ r. ⌜ r ≡ min n k ⌝ }
 {
-    if wide(k) < n {
-        return wide(k);
+    let most = wide(k);
+    if most < n {
+        return most;
     }
     n
 }
