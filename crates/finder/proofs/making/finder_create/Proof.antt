@@ -1,0 +1,45 @@
+use Rattle.finder.proofs.Told.{made-number, creates-words}
+use borrow.Author.Needs.{needs}
+use Rattle.finder.proofs.making.finder_create.Statement.{statement}
+use Rattle.finder.proofs.making.finder_create.Tie as tie
+
+create-requires : tie.Need-create-requires
+create-requires c κs = search needs
+
+put-created-requires : tie.Need-put-created-requires
+put-created-requires c κs = λ i e. made-number (c .before .before .before .before .before .before .before .before .before .before .before .before .before .create .ensures) e
+
+same-length : tie.Need-same-length
+same-length c = search needs
+
+same-length-2 : tie.Need-same-length-2
+same-length-2 c = search needs
+
+same-length-3 : tie.Need-same-length-3
+same-length-3 c = search needs
+
+same-length-4 : tie.Need-same-length-4
+same-length-4 c = search needs
+
+same-length-5 : tie.Need-same-length-5
+same-length-5 c = search needs
+
+same-length-6 : tie.Need-same-length-6
+same-length-6 c = search needs
+
+returns : tie.Need-returns
+returns c = creates-words _ (c .before .before .before .before .before .before .before .before .before .before .before .before .before .before .before .before .before .before .before .before .before .before .before .before .before .before .before .before .before .good .1 .1 .1 .0 .1) (c .before .before .before .before .before .before .before .before .before .before .before .before .before .before .create .ensures) (c .put-created .ensures)
+
+pub finder-create-spec : {M : Type 1} → statement M
+finder-create-spec =
+    tie.close
+    (tie.spec
+    create-requires
+    put-created-requires
+    same-length
+    same-length-2
+    same-length-3
+    same-length-4
+    same-length-5
+    same-length-6
+    returns)

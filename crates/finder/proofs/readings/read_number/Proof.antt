@@ -1,0 +1,16 @@
+use Rattle.finder.proofs.Told.{reads-number}
+use borrow.Author.Needs.{needs}
+use Rattle.finder.proofs.readings.read_number.Statement.{statement}
+use Rattle.finder.proofs.readings.read_number.Tie as tie
+
+read-value-requires : tie.Need-read-value-requires
+read-value-requires c κs = search needs
+
+put-number-requires : tie.Need-put-number-requires
+put-number-requires c κs = search needs
+
+returns : tie.Need-returns
+returns c = reads-number (c .before .before .before .before .before .before .before .before .before .pre) (c .before .before .read-value .ensures) (c .put-number .ensures)
+
+pub read-number-spec : {M : Type 1} → statement M
+read-number-spec = tie.close (tie.spec read-value-requires put-number-requires returns)

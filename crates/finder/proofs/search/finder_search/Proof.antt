@@ -1,0 +1,37 @@
+use Rattle.finder.proofs.Told.{searches-words}
+use borrow.Author.Needs.{needs}
+use Rattle.finder.proofs.search.finder_search.Statement.{statement}
+use Rattle.finder.proofs.search.finder_search.Tie as tie
+
+index-from-requires : tie.Need-index-from-requires
+index-from-requires c κs = search needs
+
+search-requires : tie.Need-search-requires
+search-requires c κs = search needs
+
+put-found-requires : tie.Need-put-found-requires
+put-found-requires c κs = search needs
+
+same-length : tie.Need-same-length
+same-length c = search needs
+
+same-length-2 : tie.Need-same-length-2
+same-length-2 c = search needs
+
+same-length-3 : tie.Need-same-length-3
+same-length-3 c = search needs
+
+returns : tie.Need-returns
+returns c = searches-words _ (c .before .before .before .before .before .before .before .before .before .before .before .before .index-from .ensures) (c .before .before .before .before .before .before .before .before .search .ensures) (c .put-found .ensures)
+
+pub finder-search-spec : {M : Type 1} → statement M
+finder-search-spec =
+    tie.close
+    (tie.spec
+    index-from-requires
+    search-requires
+    put-found-requires
+    same-length
+    same-length-2
+    same-length-3
+    returns)

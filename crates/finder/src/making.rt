@@ -1,0 +1,81 @@
+// The size answer, and making an index.
+use super::words::words_from;
+use index::Created;
+use index::Words;
+ghost use mathlib.Core.Bool.{not};
+ghost use mathlib.Core.Path.{_≡_};
+ghost use lib.Dec.{T};
+ghost use lib.Ieee.{isNan};
+ghost use Rattle.index.specs.declared.Index.{Index};
+ghost use Rattle.index.specs.declared.Created.the-variants.{Done};
+ghost use Rattle.index.specs.Create.{making};
+ghost use Rattle.finder.specs.Given.{Sizes-scratch, created-put, Creates-words};
+
+// Writes how many words of scratch the calls on an index of these sizes ask for.
+#[no_mangle]
+pub extern "C" fn finder_scratch_words(dim: u32, capacity: u32, degree: u32, size: &mut u32) -> u32
+    ensures { λ r. ⌜ Sizes-scratch dim capacity degree (now (size .entry)) (now (size .exit)) r ⌝ }
+{
+    let answer = index::scratch_words(dim, capacity, degree);
+    match answer {
+        Words::Refused(n) => n,
+        Words::Words(n) => {
+            *size = n;
+            0
+        }
+    }
+}
+
+// Writes the words of an index that was made.
+fn put_created(made: Created, words: &mut [u32; 12]) -> u32
+    requires { ⌜ ((i : Index) → made ≡ Done i → T (not (isNan (i .alpha)))) ⌝ }
+    ensures { λ r. ⌜ (r, now (words .exit)) ≡ created-put made (now (words .entry)) ⌝ }
+{
+    match made {
+        Created::Refused(n) => n,
+        Created::Done(i) => {
+            *words = words_from(i);
+            0
+        }
+    }
+}
+
+// Makes an index of the given vectors and rows in the six lent slices, and writes its words.
+#[no_mangle]
+pub extern "C" fn finder_create(
+    dim: u32,
+    capacity: u32,
+    degree: u32,
+    alpha: f32,
+    entry: u32,
+    count: u32,
+    bytes: &[u8],
+    rows: &[u32],
+    vectors: &mut [u8],
+    targets: &mut [u32],
+    edges: &mut [u16],
+    versions: &mut [u16],
+    marks: &mut [u8],
+    pool: &mut [u32],
+    words: &mut [u32; 12],
+) -> u32
+    ensures { λ r. ⌜ Creates-words (making dim capacity degree alpha entry count (now (bytes .entry)) (now (rows .entry))) (now (vectors .entry)) (now (targets .entry)) (now (edges .entry)) (now (versions .entry)) (now (marks .entry)) (now (pool .entry)) (now (vectors .exit)) (now (targets .exit)) (now (edges .exit)) (now (versions .exit)) (now (marks .exit)) (now (pool .exit)) (now (words .entry)) (now (words .exit)) r ⌝ }
+{
+    let made = index::create(
+        dim,
+        capacity,
+        degree,
+        alpha,
+        entry,
+        count,
+        bytes,
+        rows,
+        vectors,
+        targets,
+        edges,
+        versions,
+        marks,
+        pool,
+    );
+    put_created(made, words)
+}

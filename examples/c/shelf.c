@@ -1,0 +1,95 @@
+/* A small index: dim 1, capacity 4, degree 2, the values 0, 3, 10 in slots 0 to 2. Every value is checked; a wrong one ends the program with 1. */
+#include "finder.h"
+
+#include <stdio.h>
+#include <stdlib.h>
+
+enum { DIM = 1, CAPACITY = 4, DEGREE = 2, COUNT = 3 };
+
+static uint32_t index_words[FINDER_INDEX_WORDS];
+static uint8_t vectors[CAPACITY * DIM];
+static uint32_t targets[CAPACITY * DEGREE];
+static uint16_t edges[CAPACITY * DEGREE];
+static uint16_t versions[CAPACITY];
+static uint8_t marks[CAPACITY];
+static uint32_t pool[FINDER_POOL];
+
+/* The six slices, as every call but making takes them. */
+#define SLICES \
+    vectors, sizeof vectors, targets, CAPACITY * DEGREE, edges, CAPACITY * DEGREE, versions, CAPACITY, marks, sizeof marks, pool, FINDER_POOL
+
+#define CHECK(fact) \
+    do { \
+        if (!(fact)) { \
+            fprintf(stderr, "line %d: not so: %s\n", __LINE__, #fact); \
+            return 1; \
+        } \
+    } while (0)
+
+static uint32_t make(float alpha)
+{
+    static const uint8_t bytes[COUNT * DIM] = { 0, 3, 10 };
+    static const uint32_t rows[COUNT * DEGREE] = { 1, FINDER_BLANK, 0, 2, 1, FINDER_BLANK };
+    return finder_create(DIM, CAPACITY, DEGREE, alpha, 1, COUNT, bytes, sizeof bytes, rows, COUNT * DEGREE, vectors, sizeof vectors, targets,
+        CAPACITY * DEGREE, edges, CAPACITY * DEGREE, versions, CAPACITY, marks, sizeof marks, pool, FINDER_POOL, index_words);
+}
+
+static int read_all(void)
+{
+    uint32_t n = 77;
+    float alpha = 0;
+    CHECK(finder_dim(index_words, SLICES, &n) == 0 && n == DIM);
+    CHECK(finder_capacity(index_words, SLICES, &n) == 0 && n == CAPACITY);
+    CHECK(finder_degree(index_words, SLICES, &n) == 0 && n == DEGREE);
+    CHECK(finder_alpha(index_words, SLICES, &alpha) == 0 && alpha == 1.0f);
+    CHECK(finder_entry(index_words, SLICES, &n) == 0 && n == 1);
+    CHECK(finder_live(index_words, SLICES, &n) == 0 && n == COUNT);
+    CHECK(finder_mark(index_words, SLICES, 2, &n) == 0 && n == 1);
+    CHECK(finder_mark(index_words, SLICES, 3, &n) == 0 && n == 0);
+    CHECK(finder_version(index_words, SLICES, 2, &n) == 0 && n == 0);
+    CHECK(finder_target(index_words, SLICES, 1, 0, &n) == 0 && n == 0);
+    CHECK(finder_target(index_words, SLICES, 1, 1, &n) == 0 && n == 2);
+    CHECK(finder_target(index_words, SLICES, 1, 2, &n) == 0 && n == FINDER_BLANK);
+    CHECK(finder_vector(index_words, SLICES, 2) == DIM && vectors[2 * DIM] == 10);
+    CHECK(finder_vector(index_words, SLICES, 3) == 0);
+    return 0;
+}
+
+static int search(void)
+{
+    static const uint8_t query[DIM] = { 2 };
+    uint32_t words = 0;
+    uint32_t found = 77;
+    uint32_t slots[2];
+    float dists[2];
+    CHECK(finder_scratch_words(DIM, CAPACITY, DEGREE, &words) == 0 && words > 0);
+    uint32_t *scratch = malloc(words * sizeof *scratch);
+    CHECK(scratch);
+    uint32_t status = finder_search(index_words, SLICES, query, DIM, 2, 2, slots, 2, dists, 2, scratch, words, &found);
+    uint32_t refused = finder_search(index_words, SLICES, query, DIM, 2, 2, slots, 1, dists, 2, scratch, words, &found);
+    free(scratch);
+    CHECK(status == 0 && refused == FINDER_OVER_LIMIT && found == 2);
+    CHECK(slots[0] == 1 && dists[0] == 1.0f && slots[1] == 0 && dists[1] == 4.0f);
+    printf("nearest to 2: slot %u at %g, slot %u at %g\n", (unsigned)slots[0], dists[0], (unsigned)slots[1], dists[1]);
+    return 0;
+}
+
+static int refuse(void)
+{
+    uint32_t n = 77;
+    CHECK(finder_scratch_words(257, CAPACITY, DEGREE, &n) == FINDER_BAD_SIZES && n == 77);
+    CHECK(make(0.5f) == FINDER_BAD_ALPHA && index_words[0] == DIM);
+    index_words[5] = 2;
+    CHECK(finder_dim(index_words, SLICES, &n) == FINDER_BAD_INDEX && n == 77);
+    CHECK(finder_vector(index_words, SLICES, 2) == 0);
+    printf("an index with a live count of 2 and three marks: refused with %d\n", FINDER_BAD_INDEX);
+    index_words[3] = 0x7fc00000u;
+    CHECK(finder_dim(index_words, SLICES, &n) == FINDER_BAD_ALPHA && n == 77);
+    return 0;
+}
+
+int main(void)
+{
+    CHECK(make(1.0f) == 0);
+    return read_all() || search() || refuse();
+}

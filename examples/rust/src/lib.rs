@@ -1,0 +1,281 @@
+//! A safe wrapper over the functions of include/finder.h: a `Finder` owns the memory that they are lent.
+
+use std::fmt;
+
+mod raw;
+
+/// No slot: an empty place of a given row.
+pub const BLANK: u32 = u32::MAX;
+
+/// Why a call was refused, with the number that the library gives.
+#[derive(Clone, Copy, Debug, PartialEq, Eq)]
+#[repr(u32)]
+pub enum Error {
+    /// Dim, capacity or degree is outside its range.
+    Sizes = 1,
+    /// Alpha is outside 1.0 to 2.0, or NaN.
+    Alpha = 2,
+    /// A slice has another length than it must.
+    Length = 3,
+    /// More vectors are given than there are slots.
+    TooMany = 4,
+    /// A given row names neither blank nor a given slot, or the entry is not given.
+    Given = 5,
+    /// The live count differs from the marks, the entry is outside, or the guard has a fault.
+    Index = 6,
+    /// A beam over 1,024, or more asked for than the outputs hold.
+    Limit = 7,
+    /// The scratch is too short.
+    Scratch = 8,
+}
+
+impl Error {
+    fn of(status: u32) -> Result<(), Error> {
+        Err(match status {
+            0 => return Ok(()),
+            1 => Error::Sizes,
+            2 => Error::Alpha,
+            3 => Error::Length,
+            4 => Error::TooMany,
+            5 => Error::Given,
+            6 => Error::Index,
+            7 => Error::Limit,
+            8 => Error::Scratch,
+            _ => unreachable!("no refusal has the number {status}"),
+        })
+    }
+}
+
+impl fmt::Display for Error {
+    fn fmt(&self, f: &mut fmt::Formatter) -> fmt::Result {
+        write!(f, "refused with {}", *self as u32)
+    }
+}
+
+impl std::error::Error for Error {}
+
+/// An index and its memory.
+pub struct Finder {
+    index: [u32; raw::INDEX_WORDS],
+    vectors: Vec<u8>,
+    targets: Vec<u32>,
+    edges: Vec<u16>,
+    versions: Vec<u16>,
+    marks: Vec<u8>,
+    pool: Vec<u32>,
+    scratch: Vec<u32>,
+}
+
+// A function of `raw` that takes the index and its six slices, with what it takes besides.
+macro_rules! with_slices {
+    ($self:ident, $function:ident, $($rest:expr),+) => {
+        // SAFETY: each pointer is that of a whole vector with its length, and what is written is borrowed by this call alone.
+        unsafe {
+            raw::$function(
+                &$self.index,
+                $self.vectors.as_ptr(),
+                $self.vectors.len(),
+                $self.targets.as_ptr(),
+                $self.targets.len(),
+                $self.edges.as_ptr(),
+                $self.edges.len(),
+                $self.versions.as_ptr(),
+                $self.versions.len(),
+                $self.marks.as_ptr(),
+                $self.marks.len(),
+                $self.pool.as_ptr(),
+                $self.pool.len(),
+                $($rest),+
+            )
+        }
+    };
+}
+
+impl Finder {
+    /// An index whose first `count` slots have the given vectors and rows.
+    #[allow(clippy::too_many_arguments)]
+    pub fn create(dim: u32, capacity: u32, degree: u32, alpha: f32, entry: u32, count: u32, bytes: &[u8], rows: &[u32]) -> Result<Finder, Error> {
+        let mut words = 0;
+        // SAFETY: `words` is borrowed by this call alone.
+        Error::of(unsafe { raw::finder_scratch_words(dim, capacity, degree, &mut words) })?;
+        let slots = capacity as usize;
+        let mut made = Finder {
+            index: [0; raw::INDEX_WORDS],
+            vectors: vec![0; slots * dim as usize],
+            targets: vec![0; slots * degree as usize],
+            edges: vec![0; slots * degree as usize],
+            versions: vec![0; slots],
+            marks: vec![0; slots],
+            pool: vec![0; raw::POOL],
+            scratch: vec![0; words as usize],
+        };
+        // SAFETY: each pointer is that of a whole slice with its length, and what is written is borrowed by this call alone.
+        let status = unsafe {
+            raw::finder_create(
+                dim,
+                capacity,
+                degree,
+                alpha,
+                entry,
+                count,
+                bytes.as_ptr(),
+                bytes.len(),
+                rows.as_ptr(),
+                rows.len(),
+                made.vectors.as_mut_ptr(),
+                made.vectors.len(),
+                made.targets.as_mut_ptr(),
+                made.targets.len(),
+                made.edges.as_mut_ptr(),
+                made.edges.len(),
+                made.versions.as_mut_ptr(),
+                made.versions.len(),
+                made.marks.as_mut_ptr(),
+                made.marks.len(),
+                made.pool.as_mut_ptr(),
+                made.pool.len(),
+                &mut made.index,
+            )
+        };
+        Error::of(status)?;
+        Ok(made)
+    }
+
+    pub fn dim(&self) -> Result<u32, Error> {
+        let mut value = 0;
+        Error::of(with_slices!(self, finder_dim, &mut value))?;
+        Ok(value)
+    }
+
+    pub fn capacity(&self) -> Result<u32, Error> {
+        let mut value = 0;
+        Error::of(with_slices!(self, finder_capacity, &mut value))?;
+        Ok(value)
+    }
+
+    pub fn degree(&self) -> Result<u32, Error> {
+        let mut value = 0;
+        Error::of(with_slices!(self, finder_degree, &mut value))?;
+        Ok(value)
+    }
+
+    pub fn alpha(&self) -> Result<f32, Error> {
+        let mut value = 0.0;
+        Error::of(with_slices!(self, finder_alpha, &mut value))?;
+        Ok(value)
+    }
+
+    /// The slot at which a search starts.
+    pub fn entry(&self) -> Result<u32, Error> {
+        let mut value = 0;
+        Error::of(with_slices!(self, finder_entry, &mut value))?;
+        Ok(value)
+    }
+
+    /// How many slots are live.
+    pub fn live(&self) -> Result<u32, Error> {
+        let mut value = 0;
+        Error::of(with_slices!(self, finder_live, &mut value))?;
+        Ok(value)
+    }
+
+    /// Whether a slot is live; one outside is not.
+    pub fn mark(&self, slot: u32) -> Result<bool, Error> {
+        let mut value = 0;
+        Error::of(with_slices!(self, finder_mark, slot, &mut value))?;
+        Ok(value != 0)
+    }
+
+    /// The version of a slot; 0 for one outside.
+    pub fn version(&self, slot: u32) -> Result<u16, Error> {
+        let mut value = 0;
+        Error::of(with_slices!(self, finder_version, slot, &mut value))?;
+        Ok(value as u16)
+    }
+
+    /// The target at a place among the live ones of a slot's row, if there is one.
+    pub fn target(&self, slot: u32, place: u32) -> Result<Option<u32>, Error> {
+        let mut value = 0;
+        Error::of(with_slices!(self, finder_target, slot, place, &mut value))?;
+        Ok((value != BLANK).then_some(value))
+    }
+
+    /// The vector of a live slot; empty where it is dead or outside.
+    pub fn vector(&self, slot: u32) -> &[u8] {
+        let n = with_slices!(self, finder_vector, slot);
+        if n == 0 {
+            return &[];
+        }
+        let start = slot as usize * n;
+        &self.vectors[start..start + n]
+    }
+
+    /// The `k` nearest to a query that the walk finds, as slots and distances, nearest first. No more than 1,024 are ever found.
+    pub fn search(&mut self, query: &[u8], k: u32, beam: u32) -> Result<Vec<(u32, f32)>, Error> {
+        let k = k.min(raw::MAX_BEAM);
+        let mut slots = vec![0; k as usize];
+        let mut dists = vec![0.0; k as usize];
+        let mut found = 0;
+        Error::of(with_slices!(
+            self,
+            finder_search,
+            query.as_ptr(),
+            query.len(),
+            k,
+            beam,
+            slots.as_mut_ptr(),
+            slots.len(),
+            dists.as_mut_ptr(),
+            dists.len(),
+            self.scratch.as_mut_ptr(),
+            self.scratch.len(),
+            &mut found
+        ))?;
+        Ok(slots.into_iter().zip(dists).take(found as usize).collect())
+    }
+}
+
+#[cfg(test)]
+mod tests {
+    use super::*;
+
+    const ROWS: [u32; 6] = [1, BLANK, 0, 2, 1, BLANK];
+
+    fn shelf() -> Finder {
+        Finder::create(1, 4, 2, 1.0, 1, 3, &[0, 3, 10], &ROWS).unwrap()
+    }
+
+    #[test]
+    fn readings() {
+        let f = shelf();
+        assert_eq!((f.dim(), f.capacity(), f.degree(), f.alpha()), (Ok(1), Ok(4), Ok(2), Ok(1.0)));
+        assert_eq!((f.entry(), f.live()), (Ok(1), Ok(3)));
+        assert_eq!((f.mark(2), f.mark(3), f.mark(9)), (Ok(true), Ok(false), Ok(false)));
+        assert_eq!((f.version(0), f.version(9)), (Ok(0), Ok(0)));
+        assert_eq!((f.target(1, 0), f.target(1, 1), f.target(1, 2)), (Ok(Some(0)), Ok(Some(2)), Ok(None)));
+        assert_eq!((f.vector(2), f.vector(3), f.vector(9)), (&[10][..], &[][..], &[][..]));
+    }
+
+    #[test]
+    fn searches() {
+        let mut f = shelf();
+        assert_eq!(f.search(&[2], 2, 2), Ok(vec![(1, 1.0), (0, 4.0)]));
+        assert_eq!(f.search(&[0], 1, 1), Ok(vec![(1, 9.0)]));
+    }
+
+    #[test]
+    fn refusals() {
+        let made = |dim, alpha, entry, count| Finder::create(dim, 4, 2, alpha, entry, count, &[0, 3, 10], &ROWS).err();
+        assert_eq!(made(257, 1.0, 1, 3), Some(Error::Sizes));
+        assert_eq!(made(1, f32::NAN, 1, 3), Some(Error::Alpha));
+        assert_eq!(made(1, 1.0, 1, 2), Some(Error::Length));
+        assert_eq!(made(1, 1.0, 3, 3), Some(Error::Given));
+        let mut f = shelf();
+        assert_eq!(f.search(&[2, 2], 2, 2), Err(Error::Length));
+        assert_eq!(f.search(&[2], 2, 1025), Err(Error::Limit));
+        f.index[5] = 2;
+        assert_eq!(f.entry(), Err(Error::Index));
+        assert_eq!(f.vector(2), &[]);
+        assert_eq!(Error::Index as u32, 6);
+    }
+}

@@ -1,0 +1,238 @@
+//! The functions of include/finder.h.
+
+pub const INDEX_WORDS: usize = 12;
+pub const POOL: usize = 1024;
+pub const MAX_BEAM: u32 = 1024;
+
+type Words = [u32; INDEX_WORDS];
+
+extern "C" {
+    pub fn finder_scratch_words(dim: u32, capacity: u32, degree: u32, words: *mut u32) -> u32;
+
+    pub fn finder_create(
+        dim: u32,
+        capacity: u32,
+        degree: u32,
+        alpha: f32,
+        entry: u32,
+        count: u32,
+        bytes: *const u8,
+        bytes_len: usize,
+        rows: *const u32,
+        rows_len: usize,
+        vectors: *mut u8,
+        vectors_len: usize,
+        targets: *mut u32,
+        targets_len: usize,
+        edges: *mut u16,
+        edges_len: usize,
+        versions: *mut u16,
+        versions_len: usize,
+        marks: *mut u8,
+        marks_len: usize,
+        pool: *mut u32,
+        pool_len: usize,
+        index: *mut Words,
+    ) -> u32;
+
+    pub fn finder_dim(
+        index: *const Words,
+        vectors: *const u8,
+        vectors_len: usize,
+        targets: *const u32,
+        targets_len: usize,
+        edges: *const u16,
+        edges_len: usize,
+        versions: *const u16,
+        versions_len: usize,
+        marks: *const u8,
+        marks_len: usize,
+        pool: *const u32,
+        pool_len: usize,
+        value: *mut u32,
+    ) -> u32;
+
+    pub fn finder_capacity(
+        index: *const Words,
+        vectors: *const u8,
+        vectors_len: usize,
+        targets: *const u32,
+        targets_len: usize,
+        edges: *const u16,
+        edges_len: usize,
+        versions: *const u16,
+        versions_len: usize,
+        marks: *const u8,
+        marks_len: usize,
+        pool: *const u32,
+        pool_len: usize,
+        value: *mut u32,
+    ) -> u32;
+
+    pub fn finder_degree(
+        index: *const Words,
+        vectors: *const u8,
+        vectors_len: usize,
+        targets: *const u32,
+        targets_len: usize,
+        edges: *const u16,
+        edges_len: usize,
+        versions: *const u16,
+        versions_len: usize,
+        marks: *const u8,
+        marks_len: usize,
+        pool: *const u32,
+        pool_len: usize,
+        value: *mut u32,
+    ) -> u32;
+
+    pub fn finder_alpha(
+        index: *const Words,
+        vectors: *const u8,
+        vectors_len: usize,
+        targets: *const u32,
+        targets_len: usize,
+        edges: *const u16,
+        edges_len: usize,
+        versions: *const u16,
+        versions_len: usize,
+        marks: *const u8,
+        marks_len: usize,
+        pool: *const u32,
+        pool_len: usize,
+        value: *mut f32,
+    ) -> u32;
+
+    pub fn finder_entry(
+        index: *const Words,
+        vectors: *const u8,
+        vectors_len: usize,
+        targets: *const u32,
+        targets_len: usize,
+        edges: *const u16,
+        edges_len: usize,
+        versions: *const u16,
+        versions_len: usize,
+        marks: *const u8,
+        marks_len: usize,
+        pool: *const u32,
+        pool_len: usize,
+        value: *mut u32,
+    ) -> u32;
+
+    pub fn finder_live(
+        index: *const Words,
+        vectors: *const u8,
+        vectors_len: usize,
+        targets: *const u32,
+        targets_len: usize,
+        edges: *const u16,
+        edges_len: usize,
+        versions: *const u16,
+        versions_len: usize,
+        marks: *const u8,
+        marks_len: usize,
+        pool: *const u32,
+        pool_len: usize,
+        value: *mut u32,
+    ) -> u32;
+
+    pub fn finder_mark(
+        index: *const Words,
+        vectors: *const u8,
+        vectors_len: usize,
+        targets: *const u32,
+        targets_len: usize,
+        edges: *const u16,
+        edges_len: usize,
+        versions: *const u16,
+        versions_len: usize,
+        marks: *const u8,
+        marks_len: usize,
+        pool: *const u32,
+        pool_len: usize,
+        slot: u32,
+        value: *mut u32,
+    ) -> u32;
+
+    pub fn finder_version(
+        index: *const Words,
+        vectors: *const u8,
+        vectors_len: usize,
+        targets: *const u32,
+        targets_len: usize,
+        edges: *const u16,
+        edges_len: usize,
+        versions: *const u16,
+        versions_len: usize,
+        marks: *const u8,
+        marks_len: usize,
+        pool: *const u32,
+        pool_len: usize,
+        slot: u32,
+        value: *mut u32,
+    ) -> u32;
+
+    pub fn finder_target(
+        index: *const Words,
+        vectors: *const u8,
+        vectors_len: usize,
+        targets: *const u32,
+        targets_len: usize,
+        edges: *const u16,
+        edges_len: usize,
+        versions: *const u16,
+        versions_len: usize,
+        marks: *const u8,
+        marks_len: usize,
+        pool: *const u32,
+        pool_len: usize,
+        slot: u32,
+        place: u32,
+        value: *mut u32,
+    ) -> u32;
+
+    pub fn finder_vector(
+        index: *const Words,
+        vectors: *const u8,
+        vectors_len: usize,
+        targets: *const u32,
+        targets_len: usize,
+        edges: *const u16,
+        edges_len: usize,
+        versions: *const u16,
+        versions_len: usize,
+        marks: *const u8,
+        marks_len: usize,
+        pool: *const u32,
+        pool_len: usize,
+        slot: u32,
+    ) -> usize;
+
+    pub fn finder_search(
+        index: *const Words,
+        vectors: *const u8,
+        vectors_len: usize,
+        targets: *const u32,
+        targets_len: usize,
+        edges: *const u16,
+        edges_len: usize,
+        versions: *const u16,
+        versions_len: usize,
+        marks: *const u8,
+        marks_len: usize,
+        pool: *const u32,
+        pool_len: usize,
+        query: *const u8,
+        query_len: usize,
+        k: u32,
+        beam: u32,
+        out_slots: *mut u32,
+        out_slots_len: usize,
+        out_dists: *mut f32,
+        out_dists_len: usize,
+        scratch: *mut u32,
+        scratch_len: usize,
+        found: *mut u32,
+    ) -> u32;
+}

@@ -1,0 +1,163 @@
+/*
+ * The picture finder for C and C++: a vector index over memory that the caller lends.
+ *
+ * An index is FINDER_INDEX_WORDS words beside six slices, which the caller owns. The words:
+ *
+ *     0 dim        1 capacity      2 degree     3 alpha's bits
+ *     4 entry      5 live count    6 guard: 0 is off, any other value on
+ *     7 landmark count    8 multiplier    9 sample    10 beam    11 length of the landmark pool
+ *
+ * Words 7 to 11 count only where the guard is on; a new index has 0 there. The six slices, in the order of the parameters:
+ *
+ *     vectors   capacity * dim       the bytes of each slot's vector
+ *     targets   capacity * degree    the references of each slot's row; FINDER_BLANK is no reference
+ *     edges     capacity * degree    a version for each reference
+ *     versions  capacity             a version for each slot
+ *     marks     capacity             not 0 where the slot is live
+ *     pool      FINDER_POOL          the landmark pool
+ *
+ * A slice is a pointer and a length in elements. Every pointer is aligned and not null, also where the length is 0, and has that many elements behind it.
+ * What a function writes must not overlap anything else that it is lent; what it only reads may overlap. What is written may hold anything before. No
+ * function keeps a pointer or allocates, and only memset is called; several threads may read one index at a time.
+ *
+ * Every function but finder_vector returns 0 where it is carried out, else the number of the refusal. Those that apply are tested in the order of their
+ * numbers, and the first that holds is returned. A call that is refused writes nothing.
+ *
+ * Each call tests anew that the words and the slices belong together, whoever wrote them: the words may be stored and copied like any others.
+ */
+#ifndef FINDER_H
+#define FINDER_H
+
+#include <stddef.h>
+#include <stdint.h>
+
+#ifdef __cplusplus
+extern "C" {
+#endif
+
+#define FINDER_INDEX_WORDS 12
+#define FINDER_POOL 1024
+
+/* No slot: an empty place of a row. */
+#define FINDER_BLANK 0xffffffffu
+
+/* The largest dim, capacity and degree; the least is 1. */
+#define FINDER_MAX_DIM 256
+#define FINDER_MAX_CAPACITY 65536
+#define FINDER_MAX_DEGREE 64
+#define FINDER_MAX_BEAM 1024
+
+/* The refusals. */
+#define FINDER_OK 0
+#define FINDER_BAD_SIZES 1      /* dim, capacity or degree is outside its range */
+#define FINDER_BAD_ALPHA 2      /* alpha is outside 1.0 to 2.0, or NaN */
+#define FINDER_BAD_LENGTH 3     /* a slice has another length than it must */
+#define FINDER_TOO_MANY 4       /* more vectors are given than there are slots */
+#define FINDER_BAD_GIVEN 5      /* a given row names neither blank nor a given slot, or the entry is not given (0 where none is given) */
+#define FINDER_BAD_INDEX 6      /* the live count differs from the marks, the entry is not below capacity, or the guard is on with a setting or a pool outside its range */
+#define FINDER_OVER_LIMIT 7     /* a beam over FINDER_MAX_BEAM, or k over the length of an output */
+#define FINDER_SHORT_SCRATCH 8  /* the scratch is shorter than finder_scratch_words says */
+
+/*
+ * How many words of scratch the calls on an index of these sizes ask for, at most 8,388,608. Written to *words.
+ * Refusals: 1.
+ */
+uint32_t finder_scratch_words(uint32_t dim, uint32_t capacity, uint32_t degree, uint32_t *words);
+
+/*
+ * Makes an index of which the first count slots are given: bytes has the vectors (count * dim), rows the references (count * degree, each FINDER_BLANK or
+ * a given slot). Whatever the six slices held, they are written whole, and so are the index's words. The guard is off.
+ * Refusals, in order: 1, 2, 3 (one of the six slices, bytes or rows), 4, 5.
+ */
+uint32_t finder_create(uint32_t dim, uint32_t capacity, uint32_t degree, float alpha, uint32_t entry, uint32_t count,
+    const uint8_t *bytes, size_t bytes_len, const uint32_t *rows, size_t rows_len,
+    uint8_t *vectors, size_t vectors_len, uint32_t *targets, size_t targets_len, uint16_t *edges, size_t edges_len,
+    uint16_t *versions, size_t versions_len, uint8_t *marks, size_t marks_len, uint32_t *pool, size_t pool_len,
+    uint32_t index[FINDER_INDEX_WORDS]);
+
+/*
+ * Readings. Each writes what it read to *value.
+ * Refusals, in order: 1, 2, 3, 6.
+ */
+
+/* The dim. */
+uint32_t finder_dim(const uint32_t index[FINDER_INDEX_WORDS],
+    const uint8_t *vectors, size_t vectors_len, const uint32_t *targets, size_t targets_len, const uint16_t *edges, size_t edges_len,
+    const uint16_t *versions, size_t versions_len, const uint8_t *marks, size_t marks_len, const uint32_t *pool, size_t pool_len,
+    uint32_t *value);
+
+/* The capacity. */
+uint32_t finder_capacity(const uint32_t index[FINDER_INDEX_WORDS],
+    const uint8_t *vectors, size_t vectors_len, const uint32_t *targets, size_t targets_len, const uint16_t *edges, size_t edges_len,
+    const uint16_t *versions, size_t versions_len, const uint8_t *marks, size_t marks_len, const uint32_t *pool, size_t pool_len,
+    uint32_t *value);
+
+/* The degree. */
+uint32_t finder_degree(const uint32_t index[FINDER_INDEX_WORDS],
+    const uint8_t *vectors, size_t vectors_len, const uint32_t *targets, size_t targets_len, const uint16_t *edges, size_t edges_len,
+    const uint16_t *versions, size_t versions_len, const uint8_t *marks, size_t marks_len, const uint32_t *pool, size_t pool_len,
+    uint32_t *value);
+
+/* Alpha. */
+uint32_t finder_alpha(const uint32_t index[FINDER_INDEX_WORDS],
+    const uint8_t *vectors, size_t vectors_len, const uint32_t *targets, size_t targets_len, const uint16_t *edges, size_t edges_len,
+    const uint16_t *versions, size_t versions_len, const uint8_t *marks, size_t marks_len, const uint32_t *pool, size_t pool_len,
+    float *value);
+
+/* The slot at which a search starts. */
+uint32_t finder_entry(const uint32_t index[FINDER_INDEX_WORDS],
+    const uint8_t *vectors, size_t vectors_len, const uint32_t *targets, size_t targets_len, const uint16_t *edges, size_t edges_len,
+    const uint16_t *versions, size_t versions_len, const uint8_t *marks, size_t marks_len, const uint32_t *pool, size_t pool_len,
+    uint32_t *value);
+
+/* How many slots are live. */
+uint32_t finder_live(const uint32_t index[FINDER_INDEX_WORDS],
+    const uint8_t *vectors, size_t vectors_len, const uint32_t *targets, size_t targets_len, const uint16_t *edges, size_t edges_len,
+    const uint16_t *versions, size_t versions_len, const uint8_t *marks, size_t marks_len, const uint32_t *pool, size_t pool_len,
+    uint32_t *value);
+
+/* The mark of a slot: 1 where it is live, 0 where it is dead or outside. */
+uint32_t finder_mark(const uint32_t index[FINDER_INDEX_WORDS],
+    const uint8_t *vectors, size_t vectors_len, const uint32_t *targets, size_t targets_len, const uint16_t *edges, size_t edges_len,
+    const uint16_t *versions, size_t versions_len, const uint8_t *marks, size_t marks_len, const uint32_t *pool, size_t pool_len,
+    uint32_t slot, uint32_t *value);
+
+/* The version of a slot, 0 to 65,535; 0 for a slot outside. */
+uint32_t finder_version(const uint32_t index[FINDER_INDEX_WORDS],
+    const uint8_t *vectors, size_t vectors_len, const uint32_t *targets, size_t targets_len, const uint16_t *edges, size_t edges_len,
+    const uint16_t *versions, size_t versions_len, const uint8_t *marks, size_t marks_len, const uint32_t *pool, size_t pool_len,
+    uint32_t slot, uint32_t *value);
+
+/* The target at a place, from 0, among the live ones of a slot's row; FINDER_BLANK past the last and for a slot outside. */
+uint32_t finder_target(const uint32_t index[FINDER_INDEX_WORDS],
+    const uint8_t *vectors, size_t vectors_len, const uint32_t *targets, size_t targets_len, const uint16_t *edges, size_t edges_len,
+    const uint16_t *versions, size_t versions_len, const uint8_t *marks, size_t marks_len, const uint32_t *pool, size_t pool_len,
+    uint32_t slot, uint32_t place, uint32_t *value);
+
+/*
+ * How many bytes the vector of a slot has: dim where the slot is live, and they begin at vectors + (size_t)slot * dim; 0 where it is dead or outside, and
+ * where the call is refused, with 1, 2, 3 or 6, which is not told.
+ */
+size_t finder_vector(const uint32_t index[FINDER_INDEX_WORDS],
+    const uint8_t *vectors, size_t vectors_len, const uint32_t *targets, size_t targets_len, const uint16_t *edges, size_t edges_len,
+    const uint16_t *versions, size_t versions_len, const uint8_t *marks, size_t marks_len, const uint32_t *pool, size_t pool_len,
+    uint32_t slot);
+
+/*
+ * Walks the graph from the entry with a list of at most beam slots (0 acts as 1) and gives the k nearest to the query that it finds, nearest first, of
+ * equals the lower slot first. Their number, at most k, is written to *found, the slots and the distances (sums of squared differences, whole numbers) to
+ * the first *found places of the outputs; the places after them stay. The scratch is overwritten.
+ * Refusals, in order: 1, 2, 3 (one of the six slices, or a query that is not dim long), 6, 7, 8.
+ */
+uint32_t finder_search(const uint32_t index[FINDER_INDEX_WORDS],
+    const uint8_t *vectors, size_t vectors_len, const uint32_t *targets, size_t targets_len, const uint16_t *edges, size_t edges_len,
+    const uint16_t *versions, size_t versions_len, const uint8_t *marks, size_t marks_len, const uint32_t *pool, size_t pool_len,
+    const uint8_t *query, size_t query_len, uint32_t k, uint32_t beam,
+    uint32_t *out_slots, size_t out_slots_len, float *out_dists, size_t out_dists_len, uint32_t *scratch, size_t scratch_len,
+    uint32_t *found);
+
+#ifdef __cplusplus
+}
+#endif
+
+#endif
