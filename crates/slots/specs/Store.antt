@@ -7,7 +7,7 @@ use mathlib.Core.Path.{_≡_}
 use lib.ListN.{length, take, getD, set, replicate}
 use lib.Dec.{eqb, ltb}
 use lib.Ieee.{Float}
-use Rattle.lists.specs.Lists.{part, put-part}
+use Rattle.lists.specs.Lists.{filter, range, part, put-part}
 use Rattle.slots.specs.Sizes.{Sizes}
 use Rattle.slots.specs.View.{View}
 use Rattle.slots.specs.Ops.{Ops}
@@ -46,6 +46,10 @@ pub record Store : Type 0 where
 -- `is_valid`: a mark other than 0
 unfoldable pub is-valid : List ℕ → ℕ → Bool
 is-valid marks s = not (eqb (getD marks s 0) 0)
+
+-- how many slots from one up to another are live
+abbrev pub live-between : List ℕ → ℕ → ℕ → ℕ
+live-between marks from to = length (filter (is-valid marks) (range from (to - from)))
 
 -- of a row: the targets of the references whose edge version is their target's version
 unfoldable pub current : List ℕ → List ℕ → List ℕ → List ℕ

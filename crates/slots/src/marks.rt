@@ -1,10 +1,10 @@
 // A mark and a version for each slot.
 ghost use mathlib.Core.Bool.{cond};
 ghost use mathlib.Core.Path.{_≡_};
-ghost use Prim.Native.Nat.{suc, _%_, _<_};
+ghost use Prim.Native.Nat.{suc, _+_, _%_, _≤_, _<_};
 ghost use lib.ListN.{length, getD, set};
 ghost use Rattle.lists.specs.Lists.{filter, range};
-ghost use Rattle.slots.specs.Store.{is-valid};
+ghost use Rattle.slots.specs.Store.{is-valid, live-between};
 
 // A slot number as an index.
 pub fn wide(x: u32) -> usize
@@ -23,6 +23,33 @@ pub fn is_valid(marks: &[u8], s: usize) -> bool
     false
 }
 
+// How many of the slots from `from` up to `to` are live. At most 128 are counted, in a byte, so that the compiler takes 16 marks at a time.
+fn count_block(marks: &[u8], from: usize, to: usize) -> u8
+    requires { ⌜ (from ≤ to) × (to ≤ from + 128) × (to ≤ length (now marks)) ⌝ }
+    ensures { λ r. ⌜ r ≡ live-between (now (marks .entry)) from to ⌝ }
+{
+    let mut n: u8 = 0;
+    let mut s = from;
+    while s < to {
+        if marks[s] != 0 {
+            n += 1;
+        }
+        s += 1;
+    }
+    n
+}
+
+// Where a block of 128 slots that begins at `s` ends.
+fn block_end(s: usize, len: usize) -> usize
+    requires { ⌜ s < len ⌝ }
+    ensures { λ r. ⌜ (s < r) × (r ≤ s + 128) × (r ≤ len) ⌝ }
+{
+    if len - s < 128 {
+        return len;
+    }
+    s + 128
+}
+
 // How many slots are live.
 pub fn count_valid(marks: &[u8]) -> usize
     ensures { λ r. ⌜ r ≡ length (filter (is-valid (now (marks .entry))) (range 0 (length (now (marks .entry))))) ⌝ }
@@ -30,10 +57,9 @@ pub fn count_valid(marks: &[u8]) -> usize
     let mut n: usize = 0;
     let mut s: usize = 0;
     while s < marks.len() {
-        if is_valid(marks, s) {
-            n += 1;
-        }
-        s += 1;
+        let end = block_end(s, marks.len());
+        n += count_block(marks, s, end) as usize;
+        s = end;
     }
     n
 }
