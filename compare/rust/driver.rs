@@ -5,6 +5,8 @@ use super::*;
 
 #[path = "beside.rs"]
 pub mod beside;
+#[path = "histories.rs"]
+pub mod histories;
 
 use std::fmt::Write as _;
 use std::io::{BufRead, Write as _};

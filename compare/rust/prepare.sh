@@ -18,6 +18,7 @@ for v in asis sorted; do
   printf '\n#[path = "../../driver.rs"]\npub(crate) mod driver;\n' >> $v/src/mmap_dynamic.rs
   printf '\npub fn oracle_driver_main(args: Vec<String>) {\n    mmap_dynamic::driver::main(args)\n}\n' >> $v/src/lib.rs
   printf '\npub use mmap_dynamic::driver::beside::main as beside_main;\n' >> $v/src/lib.rs
+  printf '\npub use mmap_dynamic::driver::histories;\n' >> $v/src/lib.rs
   echo "== $v/src/lib.rs"; diff "$S/lib.rs" $v/src/lib.rs || true
   echo "== $v/src/mmap_dynamic.rs"; diff "$S/mmap_dynamic.rs" $v/src/mmap_dynamic.rs || true
 done

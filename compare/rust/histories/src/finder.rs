@@ -1,0 +1,50 @@
+//! The functions of libfinder.a. The pointer to alpha is one to its bits.
+
+macro_rules! on_index {
+    ($($name:ident($($more:ty),*) -> $answer:ty;)*) => {
+        unsafe extern "C" {
+            $(pub fn $name(
+                index: *const u32, vectors: *const u8, vectors_len: usize, targets: *const u32, targets_len: usize, edges: *const u16,
+                edges_len: usize, versions: *const u16, versions_len: usize, marks: *const u8, marks_len: usize, pool: *const u32, pool_len: usize,
+                $(_: $more),*
+            ) -> $answer;)*
+        }
+    };
+}
+
+on_index! {
+    finder_dim(*mut u32) -> u32;
+    finder_capacity(*mut u32) -> u32;
+    finder_degree(*mut u32) -> u32;
+    finder_alpha(*mut u32) -> u32;
+    finder_entry(*mut u32) -> u32;
+    finder_live(*mut u32) -> u32;
+    finder_mark(u32, *mut u32) -> u32;
+    finder_version(u32, *mut u32) -> u32;
+    finder_target(u32, u32, *mut u32) -> u32;
+    finder_vector(u32) -> usize;
+    finder_search(*const u8, usize, u32, u32, *mut u32, usize, *mut u32, usize, *mut u32, usize, *mut u32) -> u32;
+}
+
+unsafe extern "C" {
+    pub fn finder_scratch_words(dim: u32, capacity: u32, degree: u32, words: *mut u32) -> u32;
+    pub fn finder_create(
+        dim: u32, capacity: u32, degree: u32, alpha: f32, entry: u32, count: u32, bytes: *const u8, bytes_len: usize, rows: *const u32,
+        rows_len: usize, vectors: *mut u8, vectors_len: usize, targets: *mut u32, targets_len: usize, edges: *mut u16, edges_len: usize,
+        versions: *mut u16, versions_len: usize, marks: *mut u8, marks_len: usize, pool: *mut u32, pool_len: usize, index: *mut u32,
+    ) -> u32;
+}
+
+/// Calls a function on the index of a history: its words and six slices, of the lengths lent, and what more the function takes.
+macro_rules! call {
+    ($name:ident, $both:expr, $lent:expr $(, $more:expr)*) => {
+        unsafe {
+            let (b, n) = (&$both, &$lent);
+            $crate::finder::$name(
+                b.words.ptr(), b.six.vectors.ptr(), n[0], b.six.targets.ptr(), n[1], b.six.edges.ptr(), n[2], b.six.versions.ptr(), n[3],
+                b.six.marks.ptr(), n[4], b.six.pool.ptr(), n[5], $($more),*
+            )
+        }
+    };
+}
+pub(crate) use call;

@@ -1,0 +1,59 @@
+//! Random histories of calls on the library and on the Rust, in one process: `histories CALLS SEED`. Exit code 1 if any call differs.
+mod both;
+mod calls;
+mod draw;
+mod finder;
+mod lent;
+mod table;
+
+use calls::KINDS;
+
+fn main() {
+    let args: Vec<u64> = std::env::args().skip(1).map(|a| a.parse().expect("histories CALLS SEED")).collect();
+    let (calls, seed) = (args[0], args[1]);
+    let mut h = calls::begin(seed);
+    let weights: u32 = KINDS.iter().map(|k| k.weight).sum();
+    let mut counts = vec![[0u64; 16]; KINDS.len()]; // by the number given
+    let mut differ = vec![0u64; KINDS.len()];
+    let mut set_ups = [0u64; 2];
+    let mut largest = 0u64; // calls on an index of the largest capacity
+    for call in 1..=calls {
+        match h.rng.below(100) {
+            0..=11 => {
+                h.both.set_up_by_the_rust(&mut h.rng);
+                set_ups[0] += 1;
+            }
+            12..=16 => {
+                h.both.set_up_by_hand(&mut h.rng);
+                set_ups[1] += 1;
+            }
+            _ => {}
+        }
+        let mut at = h.rng.below(weights);
+        let kind = KINDS.iter().position(|k| at < k.weight || { at -= k.weight; false }).unwrap();
+        let outcome = (KINDS[kind].run)(&mut h);
+        counts[kind][outcome.number as usize] += 1;
+        largest += (h.both.capacity() == 65_536) as u64;
+        if let Some(said) = outcome.differs {
+            if differ.iter().all(|&n| n == 0) {
+                println!("first difference, in call {call} (to repeat: compare/histories.sh {call} {seed}):\n{said}\n");
+            }
+            differ[kind] += 1;
+        }
+    }
+    println!("seed {seed}, {calls} calls, {largest} of them on an index of 65,536 slots");
+    println!("set up between calls: {} times by the Rust's inserts and deletes, {} times by hand", set_ups[0], set_ups[1]);
+    let numbers: Vec<usize> = (1..16).filter(|&n| counts.iter().any(|c| c[n] > 0)).collect();
+    let line = |name: &str, cells: Vec<String>| println!("{name:12}{}", cells.iter().map(|c| format!("{c:>12}")).collect::<String>());
+    let heads = ["carried out".to_string()].into_iter().chain(numbers.iter().map(|n| format!("refused {n}"))).chain(["differ".into()]);
+    line("", heads.collect());
+    let row = |c: &[u64; 16], d: u64| [c[0]].into_iter().chain(numbers.iter().map(|&n| c[n])).chain([d]).map(|n| n.to_string()).collect::<Vec<_>>();
+    for (kind, (c, &d)) in KINDS.iter().zip(counts.iter().zip(&differ)) {
+        line(kind.name, row(c, d));
+    }
+    let sum: [u64; 16] = std::array::from_fn(|n| counts.iter().map(|c| c[n]).sum());
+    let all: u64 = differ.iter().sum();
+    line("all", row(&sum, all));
+    println!("{all} of {calls} calls differ");
+    std::process::exit((all > 0) as i32);
+}
