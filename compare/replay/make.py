@@ -1,0 +1,504 @@
+#!/usr/bin/env python3
+"""make.py ORACLE > crates/replay/stdin
+
+Drives the Rust (compare/rust, variant `sorted`) through random histories and writes them with its answers as the list that the
+program `replay` performs. The Rust reaches an index by inserts and deletes; its dump is then made and stored in the list, and read
+and searched. The Rust gives answers; the refusals that only the port has are worked out here, from document 01's table.
+"""
+import subprocess
+import sys
+
+SEED = 20260101
+BLANK = 4294967295
+NAN = 4294967295  # as an alpha
+ONE = 1 << 24  # alpha 1.0
+POOL = 1024
+
+
+class Random:
+    """splitmix64: the same numbers everywhere."""
+
+    def __init__(self, seed):
+        self.state = seed
+
+    def below(self, n):
+        self.state = (self.state + 0x9E3779B97F4A7C15) % 2**64
+        z = self.state
+        z = (z ^ (z >> 30)) * 0xBF58476D1CE4E5B9 % 2**64
+        z = (z ^ (z >> 27)) * 0x94D049BB133111EB % 2**64
+        return (z ^ (z >> 31)) % n
+
+    def among(self, low, high):
+        return low + self.below(high - low + 1)
+
+    def pick(self, xs):
+        return xs[self.below(len(xs))]
+
+
+class Oracle:
+    """The Rust, run anew on the calls since the last making each time that it is asked."""
+
+    def __init__(self, path):
+        self.path, self.calls = path, []
+
+    def call(self, *words):
+        if words[0] == "make":
+            self.calls = []
+        self.calls.append(" ".join(str(w) for w in words))
+
+    def answers(self, lines):
+        """The output for these lines after the calls; for `dump` alone that is several lines."""
+        text = "\n".join(self.calls + lines) + "\n"
+        output = subprocess.run([self.path, "--variant", "sorted"], input=text, stdout=subprocess.PIPE, text=True, check=True).stdout
+        return output.splitlines()[len(self.calls):]
+
+    def dump(self):
+        answer = self.answers(["dump"])
+        head = answer[0].split()
+        slots = [Slot(line.split()) for line in answer[2:-1]]
+        return Dump([int(head[i]) for i in (2, 4, 6)], int(head[8], 16), int(head[10]), int(head[12]), slots)
+
+
+def numbers(text):
+    return [] if text == "." else [int(x) for x in text.split(",")]
+
+
+class Slot:
+    def __init__(self, words):
+        self.mark, self.version = int(words[3]), int(words[5])
+        edges = [(e + "/0").split("/")[:2] for e in words[7].split(",")]
+        self.edges = [(BLANK if t == "-" else int(t), int(v)) for t, v in edges]
+        self.live = numbers(words[9])
+        self.vector = list(bytes.fromhex(words[11][1:]))
+
+    def used(self):
+        return self.mark or self.version or any(self.vector) or any(e != (BLANK, 0) for e in self.edges)
+
+
+class Dump:
+    def __init__(self, sizes, alpha, entry, live, slots):
+        self.sizes, self.entry, self.live, self.slots = sizes, entry, live, slots
+        self.alpha = ((alpha & 0x7FFFFF) | 0x800000) * 2 ** ((alpha >> 23) - 126)  # of [1, 2], times 2^24
+
+
+def scratch_words(capacity, degree):
+    """The library's own size answer."""
+    return 81920 + 4 * capacity + 2048 * degree
+
+
+# ---------------------------------------------------------------- document 01's table
+
+
+def sizes_bad(dim, capacity, degree):
+    return not (1 <= dim <= 256 and 1 <= capacity <= 65536 and 1 <= degree <= 64)
+
+
+def alpha_bad(alpha):
+    return not ONE <= alpha <= 2 * ONE
+
+
+def exact(dim, capacity, degree):
+    rows = capacity * degree
+    return [capacity * dim, rows, rows, capacity, capacity, POOL]
+
+
+def making_refusal(sizes, alpha, entry, count, lent, given, rows):
+    dim, capacity, degree = sizes
+    if sizes_bad(*sizes):
+        return 1
+    if alpha_bad(alpha):
+        return 2
+    if lent[:6] != exact(*sizes) or len(given) != count * dim or len(rows) != count * degree:
+        return 3
+    if count > capacity:
+        return 4
+    if any(t != BLANK and t >= count for t in rows) or not (entry < count or (count == 0 and entry == 0)):
+        return 5
+    return 0
+
+
+class Book:
+    """What is known of the index that the list has made: enough to say which calls are turned back."""
+
+    def __init__(self):
+        self.sizes, self.alpha, self.entry, self.live, self.marked, self.lent = [0, 0, 0], 0, 0, 0, 0, [0] * 9
+
+    def refusal(self, query=None):
+        if sizes_bad(*self.sizes):
+            return 1
+        if alpha_bad(self.alpha):
+            return 2
+        if self.lent[:6] != exact(*self.sizes) or (query is not None and query != self.sizes[0]):
+            return 3
+        if self.live != self.marked or self.entry >= self.sizes[1]:
+            return 6
+        return 0
+
+    def search_refusal(self, k, beam, query):
+        if refused := self.refusal(query):
+            return refused
+        if beam > 1024 or k > self.lent[6] or k > self.lent[7]:
+            return 7
+        if self.lent[8] < scratch_words(*self.sizes[1:]):
+            return 8
+        return 0
+
+
+# ---------------------------------------------------------------- the list
+
+
+class List:
+    def __init__(self, oracle, random):
+        self.oracle, self.random, self.book, self.given, self.rows = oracle, random, Book(), [], []
+
+    def put(self, *words):
+        print(*words)
+
+    def lend(self, *lengths):
+        self.book.lent = list(lengths)
+        self.put("lend", *lengths)
+
+    def lend_for(self, sizes, slots=1024, dists=1024, words=None):
+        fit = scratch_words(*sizes[1:]) if words is None else words
+        self.lend(*exact(*sizes), slots, dists, fit)
+
+    def give(self, given, rows):
+        self.given, self.rows = given, rows
+        self.put("give", len(given), *given)
+        self.put("rows", len(rows), *[(t + 1) % 2**32 for t in rows])
+
+    def make(self, sizes, alpha, entry, count):
+        refused = making_refusal(sizes, alpha, entry, count, self.book.lent, self.given, self.rows)
+        self.put("make", *sizes, alpha, entry, count, refused)
+        if not refused:
+            b = self.book
+            b.sizes, b.alpha, b.entry, b.live, b.marked = list(sizes), alpha, entry, count, count
+        return refused
+
+    def set(self, field, value):
+        b = self.book
+        if field < 3:
+            b.sizes[field] = value
+        elif field == 3:
+            b.alpha = value
+        elif field == 4:
+            b.entry = value
+        else:
+            b.live = value
+        self.put("set", field, value)
+
+    def store(self, array, place, value):
+        self.put("store", array, place, value)
+
+    def read(self, what, slot, place, value):
+        refused = self.book.refusal()
+        self.put("read", what, slot, place, refused, 0 if refused else value)
+
+    def vector(self, slot, values):
+        values = [] if self.book.refusal() else values
+        self.put("vector", slot, len(values), *values)
+
+    def searches(self, asked):
+        refused = [self.book.search_refusal(k, beam, len(query)) for k, beam, query in asked]
+        lines = ["search %d %d x%s" % (k, beam, bytes(query).hex()) for (k, beam, query), r in zip(asked, refused) if not r]
+        answers = iter(self.oracle.answers(lines) if lines else [])
+        for (k, beam, query), r in zip(asked, refused):
+            if r:
+                self.put("search", k, beam, len(query), *query, r)
+            else:
+                found = next(answers).split()
+                pairs = [x for pair in found[2:] for x in pair.split(":")]
+                self.put("search", k, beam, len(query), *query, 0, found[1], *pairs)
+
+    def search(self, k, beam, query):
+        self.searches([(k, beam, query)])
+
+    # ------------------------------------------------------------ an index as the Rust holds it
+
+    def copy(self, dump, most=2048):
+        """Makes the dumped index: slots up to the highest used as given, and what making cannot give stored by hand."""
+        dim, capacity, degree = dump.sizes
+        used = [i for i, s in enumerate(dump.slots) if s.used()]
+        count = 1 + max((i for i in used if i < most), default=-1)
+        self.lend_for(dump.sizes)
+        rows = [t for s in dump.slots[:count] for t, _ in s.edges]
+        self.give([v for s in dump.slots[:count] for v in s.vector], [t if t < count else BLANK for t in rows])
+        entry = dump.entry if dump.entry < count else 0
+        if self.make(dump.sizes, dump.alpha, entry, count):
+            sys.exit("a dump that cannot be made")
+        for i in sorted(set(range(count)) | set(used)):
+            self.amend(i, dump.slots[i], i < count, count, dim, degree)
+        if dump.entry != entry:
+            self.set(4, dump.entry)
+        if dump.live != count:
+            self.set(5, dump.live)
+        self.book.marked = dump.live
+
+    def amend(self, i, slot, given, count, dim, degree):
+        if slot.mark != given:
+            self.store(0, i, slot.mark)
+        if slot.version:
+            self.store(1, i, slot.version)
+        for place, (target, version) in enumerate(slot.edges):
+            if target != BLANK and not (given and target < count):
+                self.store(2, i * degree + place, target)
+            if version:
+                self.store(3, i * degree + place, version)
+        for place, value in enumerate(slot.vector):
+            if value and not given:
+                self.store(4, i * dim + place, value)
+
+    def read_sizes(self, dump):
+        for what, value in enumerate(dump.sizes + [dump.alpha, dump.entry, dump.live]):
+            self.read(what, 0, 0, value)
+
+    def read_slot(self, dump, i):
+        """Every reading of a slot; one outside reads as one never filled."""
+        s = dump.slots[i] if i < len(dump.slots) else None
+        self.read(6, i, 0, 1 if s and s.mark else 0)
+        self.read(7, i, 0, s.version if s else 0)
+        live = s.live if s else []
+        for place in range(len(live) + 1):
+            self.read(8, i, place, live[place] if place < len(live) else BLANK)
+        self.vector(i, s.vector if s and s.mark else [])
+
+    def read_some(self, dump, n):
+        self.read_sizes(dump)
+        used = [i for i, s in enumerate(dump.slots) if s.used()]
+        slots = [self.random.pick(used) for _ in range(n)] if used else []
+        for i in slots + [0, len(dump.slots) - 1, len(dump.slots), BLANK]:
+            self.read_slot(dump, i)
+
+
+# ---------------------------------------------------------------- histories
+
+
+class History:
+    """Random calls to the Rust, and copies of what they reach."""
+
+    def __init__(self, out, dim, capacity, degree, alpha, values):
+        self.out, self.oracle, self.random = out, out.oracle, out.random
+        self.sizes, self.alpha, self.values = [dim, capacity, degree], alpha, values
+
+    def vector(self):
+        step = 255 // (self.values - 1)
+        return [step * self.random.below(self.values) for _ in range(self.sizes[0])]
+
+    def row(self, count):
+        """Blanks between, repeats and references to the slot itself as they come."""
+        blanks = self.random.pick([0, 0, 0, 0, 1, 1, 2, 4])
+        return [BLANK if self.random.below(4) < blanks else self.random.below(count) for _ in range(self.sizes[2])]
+
+    def make(self, count):
+        vectors = [bytes(self.vector()).hex() for _ in range(count)]
+        rows = [",".join("-" if t == BLANK else str(t) for t in self.row(count)) for _ in range(count)]
+        ends = [i for i, row in enumerate(rows) if set(row) <= set("-,")]
+        entry = self.random.pick([i for i in range(count) if i not in ends] or [0])
+        alpha = "0x%08x" % (0x3F800000 + (self.alpha - ONE) // 2)
+        self.oracle.call("make", *self.sizes, alpha, entry, count, *["x" + v for v in vectors], *rows)
+
+    def insert(self, most):
+        n = self.random.among(1, most)
+        vectors = ["x" + bytes(self.vector()).hex() for _ in range(n)]
+        self.oracle.call("insert", self.random.below(12), n, *vectors)
+
+    def delete(self, ids):
+        self.oracle.call("delete", self.random.below(8), self.random.below(4), *ids)
+
+    def some(self, n):
+        return [self.random.below(self.sizes[1]) for _ in range(n)]
+
+    def changes(self, rounds, most):
+        for _ in range(rounds):
+            if self.random.below(2):
+                self.insert(most)
+            else:
+                self.delete(self.some(self.random.among(1, most)))
+
+    def alter(self):
+        """Hand-made states: other versions, marks and references, an entry anywhere."""
+        capacity, degree = self.sizes[1:]
+        for slot in self.some(3):
+            self.oracle.call("setversion", slot, self.random.pick([0, 1, 65535]))
+            target = self.random.pick(["-", capacity, 70000, self.random.below(capacity)])
+            self.oracle.call("setedge", slot, self.random.below(degree), target, self.random.pick([0, 1, 65535]))
+        for slot in self.some(2):
+            self.oracle.call("setmark", slot, self.random.pick([0, 1, 2, 255]))
+        self.oracle.call("setentry", self.random.below(capacity))
+
+    def shown(self, searches, reads, k=12, beams=(0, 1, 2, 3, 5, 8, 16, 64)):
+        dump = self.oracle.dump()
+        self.out.copy(dump)
+        self.out.read_some(dump, reads)
+        self.out.searches([(self.random.among(0, k), self.random.pick(beams), self.query(dump)) for _ in range(searches)])
+        return dump
+
+    def query(self, dump):
+        """Any vector, or one that the index holds."""
+        if self.random.below(3):
+            return self.vector()
+        return self.random.pick(dump.slots).vector
+
+
+def small(out):
+    r = out.random
+    for i in range(24):
+        capacity = r.among(1, 32)
+        alpha = r.pick([ONE, ONE * 5 // 4, ONE * 3 // 2, 2 * ONE, ONE + 2 * r.below(ONE // 2)])
+        h = History(out, r.among(1, 5), capacity, r.among(1, 6), alpha, r.pick([2, 2, 3, 4, 256]))
+        h.make(r.pick([0, capacity, r.among(0, capacity), r.among(0, capacity)]))
+        h.shown(16, 3)
+        h.changes(6, 4)
+        h.shown(24, 4)
+        h.alter()
+        h.shown(16, 3)
+
+
+def medium(out):
+    """Many ties, and longer answers."""
+    for dim, capacity, degree, values in ((1, 60, 3, 6), (3, 120, 5, 3), (4, 200, 8, 256)):
+        h = History(out, dim, capacity, degree, ONE * 5 // 4, values)
+        h.make(capacity * 3 // 4)
+        h.shown(40, 3, 24)
+        h.changes(8, 10)
+        h.shown(60, 3, 24)
+
+
+def dead_entries(out):
+    """All slots are emptied, and others filled: the entry is dead or taken over."""
+    for capacity in (1, 2, 6):
+        h = History(out, 2, capacity, 1 + capacity // 2, ONE, 4)
+        h.make(capacity)
+        h.delete(list(range(capacity)))
+        h.shown(6, 1)
+        h.insert(1)
+        h.shown(8, 1)
+        h.delete([0])
+        h.insert(1)
+        h.shown(8, 1)
+
+
+def wide(out):
+    """Dim 256 and degree 64."""
+    r = out.random
+    for degree, values in ((64, 2), (3, 256)):
+        h = History(out, 256, 14, degree, ONE * 5 // 4, values)
+        h.make(9)
+        h.changes(4, 3)
+        h.shown(10, 2)
+    h = History(out, 2, 90, 64, ONE * 3 // 2, 6)
+    h.make(70)
+    h.changes(6, 8)
+    h.shown(60, 3, 20, (1, 4, 16, 64, 128))
+
+
+def many(out):
+    """Beams up to 1,024, and lists as long."""
+    h = History(out, 2, 1200, 4, ONE * 6 // 5 // 2 * 2, 40)
+    h.make(1000)
+    for _ in range(4):
+        h.insert(40)
+        h.delete(h.some(30))
+    dump = h.shown(60, 3, 20, (10, 32, 100, 300, 700, 1023, 1024))
+    for k, beam in ((1024, 1024), (1000, 1023), (1024, 60)):
+        out.search(k, beam, h.query(dump))
+
+
+def largest(out):
+    """Capacity 65,536, the last slots included."""
+    for dim, degree in ((1, 1), (4, 2)):
+        h = History(out, dim, 65536, degree, ONE, 5)
+        h.make(120)
+        h.insert(20)
+        h.delete(h.some(4) + list(range(10, 20)))
+        for slot in (65535, 65534):
+            out.oracle.call("setmark", slot, 1)
+            out.oracle.call("setedge", out.random.below(8), degree - 1, slot, 0)
+        out.oracle.call("setedge", 65535, 0, 7, 0)
+        h.shown(30, 2, 12, (1, 4, 40, 200))
+
+
+def refused_makings(out):
+    r = out.random
+    sizes = [2, 4, 3]
+    given, rows = [7] * 6, [1, BLANK, 0, 2, 2, BLANK, BLANK, BLANK, 0]
+
+    def attempt(sizes=sizes, alpha=ONE, entry=1, count=3, given=given, rows=rows, lent=None):
+        out.lend_for([2, 4, 3]) if lent is None else out.lend(*lent, 1024, 1024, 0)
+        out.give(given, rows)
+        out.make(sizes, alpha, entry, count)
+        out.read(5, 0, 0, out.book.live)
+
+    attempt()
+    for bad in ([0, 4, 3], [257, 4, 3], [2, 0, 3], [2, 65537, 3], [2, 4, 0], [2, 4, 65], [BLANK, BLANK, BLANK]):
+        attempt(sizes=bad)
+    for alpha in (0, ONE - 1, ONE, 2 * ONE, 2 * ONE + 4, NAN, 15099494):
+        attempt(alpha=alpha)
+    for i in range(6):
+        for more in (-1, 1):
+            attempt(lent=[n + more * (j == i) - (j == 5 and more == 1 and i == 5) * 2 for j, n in enumerate(exact(*sizes))])
+    attempt(given=given[1:])
+    attempt(given=given + [1])
+    attempt(rows=rows[1:])
+    attempt(rows=rows + [0])
+    for count in (4, 5, 6):
+        attempt(count=count, given=[r.below(256) for _ in range(2 * count)], rows=[r.below(count) for _ in range(3 * count)])
+    attempt(count=0, given=[], rows=[], entry=0)
+    attempt(count=0, given=[], rows=[], entry=1)
+    for word in (3, 4, BLANK - 1):
+        attempt(rows=rows[:4] + [word] + rows[5:])
+    for entry in (2, 3, 4, BLANK):
+        attempt(entry=entry)
+
+
+def refused_calls(out):
+    """Readings and searches of an index that was altered, or that is lent too much or too little."""
+    h = History(out, 2, 6, 2, ONE, 5)
+    h.make(5)
+    dump = h.shown(4, 2)
+    book = out.book
+
+    def attempts(query=(1, 2), k=3, beam=4):
+        out.search(k, beam, query)
+        out.read(5, 0, 0, book.live)
+        out.read_slot(dump, 1)
+
+    for field, values in ((0, (0, 257, 3)), (1, (0, 65537, 7)), (2, (0, 65, 3)), (3, (0, NAN)), (4, (6, BLANK)), (5, (4, 6, 0))):
+        kept = (book.sizes + [book.alpha, book.entry, book.live])[field]
+        for value in values:
+            out.set(field, value)
+            attempts()
+            attempts(query=(1,), beam=1025)
+        out.set(field, kept)
+        attempts()
+    fit = exact(*book.sizes) + [12, 10, scratch_words(*book.sizes[1:])]
+    for i in range(9):
+        out.lend(*[n - (j == i) for j, n in enumerate(fit)])
+        attempts(k=9)
+        attempts(k=10)
+    out.lend(*fit)
+    for query in ((), (1,), (1, 2), (1, 2, 3)):
+        attempts(query=query)
+    for k, beam in ((10, 1024), (11, 1024), (10, 1025), (0, BLANK), (BLANK, 0), (0, 0)):
+        attempts(k=k, beam=beam)
+    out.lend(*fit[:8], 0)
+    attempts(k=0, beam=0)
+    attempts(k=13)
+
+
+def size_answers(out):
+    for sizes in ([1, 1, 1], [256, 65536, 64], [3, 100, 7], [0, 1, 1], [257, 1, 1], [1, 0, 1], [1, 65537, 1], [1, 1, 0], [1, 1, 65], [BLANK] * 3):
+        refused = sizes_bad(*sizes)
+        out.put("words", *sizes, int(refused), 0 if refused else scratch_words(*sizes[1:]))
+
+
+def main():
+    oracle = Oracle(sys.argv[1])
+    print("# made by compare/replay/make.py, seed %d" % SEED)
+    out = List(oracle, Random(SEED))
+    for part in (size_answers, refused_makings, refused_calls, small, medium, dead_entries, wide, many, largest):
+        print("# " + part.__name__)
+        part(out)
+
+
+main()

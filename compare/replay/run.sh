@@ -1,0 +1,10 @@
+#!/bin/sh
+# Makes the list of the program `replay` anew: crates/replay/stdin. Needs python3, cargo (1.88 or newer) and the packages that
+# compare/rust/README.md names. Two runs give the same bytes.
+set -e
+cd "$(dirname "$0")/../rust"
+./prepare.sh > /dev/null
+cargo build --release --offline --quiet -p oracle
+cd ../replay
+python3 make.py ../rust/target/release/oracle > list
+mv list ../../crates/replay/stdin

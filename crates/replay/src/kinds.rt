@@ -1,0 +1,28 @@
+// Kinds of lines, and where each is counted.
+pub const LEND: usize = 0;
+
+pub const GIVE: usize = 1;
+
+pub const ROWS: usize = 2;
+
+pub const SET: usize = 3;
+
+pub const STORE: usize = 4;
+
+pub const MAKE: usize = 5;
+
+pub const READ: usize = 6;
+
+pub const VECTOR: usize = 7;
+
+pub const WORDS: usize = 8;
+
+pub const SEARCH: usize = 9;
+
+pub const NOTE: usize = 10;
+
+pub const MALFORMED: usize = 11;
+
+pub const DIFFERENCES: usize = 12;
+
+pub const LINES: usize = 13;

@@ -1,0 +1,206 @@
+// Words and numbers of a line.
+use super::kinds::GIVE;
+use super::kinds::LEND;
+use super::kinds::MAKE;
+use super::kinds::MALFORMED;
+use super::kinds::NOTE;
+use super::kinds::READ;
+use super::kinds::ROWS;
+use super::kinds::SEARCH;
+use super::kinds::SET;
+use super::kinds::STORE;
+use super::kinds::VECTOR;
+use super::kinds::WORDS;
+ghost use mathlib.Core.Bool.{true, false};
+ghost use mathlib.Core.Path.{_≡_};
+ghost use Prim.Native.Nat.{_≤_, _<_};
+ghost use lib.ListN.{length};
+ghost use Rattle.replay.specs.Text.{Digit, Digits, Follows};
+
+// The word that a line begins with, and where it ends.
+pub struct Word {
+    pub kind: usize,
+    pub end: usize,
+}
+
+// A number that was read, and where it ends; whether it and those before it were there.
+pub struct Number {
+    pub value: u32,
+    pub next: usize,
+    pub good: bool,
+}
+
+// Where the line that begins at `at` ends.
+pub fn line_end(text: &[u8], at: usize) -> usize
+    requires { ⌜ at ≤ length (now text) ⌝ }
+    ensures { λ r. ⌜ (at ≤ r) × (r ≤ length (now (text .entry))) × (r < 18446744073709551615) ⌝ }
+{
+    let mut i = at;
+    while i < text.len() {
+        if text[i] == b'\n' {
+            return i;
+        }
+        i += 1;
+    }
+    i
+}
+
+// Whether a line begins with a word.
+fn begins(line: &[u8], word: &[u8]) -> bool {
+    if line.len() < word.len() {
+        return false;
+    }
+    let mut i: usize = 0;
+    while i < word.len() {
+        if line[i] != word[i] {
+            return false;
+        }
+        i += 1;
+    }
+    true
+}
+
+// The word of a line that prepares a call.
+fn preparing(line: &[u8]) -> Word {
+    if begins(line, b"#") {
+        return Word { kind: NOTE, end: 0 };
+    }
+    if begins(line, b"lend ") {
+        return Word { kind: LEND, end: 4 };
+    }
+    if begins(line, b"give ") {
+        return Word { kind: GIVE, end: 4 };
+    }
+    if begins(line, b"rows ") {
+        return Word { kind: ROWS, end: 4 };
+    }
+    if begins(line, b"set ") {
+        return Word { kind: SET, end: 3 };
+    }
+    if begins(line, b"store ") {
+        return Word {
+            kind: STORE,
+            end: 5,
+        };
+    }
+    Word {
+        kind: MALFORMED,
+        end: 0,
+    }
+}
+
+// The word of any line.
+pub fn first_word(line: &[u8]) -> Word {
+    if begins(line, b"make ") {
+        return Word { kind: MAKE, end: 4 };
+    }
+    if begins(line, b"read ") {
+        return Word { kind: READ, end: 4 };
+    }
+    if begins(line, b"vector ") {
+        return Word {
+            kind: VECTOR,
+            end: 6,
+        };
+    }
+    if begins(line, b"search ") {
+        return Word {
+            kind: SEARCH,
+            end: 6,
+        };
+    }
+    if begins(line, b"words ") {
+        return Word {
+            kind: WORDS,
+            end: 5,
+        };
+    }
+    preparing(line)
+}
+
+// The value of a digit; 10 for any other byte.
+fn digit(byte: u8) -> u64
+    ensures { λ r. ⌜ (r ≤ 10) × (r ≤ 9 → Digit byte r) ⌝ }
+{
+    if byte < b'0' {
+        return 10;
+    }
+    if b'9' < byte {
+        return 10;
+    }
+    (byte - b'0') as u64
+}
+
+// No number.
+fn nowhere() -> Number
+    ensures { λ r. ⌜ r .good ≡ false ⌝ }
+{
+    Number {
+        value: 0,
+        next: 0,
+        good: false,
+    }
+}
+
+// A number from `at` up to `next`.
+fn read_up_to(value: u64, at: usize, next: usize) -> Number
+    requires { ⌜ value ≤ 4294967295 ⌝ }
+    ensures { λ r. ⌜ (r .value ≡ value) × (r .next ≡ next) × (r .good ≡ true → at < next) ⌝ }
+{
+    Number {
+        value: value as u32,
+        next,
+        good: at < next,
+    }
+}
+
+// The number whose digits begin at `at`.
+fn digits(line: &[u8], at: usize) -> Number
+    ensures { λ r. ⌜ (r .good ≡ true → Digits (now (line .entry)) at (r .next) (r .value)) ⌝ }
+{
+    let mut value: u64 = 0;
+    let mut i = at;
+    while i < line.len() {
+        let d = digit(line[i]);
+        if 9 < d {
+            return read_up_to(value, at, i);
+        }
+        let more = value * 10 + d;
+        if 4294967295 < more {
+            return nowhere();
+        }
+        value = more;
+        i += 1;
+    }
+    read_up_to(value, at, i)
+}
+
+// The first number after a word that ends at `end`.
+pub fn first(line: &[u8], end: usize) -> Number
+    ensures { λ r. ⌜ (r .good ≡ true → Follows (now (line .entry)) end (r .next) (r .value)) ⌝ }
+{
+    if end < line.len() {
+        if line[end] == b' ' {
+            return digits(line, end + 1);
+        }
+    }
+    nowhere()
+}
+
+// The number after another one.
+pub fn after(line: &[u8], last: Number) -> Number
+    ensures { λ r. ⌜ (r .good ≡ true → (last .good ≡ true) × Follows (now (line .entry)) (last .next) (r .next) (r .value)) ⌝ }
+{
+    if last.good {
+        return first(line, last.next);
+    }
+    last
+}
+
+// Whether the line was read well and ends with a number.
+pub fn ends(line: &[u8], last: Number) -> bool {
+    if last.good {
+        return last.next == line.len();
+    }
+    false
+}
