@@ -20,6 +20,7 @@ step() {
 }
 
 step archive rt staticlib finder
+step only-memset sh -c "nm -u target/staticlib/libfinder.a | awk '/ U / && \$2 != \"memset\" { print; bad = 1 } END { exit bad }'"
 step c-build gcc -std=c11 -Wall -Wextra -Werror -Iinclude -o "$out/shelf" examples/c/shelf.c target/staticlib/libfinder.a
 step c-run valgrind --error-exitcode=1 --leak-check=full -q "$out/shelf"
 sed 's/^/  /' "$out/c-run.log"

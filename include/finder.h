@@ -23,7 +23,10 @@
  * Every function but finder_vector returns 0 where it is carried out, else the number of the refusal. Those that apply are tested in the order of their
  * numbers, and the first that holds is returned. A call that is refused writes nothing.
  *
- * Each call tests anew that the words and the slices belong together, whoever wrote them: the words may be stored and copied like any others.
+ * Each call tests anew what the refusals name, whoever wrote the words and the slices; the words may be stored and copied like any others. The words of
+ * one index with the slices of another of the same sizes and live count are not told apart.
+ *
+ * size_t has 64 bits.
  */
 #ifndef FINDER_H
 #define FINDER_H
@@ -45,6 +48,8 @@ extern "C" {
 #define FINDER_MAX_DIM 256
 #define FINDER_MAX_CAPACITY 65536
 #define FINDER_MAX_DEGREE 64
+
+/* The largest beam; 0 acts as 1. */
 #define FINDER_MAX_BEAM 1024
 
 /* The refusals. */
@@ -145,8 +150,9 @@ size_t finder_vector(const uint32_t index[FINDER_INDEX_WORDS],
 
 /*
  * Walks the graph from the entry with a list of at most beam slots (0 acts as 1) and gives the k nearest to the query that it finds, nearest first, of
- * equals the lower slot first. Their number, at most k, is written to *found, the slots and the distances (sums of squared differences, whole numbers) to
- * the first *found places of the outputs; the places after them stay. The scratch is overwritten.
+ * equals the lower slot first. Their number is written to *found: at most k, at most beam, and 0 where the entry is dead. The slots and the distances
+ * (sums of squared differences, whole numbers) are written to the first *found places of the outputs; the places after them stay. The scratch is
+ * overwritten.
  * Refusals, in order: 1, 2, 3 (one of the six slices, or a query that is not dim long), 6, 7, 8.
  */
 uint32_t finder_search(const uint32_t index[FINDER_INDEX_WORDS],

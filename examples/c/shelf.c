@@ -6,17 +6,48 @@
 
 enum { DIM = 1, CAPACITY = 4, DEGREE = 2, COUNT = 3 };
 
-static uint32_t index_words[FINDER_INDEX_WORDS];
-static uint8_t vectors[CAPACITY * DIM];
-static uint32_t targets[CAPACITY * DEGREE];
-static uint16_t edges[CAPACITY * DEGREE];
-static uint16_t versions[CAPACITY];
-static uint8_t marks[CAPACITY];
-static uint32_t pool[FINDER_POOL];
+/* Each slice is a block of its own of exactly its length, and not written before making, so that valgrind sees a read or a write that is out of place. */
+static uint32_t *index_words;
+static uint8_t *vectors;
+static uint32_t *targets;
+static uint16_t *edges;
+static uint16_t *versions;
+static uint8_t *marks;
+static uint32_t *pool;
 
-/* The six slices, as every call but making takes them. */
+/* The six slices, as every call takes them. */
 #define SLICES \
-    vectors, sizeof vectors, targets, CAPACITY * DEGREE, edges, CAPACITY * DEGREE, versions, CAPACITY, marks, sizeof marks, pool, FINDER_POOL
+    vectors, CAPACITY * DIM, targets, CAPACITY * DEGREE, edges, CAPACITY * DEGREE, versions, CAPACITY, marks, CAPACITY, pool, FINDER_POOL
+
+static void *block(size_t bytes)
+{
+    void *p = malloc(bytes);
+    if (!p)
+        exit(1);
+    return p;
+}
+
+static void lend(void)
+{
+    index_words = block(FINDER_INDEX_WORDS * sizeof *index_words);
+    vectors = block(CAPACITY * DIM);
+    targets = block(CAPACITY * DEGREE * sizeof *targets);
+    edges = block(CAPACITY * DEGREE * sizeof *edges);
+    versions = block(CAPACITY * sizeof *versions);
+    marks = block(CAPACITY);
+    pool = block(FINDER_POOL * sizeof *pool);
+}
+
+static void take_back(void)
+{
+    free(index_words);
+    free(vectors);
+    free(targets);
+    free(edges);
+    free(versions);
+    free(marks);
+    free(pool);
+}
 
 #define CHECK(fact) \
     do { \
@@ -30,8 +61,7 @@ static uint32_t make(float alpha)
 {
     static const uint8_t bytes[COUNT * DIM] = { 0, 3, 10 };
     static const uint32_t rows[COUNT * DEGREE] = { 1, FINDER_BLANK, 0, 2, 1, FINDER_BLANK };
-    return finder_create(DIM, CAPACITY, DEGREE, alpha, 1, COUNT, bytes, sizeof bytes, rows, COUNT * DEGREE, vectors, sizeof vectors, targets,
-        CAPACITY * DEGREE, edges, CAPACITY * DEGREE, versions, CAPACITY, marks, sizeof marks, pool, FINDER_POOL, index_words);
+    return finder_create(DIM, CAPACITY, DEGREE, alpha, 1, COUNT, bytes, sizeof bytes, rows, COUNT * DEGREE, SLICES, index_words);
 }
 
 static int read_all(void)
@@ -57,20 +87,22 @@ static int read_all(void)
 
 static int search(void)
 {
-    static const uint8_t query[DIM] = { 2 };
     uint32_t words = 0;
     uint32_t found = 77;
-    uint32_t slots[2];
-    float dists[2];
     CHECK(finder_scratch_words(DIM, CAPACITY, DEGREE, &words) == 0 && words > 0);
-    uint32_t *scratch = malloc(words * sizeof *scratch);
-    CHECK(scratch);
-    uint32_t status = finder_search(index_words, SLICES, query, DIM, 2, 2, slots, 2, dists, 2, scratch, words, &found);
-    uint32_t refused = finder_search(index_words, SLICES, query, DIM, 2, 2, slots, 1, dists, 2, scratch, words, &found);
-    free(scratch);
-    CHECK(status == 0 && refused == FINDER_OVER_LIMIT && found == 2);
+    uint8_t *query = block(DIM);
+    uint32_t *slots = block(2 * sizeof *slots);
+    float *dists = block(2 * sizeof *dists);
+    uint32_t *scratch = block(words * sizeof *scratch);
+    *query = 2;
+    CHECK(finder_search(index_words, SLICES, query, DIM, 2, 2, slots, 1, dists, 2, scratch, words, &found) == FINDER_OVER_LIMIT && found == 77);
+    CHECK(finder_search(index_words, SLICES, query, DIM, 2, 2, slots, 2, dists, 2, scratch, words, &found) == 0 && found == 2);
     CHECK(slots[0] == 1 && dists[0] == 1.0f && slots[1] == 0 && dists[1] == 4.0f);
     printf("nearest to 2: slot %u at %g, slot %u at %g\n", (unsigned)slots[0], dists[0], (unsigned)slots[1], dists[1]);
+    free(query);
+    free(slots);
+    free(dists);
+    free(scratch);
     return 0;
 }
 
@@ -90,6 +122,10 @@ static int refuse(void)
 
 int main(void)
 {
+    lend();
+    CHECK(make(3.0f) == FINDER_BAD_ALPHA);
     CHECK(make(1.0f) == 0);
-    return read_all() || search() || refuse();
+    int wrong = read_all() || search() || refuse();
+    take_back();
+    return wrong;
 }

@@ -10,7 +10,7 @@ use Rattle.candidates.specs.Quotient.{f32}
 use Rattle.slots.specs.Sizes.{Sizes, Lengths, limits}
 use Rattle.slots.specs.Store.{Store, blank}
 use Rattle.repair.specs.Delete.{Stats}
-use Rattle.guard.specs.Guard.{Config, Report, off}
+use Rattle.guard.specs.Guard.{config, Report, off}
 use Rattle.calls.specs.Calls.{Making, Reading, read-entry, read-live, read-mark, read-version, read-target, read-vector, Operation, create, read, search-for, insert, delete, enable, status, assess, guarded-delete, Call, Answer, refused, created, number, version, vector, found, inserted, deleted, standing, assessed, applied, deferred}
 use Rattle.calls.specs.Step.{State, landmarks, step, made, stored}
 
@@ -21,9 +21,6 @@ at slot dist = record { dist = dist; id = slot }
 
 abbrev stats : ℕ → ℕ → ℕ → ℕ → Stats
 stats a b c d = record { outgoing-seeds = a; recovered-in-neighbors = b; repair-candidates = c; repair-edges-attempted = d }
-
-abbrev config : ℕ → ℕ → ℕ → ℕ → Config
-config count multiplier sample beam = record { landmark-count = count; multiplier = multiplier; sample-size = sample; beam = beam }
 
 -- slices of exact length
 abbrev exact : ℕ → ℕ → ℕ → Lengths

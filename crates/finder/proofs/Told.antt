@@ -28,8 +28,7 @@ use Rattle.calls.specs.Calls as Calls
 use Rattle.calls.specs.Runs.{lengths-of}
 use Rattle.calls.specs.Refusals.{Test, first-of, making-tests, index-tests, tests}
 use Rattle.calls.specs.Step.{State, stored, view-of, reading, perform, step, made, with-graph}
-use Rattle.index.specs.Index.{size-answer, sizes, state-of}
-use Rattle.index.specs.Deciding.{words-for}
+use Rattle.index.specs.Index.{size-answer, sizes, state-of, words-for}
 use Rattle.index.specs.Create.{Creates}
 use Rattle.index.specs.Search.{found-as, Searches}
 use Rattle.index.specs.Read.{reading-of, answer-of, reads, Reads, Reads-vector}
@@ -277,7 +276,7 @@ module _ (d : ℕ) (l : List ℕ) where
 module _ {w vectors targets edges versions marks pool : List ℕ} {slot : ℕ} {p : List ℕ} where
   pub reads-length : Reads-vector (index-of w) vectors targets edges versions marks pool slot p → Reads-length w vectors targets edges versions marks pool slot (length p)
   unfolding refused-as reading-refused perform reading stored store-ops store-view vector-of state-of
-  reads-length r = record { does = subst (Reads-vector (index-of w) vectors targets edges versions marks pool slot) (go _ refl) r }
+  reads-length r = let e = go _ refl in record { does = subst (Reads-vector (index-of w) vectors targets edges versions marks pool slot) e r; there = ap length e }
     where
       lent : State Store
       lent = state-of (index-of w) vectors targets edges versions marks pool

@@ -6,7 +6,7 @@ use mathlib.Core.List.{List}
 use mathlib.Core.Path.{_≡_}
 use lib.Dec.{eqb}
 use lib.Ieee.{Float}
-use lib.ListN.{take, drop}
+use lib.ListN.{length, take, drop}
 use Rattle.index.specs.declared.Words.{Words}
 use Rattle.index.specs.declared.Words.the-variants.{Refused as no-words, Words as words}
 use Rattle.index.specs.declared.Created.{Created}
@@ -16,8 +16,7 @@ use Rattle.index.specs.declared.Reading.the-variants.{Dim, Capacity, Degree, Al
 use Rattle.index.specs.declared.Value.{Value}
 use Rattle.index.specs.declared.Value.the-variants.{Refused, Number, Alpha as Factor, Version as Stamp}
 use Rattle.calls.specs.Calls.{Making}
-use Rattle.index.specs.Index.{sizes}
-use Rattle.index.specs.Deciding.{words-for}
+use Rattle.index.specs.Index.{sizes, words-for}
 use Rattle.index.specs.Create.{Creates}
 use Rattle.index.specs.declared.Found.{Found}
 use Rattle.index.specs.declared.Found.the-variants.{Refused as none-found, Found as Nearest}
@@ -68,6 +67,7 @@ gives-number (Version s) = true
 gives-number (Target s place) = true
 
 -- the value that a word is: a version, or another number
+-- a number that was read; alpha is not read so (`gives-number`)
 unfoldable pub value-in : Reading → ℕ → Value
 value-in Dim n = Number n
 value-in Capacity n = Number n
@@ -112,9 +112,10 @@ module _ (w vectors targets edges versions marks pool : List ℕ) where
     pub does : Reads (index-of w) vectors targets edges versions marks pool Alpha (alpha-given status after)
     pub kept : (status ≡ 0 → ⊥) → after ≡ before
 
-  -- what `finder_vector` promises: the vector is that many bytes from the slot's place on
+  -- what `finder_vector` promises: the vector is that many bytes from the slot's place on, and they are there
   pub record Reads-length (slot r : ℕ) : Type 0 where
     pub does : Reads-vector (index-of w) vectors targets edges versions marks pool slot (take r (drop (slot * index-of w .dim) vectors))
+    pub there : r ≡ length (take r (drop (slot * index-of w .dim) vectors))
 
 -- ---- search
 

@@ -24,8 +24,8 @@ use Rattle.calls.specs.Calls.{Call, refused-as}
 use Rattle.calls.specs.Refusals.{Test, first-of, or-zero, index-tests, tests, guard-fault}
 use Rattle.calls.specs.Step.{State, view-of, stored, perform, refusal, settle, step}
 use Rattle.calls.specs.Runs.{lengths-of}
-use Rattle.index.specs.Index.{size-answer, sizes, sizes-of, lengths, guard-of, state-of}
-use Rattle.index.specs.Deciding.{words-for, Decided, Passed}
+use Rattle.index.specs.Index.{size-answer, words-for, sizes, sizes-of, lengths, guard-of, state-of}
+use Rattle.index.specs.Deciding.{Decided, Passed}
 use Rattle.calls.proofs.Tests.{and-both, or-neither, exact, passed-lengths}
 
 -- ---- numbers

@@ -54,10 +54,6 @@ module _ (k beam m n : ℕ) where
         go true e = let g : min m n < k = omega (arith, ltb-true n k e) in e ∙ sym (lt-ltb (min m n) k g)
         go false e = let g : k ≤ min m n = omega (arith, ltb-false n k e) in e ∙ sym (le-ltb (min m n) k g)
 
-pub short : (scratch : ℕ) {capacity degree c d : ℕ} → c ≡ capacity → d ≡ degree → (dim : ℕ) → ltb scratch (81920 + 4 * c + 2048 * d) ≡ ltb scratch (size-answer dim capacity degree)
-unfolding size-answer
-short scratch e f dim = rw (e, f)
-
 module _ {index : Index} {vectors targets edges versions : ℕ} {marks : List ℕ} {pool : ℕ} (query k beam room scratch : ℕ) {dim r : ℕ} (e : dim ≡ index .dim)
     (d : Decided index vectors targets edges versions marks pool (not (eqb query dim)) [] r) where
   abbrev Turns : ℕ → Type 0

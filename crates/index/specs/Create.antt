@@ -57,7 +57,7 @@ module _ (m : Making) (vectors targets edges versions marks pool vectors′ targ
     pub accepted : first-of (making-tests lent m) ≡ none
     pub new : state-of i vectors′ targets′ edges′ versions′ marks′ pool′ ≡ made stored m
 
-  -- what `create` promises
+  -- what `create` promises: that this is what `step` gives, whatever index the app had before, is `create-meets`
   pub record Creates (r : Created) : Type 0 where
     pub back : (n : ℕ) → r ≡ Refused n → Turned-back n
     pub done : (i : Index) → r ≡ Done i → Carried-out i

@@ -1,22 +1,16 @@
 -- What the tests decide, and what is known where none that calls share holds. Assumes nothing.
 use Prim.Native.Nat.{ℕ, _≤_, _<_}
-use mathlib.Core.Bool.{Bool, true, false, cond}
+use mathlib.Core.Bool.{Bool, true, false}
 use mathlib.Core.List.{List}
 use mathlib.Core.Path.{_≡_}
 use lib.ListN.{length}
-use Rattle.slots.specs.Sizes.{Sizes, limits, sizes-ok, alpha-ok}
+use Rattle.slots.specs.Sizes.{limits, sizes-ok, alpha-ok}
 use Rattle.slots.specs.View.{live-slots}
 use Rattle.slots.specs.Store.{Shaped, store-view}
 use Rattle.slots.specs.Rows.{arrays}
 use Rattle.index.specs.declared.Index.{Index}
-use Rattle.index.specs.declared.Words.{Words}
-use Rattle.index.specs.declared.Words.the-variants.{Refused, Words as words}
 use Rattle.calls.specs.Refusals.{Test, first-of, or-zero, index-tests, guard-fault}
 use Rattle.index.specs.Index.{size-answer, lengths, guard-of, state-of}
-
--- the size answer; 1 outside the ranges
-unfoldable pub words-for : Sizes → Words
-words-for z = cond (sizes-ok limits z) (words (size-answer (z .dim) (z .capacity) (z .degree))) (Refused 1)
 
 -- r is the number of the first test that holds, of the shared ones and then of a call's own, 0 if none does; of five slices the lengths alone count
 pub record Decided (index : Index) (vectors targets edges versions : ℕ) (marks : List ℕ) (pool : ℕ) (wrong : Bool) (rest : List Test) (r : ℕ) : Type 0 where

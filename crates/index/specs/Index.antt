@@ -1,13 +1,16 @@
 -- The index by value with its six lent slices, as the definitions' state; the size answer. Assumes nothing.
 use Prim.Native.Nat.{ℕ, _+_, _*_}
+use mathlib.Core.Bool.{cond}
 use mathlib.Core.List.{List}
 use lib.Ieee.{Float}
-use Rattle.slots.specs.Sizes.{Sizes, Lengths}
+use Rattle.slots.specs.Sizes.{Sizes, Lengths, limits, sizes-ok}
 use Rattle.slots.specs.Store.{Store}
 use Rattle.slots.specs.Rows.{arrays}
-use Rattle.guard.specs.Guard.{Config, off, on}
+use Rattle.guard.specs.Guard.{config, off, on}
 use Rattle.guard.specs.Guard as Guards
 use Rattle.index.specs.declared.Index.{Index}
+use Rattle.index.specs.declared.Words.{Words}
+use Rattle.index.specs.declared.Words.the-variants.{Refused, Words as words}
 use Rattle.index.specs.declared.Guard.{Guard}
 use Rattle.index.specs.declared.Guard.the-variants.{Off, On}
 use Rattle.calls.specs.Step.{State}
@@ -17,7 +20,11 @@ use Rattle.calls.specs.Step.{State}
 unfoldable pub size-answer : ℕ → ℕ → ℕ → ℕ
 size-answer dim capacity degree = 81920 + 4 * capacity + 2048 * degree
 
--- sizes, lengths and settings, one by one
+-- the size answer; 1 outside the ranges
+unfoldable pub words-for : Sizes → Words
+words-for z = cond (sizes-ok limits z) (words (size-answer (z .dim) (z .capacity) (z .degree))) (Refused 1)
+
+-- sizes and lengths, one by one
 abbrev pub sizes : ℕ → ℕ → ℕ → Float → Sizes
 sizes dim capacity degree alpha = record { dim = dim; capacity = capacity; degree = degree; alpha = alpha }
 
@@ -27,9 +34,6 @@ sizes-of i = sizes (i .dim) (i .capacity) (i .degree) (i .alpha)
 abbrev pub lengths : ℕ → ℕ → ℕ → ℕ → ℕ → ℕ → Lengths
 lengths vectors targets edges versions marks pool =
     record { vectors = vectors; targets = targets; edge-versions = edges; versions = versions; marks = marks; pool = pool }
-
-abbrev pub config : ℕ → ℕ → ℕ → ℕ → Config
-config count multiplier sample beam = record { landmark-count = count; multiplier = multiplier; sample-size = sample; beam = beam }
 
 unfoldable pub guard-of : Guard → Guards.Guard
 guard-of Off = off

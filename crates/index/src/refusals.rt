@@ -13,9 +13,10 @@ ghost use lib.ListN.{length};
 ghost use Rattle.lists.specs.Lists.{filter, range};
 ghost use Rattle.slots.specs.Sizes.{limits, within, sizes-ok, alpha-ok, lengths-ok};
 ghost use Rattle.slots.specs.Store.{is-valid};
+ghost use Rattle.guard.specs.Guard.{config};
 ghost use Rattle.calls.specs.Refusals.{guard-fault, config-over, config-zero};
-ghost use Rattle.index.specs.Index.{size-answer, guard-of, config, sizes, lengths};
-ghost use Rattle.index.specs.Deciding.{words-for, Decided};
+ghost use Rattle.index.specs.Index.{size-answer, words-for, guard-of, sizes, lengths};
+ghost use Rattle.index.specs.Deciding.{Decided};
 
 // Whether a number is outside a range that begins at 1.
 fn outside(high: u32, n: u32) -> bool
@@ -197,19 +198,26 @@ pub fn index_refusal(
     0
 }
 
+// The size answer of accepted sizes; the sum fits whatever they are.
+fn size_answer(capacity: u32, degree: u32) -> usize
+    ensures { λ r. ⌜ ((dim : ℕ) → r ≡ size-answer dim capacity degree) ⌝ }
+{
+    81920 + 4 * slots::marks::wide(capacity) + 2048 * slots::marks::wide(degree)
+}
+
 // Row 8: the scratch is shorter than the size answer.
 pub fn scratch_short(capacity: u32, degree: u32, scratch: usize) -> bool
     ensures { λ r. ⌜ ((dim : ℕ) → r ≡ ltb scratch (size-answer dim capacity degree)) ⌝ }
 {
-    scratch < 81920 + 4 * slots::marks::wide(capacity) + 2048 * slots::marks::wide(degree)
+    scratch < size_answer(capacity, degree)
 }
 
-// The size answer: how many words of scratch the calls on an index of these sizes ask for.
+// How many words of scratch the calls on an index of these sizes ask for.
 pub fn scratch_words(dim: u32, capacity: u32, degree: u32) -> Words
     ensures { λ r. ⌜ ((alpha : Float) → r ≡ words-for (sizes dim capacity degree alpha)) ⌝ }
 {
     if sizes_bad(dim, capacity, degree) {
         return Words::Refused(1);
     }
-    Words::Words(81920 + 4 * capacity + 2048 * degree)
+    Words::Words(size_answer(capacity, degree) as u32)
 }

@@ -1,37 +1,14 @@
-use Rattle.index.proofs.Finds.{short}
+use mathlib.Core.Path.{ap}
+use lib.Dec.{ltb}
 use borrow.Author.Needs.{needs}
 use Rattle.index.proofs.refusals.scratch_short.Statement.{statement}
 use Rattle.index.proofs.refusals.scratch_short.Tie as tie
 
-wide-requires : tie.Need-wide-requires
-wide-requires c κs = search needs
-
-mul-result : tie.Need-mul-result
-mul-result c = search needs
-
-add-result : tie.Need-add-result
-add-result c = search needs
-
-wide-requires-2 : tie.Need-wide-requires-2
-wide-requires-2 c κs = search needs
-
-mul-result-2 : tie.Need-mul-result-2
-mul-result-2 c = search needs
-
-add-result-2 : tie.Need-add-result-2
-add-result-2 c = search needs
+size-answer-requires : tie.Need-size-answer-requires
+size-answer-requires c κs = search needs
 
 returns : tie.Need-returns
-returns c = short _ (c .before .wide .ensures) (c .wide2 .ensures)
+returns c dim = ap (ltb (c .before .args .scratch)) (c .size-answer .ensures dim)
 
 pub scratch-short-spec : {M : Type 1} → statement M
-scratch-short-spec =
-    tie.close
-    (tie.spec
-    wide-requires
-    mul-result
-    add-result
-    wide-requires-2
-    mul-result-2
-    add-result-2
-    returns)
+scratch-short-spec = tie.close (tie.spec size-answer-requires returns)

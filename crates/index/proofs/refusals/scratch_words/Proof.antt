@@ -1,4 +1,6 @@
+use mathlib.Core.Path.{ap, _∙_}
 use native.Mathlib.Omega.{arith}
+use Rattle.index.specs.declared.Words.the-variants.{Words}
 use Rattle.index.specs.Index.{size-answer}
 use Rattle.index.proofs.Decide.{words-refused, words-given, sized}
 use borrow.Author.Needs.{needs}
@@ -11,22 +13,16 @@ sizes-bad-requires c κs = search needs
 returns : tie.Need-returns
 returns c = words-refused _ _ _ (c .before .sizes-bad .ensures) (c .if1 .taken)
 
-mul-t5 : tie.Need-mul-t5
-mul-t5 c = let r = sized _ _ _ (c .before .sizes-bad .ensures) (c .if1 .left) in omega (arith, r)
+size-answer-requires : tie.Need-size-answer-requires
+size-answer-requires c κs = search needs
 
-add-t6 : tie.Need-add-t6
-add-t6 c = let r = sized _ _ _ (c .before .sizes-bad .ensures) (c .if1 .left) in omega (arith, r)
-
-mul-t7 : tie.Need-mul-t7
-mul-t7 c = let r = sized _ _ _ (c .before .sizes-bad .ensures) (c .if1 .left) in omega (arith, r)
-
-add-t8 : tie.Need-add-t8
-add-t8 c = let r = sized _ _ _ (c .before .sizes-bad .ensures) (c .if1 .left) in omega (arith, r)
+cast-t6 : tie.Need-cast-t6
+unfolding size-answer
+cast-t6 c = let r = sized _ _ _ (c .before .before .sizes-bad .ensures) (c .before .if1 .left) in omega (arith, r, c .size-answer .ensures 0)
 
 returns-2 : tie.Need-returns-2
-unfolding size-answer
-returns-2 c = words-given _ _ _ (c .before .sizes-bad .ensures) (c .if1 .left)
+returns-2 c alpha = ap Words (c .size-answer .ensures _) ∙ words-given _ _ _ (c .before .before .sizes-bad .ensures) (c .before .if1 .left) alpha
 
 pub scratch-words-spec : {M : Type 1} → statement M
 scratch-words-spec =
-    tie.close (tie.spec sizes-bad-requires returns mul-t5 add-t6 mul-t7 add-t8 returns-2)
+    tie.close (tie.spec sizes-bad-requires returns size-answer-requires cast-t6 returns-2)
