@@ -1,5 +1,5 @@
 #!/bin/sh
-# compare/histories.sh [calls] [seed]: random histories of calls on the library and on the Rust, compared call by call; exit code 1 if any differs.
+# compare/histories.sh [calls] [seed]: random calls on the library and on the Rust, compared call by call; exit code 1 if any differs.
 # Needs the Rattle kit, cargo (1.88 or newer) and the packages that compare/rust/README.md names; writes below target/ and compare/rust/ only, but for
 # the files of the Rust's indexes, in /dev/shm, which are removed as soon as they are mapped.
 set -e

@@ -6,5 +6,7 @@ cd "$(dirname "$0")/../rust"
 ./prepare.sh > /dev/null
 cargo build --release --offline --quiet -p oracle
 cd ../replay
-python3 make.py ../rust/target/release/oracle > list
-mv list ../../crates/replay/stdin
+list=$(mktemp)
+trap 'rm -f "$list"' EXIT
+python3 make.py ../rust/target/release/oracle > "$list"
+cat "$list" > ../../crates/replay/stdin

@@ -74,7 +74,7 @@ fn size_answer(h: &mut History) -> Outcome {
     let mut words = Lent::junk(1, &mut h.rng);
     let number = table::size_answer(s[0], s[1], s[2]);
     if number == 0 {
-        words.expect(&[table::scratch_words(s[1], s[2])]);
+        words.expect(&[table::scratch_words(s[1], s[2]) as u32]);
     }
     let got = unsafe { finder::finder_scratch_words(s[0], s[1], s[2], words.mut_ptr()) };
     outcome(number, compare(number as u64, got as u64, vec![("words", &mut words)]), || format!("finder_scratch_words {s:?}"))

@@ -1,7 +1,8 @@
 //! Memory that is lent to the library, each piece beside a copy of what it should hold after the call, and random numbers.
 
-/// Items before and behind every piece that no call may change. So a length that is too long by as much can be given.
-pub const BORDER: usize = 256;
+/// Items before and behind every piece that no call may change. So a length that is too long by as much can be given. An odd number, so that pieces
+/// lie at addresses that are aligned for their items and no more.
+pub const BORDER: usize = 257;
 
 pub struct Rng(pub u64);
 

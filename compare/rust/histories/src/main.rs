@@ -1,4 +1,4 @@
-//! Random histories of calls on the library and on the Rust, in one process: `histories CALLS SEED`. Exit code 1 if any call differs.
+//! Random calls on the library and on the Rust, in one process: `histories CALLS SEED`. Exit code 1 if any call differs.
 mod both;
 mod calls;
 mod draw;
