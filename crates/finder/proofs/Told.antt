@@ -6,7 +6,7 @@ use mathlib.Core.Option.{Option, none, some}
 use mathlib.Core.Path.{_≡_, refl, sym, ap, _∙_, subst}
 use native.Mathlib.Omega.{arith}
 use borrow.Author.Tests.{eq-eqb, ne-eqb}
-use lib.Dec.{T}
+use lib.Dec.{T, eqb}
 use lib.Ieee.{Float, binary32, isNan, fits}
 use lib.ListN.{length, take, drop}
 use Rattle.lists.specs.Lists.{All}
@@ -32,6 +32,7 @@ use Rattle.index.specs.Index.{size-answer, sizes, state-of, words-for}
 use Rattle.index.specs.Create.{Creates}
 use Rattle.index.specs.Search.{found-as, Searches}
 use Rattle.index.specs.Read.{reading-of, answer-of, reads, Reads, Reads-vector}
+use Rattle.index.proofs.Shown.{refused-number}
 use Rattle.index.proofs.Decide.{Numbered, step-back, step-on}
 use Rattle.calls.proofs.Tests.{accepted}
 use Rattle.finder.specs.Words.{index-of, words-of}
@@ -116,18 +117,6 @@ module _ {m : Making} {vectors targets edges versions marks pool vectors′ targ
 
 -- ---- readings
 
-refused-number : (n : ℕ) (q : Reading) → refused-as n (read (reading-of q)) ≡ answer-of (Refused n)
-unfolding refused-as reading-refused reading-of answer-of
-refused-number n Dim = refl
-refused-number n Capacity = refl
-refused-number n Degree = refl
-refused-number n Alpha = refl
-refused-number n Entry = refl
-refused-number n Live = refl
-refused-number n (Mark s) = refl
-refused-number n (Version s) = refl
-refused-number n (Target s place) = refl
-
 -- the answer tells the value
 back : Answer → Value
 back (refused n) = Refused n
@@ -167,7 +156,7 @@ data Outcome (w : State Store) (q : Reading) (v : Value) : Type 0 where
   answers : answer-of v ≡ reading stored w (reading-of q) → Outcome w q v
 
 outcome : (w : State Store) (q : Reading) (v : Value) → (w, answer-of v) ≡ step size-answer stored w (reads w (reading-of q)) → Outcome w q v
-unfolding perform
+unfolding perform answer-of
 outcome w q v h = go (first-of (tests size-answer (lengths-of w) (view-of stored w) (w .live) (w .guard) (read (reading-of q)))) refl
   where
     on : step size-answer stored w (reads w (reading-of q)) ≡ perform stored w (read (reading-of q)) → answer-of v ≡ reading stored w (reading-of q)
@@ -208,54 +197,60 @@ put-in (Mark s) n before = refl
 put-in (Version s) n before = refl
 put-in (Target s place) n before = refl
 
+-- what the status and what is written tell of a value, given how a number or alpha makes one
+record Told {A : Type 0} (value : A → Value) (v : Value) (before after : A) (status : ℕ) : Type 0 where
+  pub given : v ≡ cond (eqb status 0) (value after) (Refused status)
+  pub kept : (status ≡ 0 → ⊥) → after ≡ before
+
+module _ {A : Type 0} (value : A → Value) {v : Value} {before after : A} {status : ℕ} where
+  told-back : {n : ℕ} → (n ≡ 0 → ⊥) → v ≡ Refused n → _≡_ {A = ℕ × A} (status, after) (n, before) → Told value v before after status
+  told-back z e f =
+      let s = ap (λ x. x .0) f in
+      record {
+        given = e ∙ ap Refused (sym s) ∙ sym (ap (λ b. cond b (value after) (Refused status)) (ne-eqb status 0 (λ y. z (sym s ∙ y))));
+        kept = λ y. ap (λ x. x .1) f;
+      }
+
+  told-on : {x : A} → v ≡ value x → _≡_ {A = ℕ × A} (status, after) (0, x) → Told value v before after status
+  told-on e f =
+      let s = ap (λ y. y .0) f in
+      record {
+        given = e ∙ ap value (sym (ap (λ y. y .1) f)) ∙ sym (ap (λ b. cond b (value after) (Refused status)) (eq-eqb status 0 s));
+        kept = λ y. absurd (y s);
+      }
+
 module _ {w vectors targets edges versions marks pool : List ℕ} where
   pub reads-number : {q : Reading} {v : Value} {before after status : ℕ} → gives-number q ≡ true
       → Reads (index-of w) vectors targets edges versions marks pool q v → (status, after) ≡ number-put v before
       → Reads-number w vectors targets edges versions marks pool q before after status
   unfolding number-put
-  reads-number {q} {v} {before} {after} {status} g r p = go (outcome (state-of (index-of w) vectors targets edges versions marks pool) q v (r .does))
+  reads-number {q} {v} {before} {after} {status} g r p = tell (go (outcome (state-of (index-of w) vectors targets edges versions marks pool) q v (r .does)))
     where
-      now : State Store
-      now = state-of (index-of w) vectors targets edges versions marks pool
+      tell : Told (value-in q) v before after status → Reads-number w vectors targets edges versions marks pool q before after status
+      tell t = record { does = subst (Reads (index-of w) vectors targets edges versions marks pool q) (t .given) r; kept = t .kept }
 
-      told : v ≡ number-given q status after → ((status ≡ 0 → ⊥) → after ≡ before) → Reads-number w vectors targets edges versions marks pool q before after status
-      told e k = record { does = subst (Reads (index-of w) vectors targets edges versions marks pool q) e r; kept = k }
-
-      go : Outcome now q v → Reads-number w vectors targets edges versions marks pool q before after status
-      go (back-with n z e) =
-          let f : _≡_ {A = ℕ × ℕ} (status, after) (n, before) = p ∙ ap (λ u. number-put u before) e in
-          let s : status ≡ n = ap (λ x. x .0) f in
-          told (e ∙ ap Refused (sym s) ∙ sym (ap (λ b. cond b (value-in q after) (Refused status)) (ne-eqb status 0 (λ y. z (sym s ∙ y))))) (λ y. ap (λ x. x .1) f)
+      go : Outcome (state-of (index-of w) vectors targets edges versions marks pool) q v → Told (value-in q) v before after status
+      go (back-with n z e) = told-back (value-in q) z e (p ∙ ap (λ u. number-put u before) e)
       go (answers a) =
-          let h = shape now q g in
+          let h = shape (state-of (index-of w) vectors targets edges versions marks pool) q g in
           let e : v ≡ value-in q (h .n) = same-value v (value-in q (h .n)) (a ∙ h .says) in
-          let f : _≡_ {A = ℕ × ℕ} (status, after) (0, h .n) = p ∙ ap (λ u. number-put u before) e ∙ put-in q (h .n) before in
-          let s : status ≡ 0 = ap (λ x. x .0) f in
-          told (e ∙ ap (value-in q) (sym (ap (λ x. x .1) f)) ∙ sym (ap (λ b. cond b (value-in q after) (Refused status)) (eq-eqb status 0 s))) (λ y. absurd (y s))
+          told-on (value-in q) e (p ∙ ap (λ u. number-put u before) e ∙ put-in q (h .n) before)
 
   pub reads-alpha : {v : Value} {before after : Float} {status : ℕ}
       → Reads (index-of w) vectors targets edges versions marks pool Alpha v → (status, after) ≡ alpha-put v before
       → Reads-alpha w vectors targets edges versions marks pool before after status
   unfolding alpha-put reading reading-of answer-of
-  reads-alpha {v} {before} {after} {status} r p = go (outcome (state-of (index-of w) vectors targets edges versions marks pool) Alpha v (r .does))
+  reads-alpha {v} {before} {after} {status} r p = tell (go (outcome (state-of (index-of w) vectors targets edges versions marks pool) Alpha v (r .does)))
     where
-      now : State Store
-      now = state-of (index-of w) vectors targets edges versions marks pool
+      tell : Told Factor v before after status → Reads-alpha w vectors targets edges versions marks pool before after status
+      tell t = record { does = subst (Reads (index-of w) vectors targets edges versions marks pool Alpha) (t .given) r; kept = t .kept }
 
-      told : v ≡ alpha-given status after → ((status ≡ 0 → ⊥) → after ≡ before) → Reads-alpha w vectors targets edges versions marks pool before after status
-      told e k = record { does = subst (Reads (index-of w) vectors targets edges versions marks pool Alpha) e r; kept = k }
-
-      go : Outcome now Alpha v → Reads-alpha w vectors targets edges versions marks pool before after status
-      go (back-with n z e) =
-          let f : _≡_ {A = ℕ × Float} (status, after) (n, before) = p ∙ ap (λ u. alpha-put u before) e in
-          let s : status ≡ n = ap (λ x. x .0) f in
-          told (e ∙ ap Refused (sym s) ∙ sym (ap (λ b. cond b (Factor after) (Refused status)) (ne-eqb status 0 (λ y. z (sym s ∙ y))))) (λ y. ap (λ x. x .1) f)
+      go : Outcome (state-of (index-of w) vectors targets edges versions marks pool) Alpha v → Told Factor v before after status
+      go (back-with n z e) = told-back Factor z e (p ∙ ap (λ u. alpha-put u before) e)
       go (answers a) =
-          let x = view-of stored now .sizes .alpha in
+          let x = view-of stored (state-of (index-of w) vectors targets edges versions marks pool) .sizes .alpha in
           let e : v ≡ Factor x = same-value v (Factor x) a in
-          let f : _≡_ {A = ℕ × Float} (status, after) (0, x) = p ∙ ap (λ u. alpha-put u before) e in
-          let s : status ≡ 0 = ap (λ y. y .0) f in
-          told (e ∙ ap Factor (sym (ap (λ y. y .1) f)) ∙ sym (ap (λ b. cond b (Factor after) (Refused status)) (eq-eqb status 0 s))) (λ y. absurd (y s))
+          told-on Factor e (p ∙ ap (λ u. alpha-put u before) e)
 
 -- ---- the vector of a slot
 

@@ -127,7 +127,7 @@ module _ {index : Index} {targets edges versions marks : List ℕ} {q : Reading}
 
 -- ---- a reading, turned back or not
 
-refused-number : (n : ℕ) (q : Reading) → refused-as n (read (reading-of q)) ≡ refused n
+pub refused-number : (n : ℕ) (q : Reading) → refused-as n (read (reading-of q)) ≡ refused n
 unfolding refused-as reading-refused reading-of
 refused-number n Dim = refl
 refused-number n Capacity = refl
