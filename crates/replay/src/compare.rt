@@ -1,11 +1,20 @@
 // The calls, each compared with the stored answer.
-use super::Step;
+use super::kinds::MAKE;
+use super::kinds::READ;
+use super::kinds::SEARCH;
+use super::kinds::VECTOR;
+use super::kinds::WORDS;
 use super::prepare::GIVEN;
 use super::prepare::GIVEN_ROWS;
+use super::prepare::Lent;
+use super::prepare::Step;
 use super::prepare::alpha_of;
 use super::prepare::bytes;
+use super::prepare::least;
+use super::prepare::part;
 use super::prepare::wide;
 use super::text::Number;
+use super::text::Word;
 use super::text::after;
 use super::text::ends;
 use super::text::first;
@@ -15,42 +24,58 @@ use index::Index;
 use index::Reading;
 use index::Value;
 use index::Words;
-ghost use Prim.Native.Nat.{_≤_};
 
-// A length that was asked for, or what there is.
-pub fn least(asked: usize, most: usize) -> usize
-    ensures { λ r. ⌜ r ≤ most ⌝ }
-{
-    if asked < most { asked } else { most }
+// The numbers of a line `make`.
+struct Making {
+    dim: u32,
+    capacity: u32,
+    degree: u32,
+    alpha: f32,
+    entry: u32,
+    count: u32,
+    refusal: u32,
+    good: bool,
 }
 
-// A stored length, or 0.
-pub fn length_at(lent: &[usize], i: usize) -> usize {
-    if i < lent.len() { lent[i] } else { 0 }
-}
-
-// Whether a making answered as stored: the number of a refusal, or 0.
-fn same_refusal(created: Created, refusal: u32) -> bool {
-    match created {
-        Created::Refused(r) => r == refusal,
-        Created::Done(_) => refusal == 0,
+// Reads a line `make`.
+fn read_making(line: &[u8], end: usize) -> Making {
+    let dim = first(line, end);
+    let capacity = after(line, dim);
+    let degree = after(line, capacity);
+    let alpha = after(line, degree);
+    let entry = after(line, alpha);
+    let count = after(line, entry);
+    let refusal = after(line, count);
+    Making {
+        dim: dim.value,
+        capacity: capacity.value,
+        degree: degree.value,
+        alpha: alpha_of(alpha.value),
+        entry: entry.value,
+        count: count.value,
+        refusal: refusal.value,
+        good: ends(line, refusal),
     }
 }
 
-// The new index, or the former one where a making was refused.
-fn made(created: Created, index: Index) -> Index {
+// The step after a making: the new index, or the former one where it was refused.
+fn after_making(step: Step, created: Created, m: Making) -> Step {
+    let mut new = step;
     match created {
-        Created::Refused(_) => index,
-        Created::Done(new) => new,
+        Created::Refused(r) => new.good = m.good && r == m.refusal,
+        Created::Done(index) => {
+            new.index = index;
+            new.good = m.good && m.refusal == 0;
+        }
     }
+    new
 }
 
 // Performs a line `make`.
 pub fn make(
     line: &[u8],
-    end: usize,
-    index: Index,
-    lent: &[usize],
+    word: Word,
+    step: Step,
     given: &[u8],
     rows: &[u32],
     vectors: &mut [u8],
@@ -60,36 +85,36 @@ pub fn make(
     marks: &mut [u8],
     pool: &mut [u32],
 ) -> Step {
-    let dim = first(line, end);
-    let capacity = after(line, dim);
-    let degree = after(line, capacity);
-    let alpha = after(line, degree);
-    let entry = after(line, alpha);
-    let count = after(line, entry);
-    let refusal = after(line, count);
-    let b = least(length_at(lent, GIVEN), given.len());
-    let r = least(length_at(lent, GIVEN_ROWS), rows.len());
+    if word.kind != MAKE {
+        return step;
+    }
+    let m = read_making(line, word.end);
+    let lent = step.lent;
+    let b = part(lent, GIVEN, given.len());
+    let r = part(lent, GIVEN_ROWS, rows.len());
+    let v = part(lent, 0, vectors.len());
+    let t = part(lent, 1, targets.len());
+    let e = part(lent, 2, edges.len());
+    let n = part(lent, 3, versions.len());
+    let a = part(lent, 4, marks.len());
+    let p = part(lent, 5, pool.len());
     let created = index::create(
-        dim.value,
-        capacity.value,
-        degree.value,
-        alpha_of(alpha.value),
-        entry.value,
-        count.value,
+        m.dim,
+        m.capacity,
+        m.degree,
+        m.alpha,
+        m.entry,
+        m.count,
         &given[..b],
         &rows[..r],
-        vectors,
-        targets,
-        edges,
-        versions,
-        marks,
-        pool,
+        &mut vectors[..v],
+        &mut targets[..t],
+        &mut edges[..e],
+        &mut versions[..n],
+        &mut marks[..a],
+        &mut pool[..p],
     );
-    let good = ends(line, refusal) && same_refusal(created, refusal.value);
-    Step {
-        index: made(created, index),
-        good,
-    }
+    after_making(step, created, m)
 }
 
 // What a number asks for.
@@ -118,7 +143,7 @@ fn same_value(got: Value, refusal: u32, value: u32) -> bool {
 }
 
 // Performs a line `read`.
-pub fn read(
+fn read(
     line: &[u8],
     end: usize,
     index: Index,
@@ -168,7 +193,7 @@ fn same_bytes(line: &[u8], count: Number, got: &[u8]) -> bool {
 }
 
 // Performs a line `vector`.
-pub fn read_vector(
+fn read_vector(
     line: &[u8],
     end: usize,
     index: Index,
@@ -195,7 +220,7 @@ pub fn read_vector(
 }
 
 // Performs a line `words`.
-pub fn size(line: &[u8], end: usize) -> bool {
+fn size(line: &[u8], end: usize) -> bool {
     let dim = first(line, end);
     let capacity = after(line, dim);
     let degree = after(line, capacity);
@@ -209,17 +234,21 @@ pub fn size(line: &[u8], end: usize) -> bool {
 }
 
 // Whether a candidate is the stored one.
-fn same_candidate(slots: &[u32], dists: &[f32], i: usize, slot: u32, dist: u32) -> bool {
-    if i < slots.len() {
-        if i < dists.len() {
-            return slots[i] == slot && dists[i] == std::num::nearest_u32_to_f32(dist);
-        }
+fn same_candidate(
+    slots: &[u32; 1024],
+    dists: &[f32; 1024],
+    i: usize,
+    slot: u32,
+    dist: u32,
+) -> bool {
+    if i < 1024 {
+        return slots[i] == slot && dists[i] == std::num::nearest_u32_to_f32(dist);
     }
     false
 }
 
 // Whether the rest of a line has these candidates.
-fn same_candidates(line: &[u8], count: Number, slots: &[u32], dists: &[f32]) -> bool {
+fn same_candidates(line: &[u8], count: Number, slots: &[u32; 1024], dists: &[f32; 1024]) -> bool {
     let mut last = count;
     let n = wide(count.value);
     let mut i: usize = 0;
@@ -235,7 +264,13 @@ fn same_candidates(line: &[u8], count: Number, slots: &[u32], dists: &[f32]) -> 
 }
 
 // Whether a search answered as stored.
-fn same_found(line: &[u8], refusal: Number, found: Found, slots: &[u32], dists: &[f32]) -> bool {
+fn same_found(
+    line: &[u8],
+    refusal: Number,
+    found: Found,
+    slots: &[u32; 1024],
+    dists: &[f32; 1024],
+) -> bool {
     match found {
         Found::Refused(r) => r == refusal.value && ends(line, refusal),
         Found::Found(n) => {
@@ -246,26 +281,30 @@ fn same_found(line: &[u8], refusal: Number, found: Found, slots: &[u32], dists: 
 }
 
 // Performs a line `search`.
-pub fn search(
+fn search(
     line: &[u8],
     end: usize,
     index: Index,
-    given: &mut [u8],
+    lent: Lent,
     vectors: &[u8],
     targets: &[u32],
     edges: &[u16],
     versions: &[u16],
     marks: &[u8],
     pool: &[u32],
-    slots: &mut [u32],
-    dists: &mut [f32],
     scratch: &mut [u32],
 ) -> bool {
+    let mut query = [0u8; 1024];
+    let mut slots = [0u32; 1024];
+    let mut dists = [0.0f32; 1024];
     let k = first(line, end);
     let beam = after(line, k);
     let count = after(line, beam);
-    let refusal = after(line, bytes(line, count, given));
-    let n = least(wide(count.value), given.len());
+    let refusal = after(line, bytes(line, count, &mut query));
+    let n = least(wide(count.value), 1024);
+    let s = part(lent, 6, 1024);
+    let d = part(lent, 7, 1024);
+    let w = part(lent, 8, scratch.len());
     let found = index::search(
         index,
         vectors,
@@ -274,12 +313,103 @@ pub fn search(
         versions,
         marks,
         pool,
-        &given[..n],
+        &query[..n],
         k.value,
         beam.value,
-        slots,
-        dists,
-        scratch,
+        &mut slots[..s],
+        &mut dists[..d],
+        &mut scratch[..w],
     );
-    same_found(line, refusal, found, slots, dists)
+    same_found(line, refusal, found, &slots, &dists)
+}
+
+// Performs a line that reads the index.
+fn answer(
+    line: &[u8],
+    word: Word,
+    step: Step,
+    vectors: &[u8],
+    targets: &[u32],
+    edges: &[u16],
+    versions: &[u16],
+    marks: &[u8],
+    pool: &[u32],
+    scratch: &mut [u32],
+) -> bool {
+    let end = word.end;
+    let index = step.index;
+    let kind = word.kind;
+    match kind {
+        READ => read(
+            line,
+            end,
+            index,
+            vectors,
+            targets,
+            edges,
+            versions,
+            marks,
+            pool,
+        ),
+        VECTOR => read_vector(
+            line,
+            end,
+            index,
+            vectors,
+            targets,
+            edges,
+            versions,
+            marks,
+            pool,
+        ),
+        SEARCH => search(
+            line,
+            end,
+            index,
+            step.lent,
+            vectors,
+            targets,
+            edges,
+            versions,
+            marks,
+            pool,
+            scratch,
+        ),
+        WORDS => size(line, end),
+        _ => step.good,
+    }
+}
+
+// Performs a line that reads the lent parts of the index; any other was performed before. Whether it agrees.
+pub fn look(
+    line: &[u8],
+    word: Word,
+    step: Step,
+    vectors: &[u8],
+    targets: &[u32],
+    edges: &[u16],
+    versions: &[u16],
+    marks: &[u8],
+    pool: &[u32],
+    scratch: &mut [u32],
+) -> bool {
+    let lent = step.lent;
+    let v = part(lent, 0, vectors.len());
+    let t = part(lent, 1, targets.len());
+    let e = part(lent, 2, edges.len());
+    let n = part(lent, 3, versions.len());
+    let m = part(lent, 4, marks.len());
+    let p = part(lent, 5, pool.len());
+    answer(
+        line,
+        word,
+        step,
+        &vectors[..v],
+        &targets[..t],
+        &edges[..e],
+        &versions[..n],
+        &marks[..m],
+        &pool[..p],
+        scratch,
+    )
 }

@@ -26,3 +26,5 @@ pub const MALFORMED: usize = 11;
 pub const DIFFERENCES: usize = 12;
 
 pub const LINES: usize = 13;
+
+pub const KINDS: usize = 14;

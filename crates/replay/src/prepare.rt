@@ -1,16 +1,17 @@
 // Lines that prepare calls: what is lent and given, and what is altered by hand.
-use super::Step;
 use super::kinds::GIVE;
 use super::kinds::LEND;
 use super::kinds::NOTE;
 use super::kinds::ROWS;
 use super::kinds::SET;
+use super::kinds::STORE;
 use super::text::Number;
 use super::text::Word;
 use super::text::after;
 use super::text::ends;
 use super::text::first;
 use index::Index;
+ghost use Prim.Native.Nat.{_≤_};
 
 // How many lengths a line `lend` has; after them come those of the given vectors and rows.
 pub const LENT: usize = 9;
@@ -39,15 +40,35 @@ pub fn wide(n: u32) -> usize {
     n as usize
 }
 
-// Writes a length.
-fn put(lent: &mut [usize], i: usize, n: u32) {
-    if i < lent.len() {
-        lent[i] = wide(n);
-    }
+// How much of each array is lent to a call.
+pub struct Lent {
+    pub of: [usize; 11],
+}
+
+// An index, what is lent to its calls, and whether the line was performed and its answer agrees.
+pub struct Step {
+    pub index: Index,
+    pub lent: Lent,
+    pub good: bool,
+}
+
+// A length that was asked for, or what there is.
+pub fn least(asked: usize, most: usize) -> usize
+    ensures { λ r. ⌜ r ≤ most ⌝ }
+{
+    if asked < most { asked } else { most }
+}
+
+// What is lent of an array of `most`.
+pub fn part(lent: Lent, i: usize, most: usize) -> usize
+    ensures { λ r. ⌜ r ≤ most ⌝ }
+{
+    if i < 11 { least(lent.of[i], most) } else { 0 }
 }
 
 // Performs a line `lend`.
-fn lend(line: &[u8], end: usize, lent: &mut [usize]) -> bool {
+fn lend(line: &[u8], end: usize, step: Step) -> Step {
+    let mut lent = step.lent;
     let mut last = Number {
         value: 0,
         next: end,
@@ -59,10 +80,10 @@ fn lend(line: &[u8], end: usize, lent: &mut [usize]) -> bool {
         if most(i) < last.value {
             last.good = false;
         }
-        put(lent, i, last.value);
+        lent.of[i] = wide(last.value);
         i += 1;
     }
-    ends(line, last)
+    gave(line, step, lent, last)
 }
 
 // Reads as many bytes as `count` says into the start of `given`.
@@ -158,79 +179,109 @@ fn altered(index: Index, field: u32, value: u32) -> Index {
 }
 
 // Performs a line `set`.
-fn set(line: &[u8], end: usize, index: Index) -> Step {
+fn set(line: &[u8], end: usize, step: Step) -> Step {
     let field = first(line, end);
     let value = after(line, field);
+    let lent = step.lent;
     Step {
-        index: altered(index, field.value, value.value),
+        index: altered(step.index, field.value, value.value),
+        lent,
         good: ends(line, value) && field.value <= 5,
+    }
+}
+
+// Performs a line `set` or `lend`. A line that is neither, nor a note, has yet to be performed.
+pub fn set_or_lend(line: &[u8], word: Word, step: Step) -> Step {
+    if word.kind == SET {
+        return set(line, word.end, step);
+    }
+    if word.kind == LEND {
+        return lend(line, word.end, step);
+    }
+    let mut new = step;
+    new.good = word.kind == NOTE;
+    new
+}
+
+// The step after a line whose numbers were given.
+fn gave(line: &[u8], step: Step, lent: Lent, last: Number) -> Step {
+    let index = step.index;
+    Step {
+        index,
+        lent,
+        good: ends(line, last),
+    }
+}
+
+// Performs a line `give` or `rows`.
+pub fn give(line: &[u8], word: Word, step: Step, given: &mut [u8], rows: &mut [u32]) -> Step {
+    let mut lent = step.lent;
+    let count = first(line, word.end);
+    if word.kind == GIVE {
+        lent.of[GIVEN] = wide(count.value);
+        return gave(line, step, lent, bytes(line, count, given));
+    }
+    if word.kind == ROWS {
+        lent.of[GIVEN_ROWS] = wide(count.value);
+        return gave(line, step, lent, words(line, count, rows));
+    }
+    step
+}
+
+// What a line `store` alters; array 5 is none.
+struct Place {
+    array: u32,
+    i: usize,
+    value: u32,
+}
+
+// Whether a place of an array is lent.
+fn is_lent(lent: Lent, array: u32, i: usize) -> bool {
+    match array {
+        0 => i < lent.of[4],
+        1 => i < lent.of[3],
+        2 => i < lent.of[1],
+        3 => i < lent.of[2],
+        4 => i < lent.of[0],
+        _ => false,
+    }
+}
+
+// The place that a line `store` names, or none for any other line.
+fn place_of(line: &[u8], word: Word, lent: Lent) -> Place {
+    let array = first(line, word.end);
+    let place = after(line, array);
+    let value = after(line, place);
+    let i = wide(place.value);
+    let good = word.kind == STORE && ends(line, value) && is_lent(lent, array.value, i);
+    Place {
+        array: if good { array.value } else { 5 },
+        i,
+        value: value.value,
     }
 }
 
 // Performs a line `store`.
 pub fn store(
     line: &[u8],
-    end: usize,
+    word: Word,
+    step: Step,
     vectors: &mut [u8],
     targets: &mut [u32],
     edges: &mut [u16],
     versions: &mut [u16],
     marks: &mut [u8],
-) -> bool {
-    let array = first(line, end);
-    let place = after(line, array);
-    let value = after(line, place);
-    if !ends(line, value) {
-        return false;
-    }
-    let i = wide(place.value);
-    let which = array.value;
-    match which {
-        0 => set_byte(marks, i, value.value),
-        1 => set_half(versions, i, value.value),
-        2 => set_word(targets, i, value.value),
-        3 => set_half(edges, i, value.value),
-        4 => set_byte(vectors, i, value.value),
-        _ => false,
-    }
-}
-
-// Performs a line that makes no call.
-pub fn prepare(
-    line: &[u8],
-    word: Word,
-    index: Index,
-    lent: &mut [usize],
-    given: &mut [u8],
-    rows: &mut [u32],
 ) -> Step {
-    if word.kind == SET {
-        return set(line, word.end, index);
-    }
-    if word.kind == LEND {
-        let good = lend(line, word.end, lent);
-        return Step { index, good };
-    }
-    if word.kind == GIVE {
-        let n = first(line, word.end);
-        put(lent, GIVEN, n.value);
-        let last = bytes(line, n, given);
-        return Step {
-            index,
-            good: ends(line, last),
-        };
-    }
-    if word.kind == ROWS {
-        let n = first(line, word.end);
-        put(lent, GIVEN_ROWS, n.value);
-        let last = words(line, n, rows);
-        return Step {
-            index,
-            good: ends(line, last),
-        };
-    }
-    Step {
-        index,
-        good: word.kind == NOTE,
-    }
+    let to = place_of(line, word, step.lent);
+    let array = to.array;
+    let mut new = step;
+    new.good = match array {
+        0 => set_byte(marks, to.i, to.value),
+        1 => set_half(versions, to.i, to.value),
+        2 => set_word(targets, to.i, to.value),
+        3 => set_half(edges, to.i, to.value),
+        4 => set_byte(vectors, to.i, to.value),
+        _ => step.good,
+    };
+    new
 }

@@ -30,13 +30,13 @@ pub struct Number {
     pub good: bool,
 }
 
-// Where the line that begins at `at` ends.
-pub fn line_end(text: &[u8], at: usize) -> usize
-    requires { ⌜ at ≤ length (now text) ⌝ }
-    ensures { λ r. ⌜ (at ≤ r) × (r ≤ length (now (text .entry))) × (r < 18446744073709551615) ⌝ }
+// Where the line that begins at `at` ends, in a text of n bytes.
+pub fn line_end(text: &[u8], at: usize, n: usize) -> usize
+    requires { ⌜ (at ≤ n) × (n ≤ length (now text)) ⌝ }
+    ensures { λ r. ⌜ (at ≤ r) × (r ≤ n) × (r < 18446744073709551615) ⌝ }
 {
     let mut i = at;
-    while i < text.len() {
+    while i < n {
         if text[i] == b'\n' {
             return i;
         }

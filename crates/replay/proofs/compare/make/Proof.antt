@@ -1,61 +1,86 @@
-use Rattle.replay.proofs.Parts.{part-length}
+use native.Mathlib.Omega.{arith}
+use lib.ListN.{length-take}
 use borrow.Author.Needs.{needs}
 use Rattle.replay.proofs.compare.make.Statement.{statement}
 use Rattle.replay.proofs.compare.make.Tie as tie
 
-first-requires : tie.Need-first-requires
-first-requires c κs = search needs
+returns : tie.Need-returns
+returns c = tt
 
-after-requires : tie.Need-after-requires
-after-requires c κs = search needs
+read-making-requires : tie.Need-read-making-requires
+read-making-requires c κs = tt
 
-after-requires-2 : tie.Need-after-requires-2
-after-requires-2 c κs = search needs
+part-requires : tie.Need-part-requires
+part-requires c κs = tt
 
-after-requires-3 : tie.Need-after-requires-3
-after-requires-3 c κs = search needs
+part-requires-2 : tie.Need-part-requires-2
+part-requires-2 c κs = tt
 
-after-requires-4 : tie.Need-after-requires-4
-after-requires-4 c κs = search needs
+part-requires-3 : tie.Need-part-requires-3
+part-requires-3 c κs = tt
 
-after-requires-5 : tie.Need-after-requires-5
-after-requires-5 c κs = search needs
+part-requires-4 : tie.Need-part-requires-4
+part-requires-4 c κs = tt
 
-after-requires-6 : tie.Need-after-requires-6
-after-requires-6 c κs = search needs
+part-requires-5 : tie.Need-part-requires-5
+part-requires-5 c κs = tt
 
-length-at-requires : tie.Need-length-at-requires
-length-at-requires c κs = search needs
+part-requires-6 : tie.Need-part-requires-6
+part-requires-6 c κs = tt
 
-least-requires : tie.Need-least-requires
-least-requires c κs = search needs
+part-requires-7 : tie.Need-part-requires-7
+part-requires-7 c κs = tt
 
-length-at-requires-2 : tie.Need-length-at-requires-2
-length-at-requires-2 c κs = search needs
-
-least-requires-2 : tie.Need-least-requires-2
-least-requires-2 c κs = search needs
-
-alpha-of-requires : tie.Need-alpha-of-requires
-alpha-of-requires c κs = search needs
+part-requires-8 : tie.Need-part-requires-8
+part-requires-8 c κs = tt
 
 slice-aggregate-create : tie.Need-slice-aggregate-create
-slice-aggregate-create c = part-length (c .before .before .before .before .before .before .before .before .before .before .before .before .before .before .before .before .before .before .before .before .before .before .before .args .given .now) _ (c .before .before .before .before .least .ensures)
+slice-aggregate-create c = simp length-take (omega arith)
 
 slice-aggregate-create-2 : tie.Need-slice-aggregate-create-2
-slice-aggregate-create-2 c = part-length (c .before .before .before .before .before .before .before .before .before .before .before .before .before .before .before .before .before .before .before .before .before .before .before .before .args .rows .now) _ (c .before .before .before .least2 .ensures)
+slice-aggregate-create-2 c = simp length-take (omega arith)
+
+slice-relend-prefix-create : tie.Need-slice-relend-prefix-create
+slice-relend-prefix-create c = search needs
+
+slice-aggregate-create-3 : tie.Need-slice-aggregate-create-3
+slice-aggregate-create-3 c = simp length-take (omega arith)
+
+slice-relend-prefix-create-2 : tie.Need-slice-relend-prefix-create-2
+slice-relend-prefix-create-2 c = search needs
+
+slice-aggregate-create-4 : tie.Need-slice-aggregate-create-4
+slice-aggregate-create-4 c = simp length-take (omega arith)
+
+slice-relend-prefix-create-3 : tie.Need-slice-relend-prefix-create-3
+slice-relend-prefix-create-3 c = search needs
+
+slice-aggregate-create-5 : tie.Need-slice-aggregate-create-5
+slice-aggregate-create-5 c = simp length-take (omega arith)
+
+slice-relend-prefix-create-4 : tie.Need-slice-relend-prefix-create-4
+slice-relend-prefix-create-4 c = search needs
+
+slice-aggregate-create-6 : tie.Need-slice-aggregate-create-6
+slice-aggregate-create-6 c = simp length-take (omega arith)
+
+slice-relend-prefix-create-5 : tie.Need-slice-relend-prefix-create-5
+slice-relend-prefix-create-5 c = search needs
+
+slice-aggregate-create-7 : tie.Need-slice-aggregate-create-7
+slice-aggregate-create-7 c = simp length-take (omega arith)
+
+slice-relend-prefix-create-6 : tie.Need-slice-relend-prefix-create-6
+slice-relend-prefix-create-6 c = search needs
+
+slice-aggregate-create-8 : tie.Need-slice-aggregate-create-8
+slice-aggregate-create-8 c = simp length-take (omega arith)
 
 create-requires : tie.Need-create-requires
-create-requires c κs = search needs
+create-requires c κs = tt
 
-ends-requires : tie.Need-ends-requires
-ends-requires c κs = search needs
-
-same-refusal-requires : tie.Need-same-refusal-requires
-same-refusal-requires c κs = search needs
-
-made-requires : tie.Need-made-requires
-made-requires c κs = search needs
+after-making-requires : tie.Need-after-making-requires
+after-making-requires c κs = tt
 
 same-length : tie.Need-same-length
 same-length c = search needs
@@ -75,35 +100,43 @@ same-length-5 c = search needs
 same-length-6 : tie.Need-same-length-6
 same-length-6 c = search needs
 
-returns : tie.Need-returns
-returns c = search needs
+returns-2 : tie.Need-returns-2
+returns-2 c = tt
 
 pub make-spec : {M : Type 1} → statement M
 make-spec =
     tie.close
     (tie.spec
-    first-requires
-    after-requires
-    after-requires-2
-    after-requires-3
-    after-requires-4
-    after-requires-5
-    after-requires-6
-    length-at-requires
-    least-requires
-    length-at-requires-2
-    least-requires-2
-    alpha-of-requires
+    returns
+    read-making-requires
+    part-requires
+    part-requires-2
+    part-requires-3
+    part-requires-4
+    part-requires-5
+    part-requires-6
+    part-requires-7
+    part-requires-8
     slice-aggregate-create
     slice-aggregate-create-2
+    slice-relend-prefix-create
+    slice-aggregate-create-3
+    slice-relend-prefix-create-2
+    slice-aggregate-create-4
+    slice-relend-prefix-create-3
+    slice-aggregate-create-5
+    slice-relend-prefix-create-4
+    slice-aggregate-create-6
+    slice-relend-prefix-create-5
+    slice-aggregate-create-7
+    slice-relend-prefix-create-6
+    slice-aggregate-create-8
     create-requires
-    ends-requires
-    same-refusal-requires
-    made-requires
+    after-making-requires
     same-length
     same-length-2
     same-length-3
     same-length-4
     same-length-5
     same-length-6
-    returns)
+    returns-2)

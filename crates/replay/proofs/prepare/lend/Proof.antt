@@ -1,15 +1,13 @@
 use Prim.Native.Nat.{_≤_, _-_}
-use mathlib.Core.Path.{_≡_}
 use borrow.Author.Needs.{needs}
-use lib.ListN.{length}
 use Rattle.replay.proofs.prepare.lend.Statement.{statement}
 use Rattle.replay.proofs.prepare.lend.Tie as tie
 
 abbrev Inv-loop : tie.InvT-loop
-Inv-loop line end lent₀ last₀ i₀ lent last i = (i ≤ 9) × (length lent ≡ length lent₀)
+Inv-loop line end step lent₀ last₀ i₀ lent last i = i ≤ 9
 
 abbrev μ-loop : tie.MeasureT-loop
-μ-loop line end lent₀ last₀ i₀ lent last i = 9 - i
+μ-loop line end step lent₀ last₀ i₀ lent last i = 9 - i
 
 loop-holds : tie.Need-loop-holds Inv-loop μ-loop
 loop-holds c = search needs
@@ -20,8 +18,14 @@ after-requires c κs = search needs
 most-requires : tie.Need-most-requires Inv-loop μ-loop
 most-requires c κs = search needs
 
-put-requires : tie.Need-put-requires Inv-loop μ-loop
-put-requires c κs = search needs
+wide-requires : tie.Need-wide-requires Inv-loop μ-loop
+wide-requires c κs = search needs
+
+mul-lent : tie.Need-mul-lent Inv-loop μ-loop
+mul-lent c = search needs
+
+element-write-lent : tie.Need-element-write-lent Inv-loop μ-loop
+element-write-lent c = search needs
 
 add-i : tie.Need-add-i Inv-loop μ-loop
 add-i c = search needs
@@ -32,11 +36,8 @@ loop-less c = search needs
 loop-again : tie.Need-loop-again Inv-loop μ-loop
 loop-again c = search needs
 
-ends-requires : tie.Need-ends-requires Inv-loop μ-loop
-ends-requires c κs = search needs
-
-same-length : tie.Need-same-length Inv-loop μ-loop
-same-length c = search needs
+gave-requires : tie.Need-gave-requires Inv-loop μ-loop
+gave-requires c κs = search needs
 
 returns : tie.Need-returns Inv-loop μ-loop
 returns c = search needs
@@ -50,10 +51,11 @@ lend-spec =
     loop-holds
     after-requires
     most-requires
-    put-requires
+    wide-requires
+    mul-lent
+    element-write-lent
     add-i
     loop-less
     loop-again
-    ends-requires
-    same-length
+    gave-requires
     returns)
