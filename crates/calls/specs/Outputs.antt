@@ -6,7 +6,7 @@ use lib.Ieee.{Float}
 use lib.ListN.{length}
 use Rattle.lists.specs.Lists.{put-front}
 use Rattle.candidates.specs.Candidates.{Candidate, ids}
-use Rattle.candidates.specs.Quotient.{f32}
+use Rattle.vectors.specs.Distance.{f32}
 use Rattle.repair.specs.Delete.{Stats}
 use Rattle.guard.specs.Guard.{Report}
 use Rattle.calls.specs.Calls.{Operation, create, read, search-for, insert, delete, enable, status, assess, guarded-delete, Answer, refused, created, number, alpha, version, vector, found, inserted, deleted, standing, assessed, applied, deferred}

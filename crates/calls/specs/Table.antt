@@ -6,7 +6,7 @@ use mathlib.Core.Option.{none, some}
 use lib.ListN.{replicate}
 use lib.Ieee.{Float, binary32, ofBits}
 use Rattle.candidates.specs.Candidates.{Candidate}
-use Rattle.candidates.specs.Quotient.{f32}
+use Rattle.vectors.specs.Distance.{f32}
 use Rattle.slots.specs.Sizes.{Sizes, Lengths, limits}
 use Rattle.slots.specs.Store.{Store, blank}
 use Rattle.repair.specs.Delete.{Stats}

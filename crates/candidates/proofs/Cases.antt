@@ -5,7 +5,8 @@ use mathlib.Core.List.{[], _∷_}
 use lib.Ieee.{lt, div, ofInt, ofBits, binary32}
 use Rattle.lists.specs.Lists.{sort-by}
 use Rattle.candidates.specs.Candidates.{before, nearer, ids}
-use Rattle.candidates.specs.Quotient.{f32, largest, fmax, fmin, quotient}
+use Rattle.vectors.specs.Distance.{f32}
+use Rattle.candidates.specs.Quotient.{largest, fmax, fmin, quotient}
 
 -- 25/16 is exact, 1/3 is rounded
 exact : quotient 25 16 ≡ ofBits binary32 0x3fc8_0000

@@ -5,7 +5,8 @@ use mathlib.Core.Bool.{Bool, true, false}
 use lib.Dec.{ltb}
 use lib.Ieee.{Float, binary32, div, lt, eq}
 use Rattle.candidates.specs.Candidates.{before}
-use Rattle.candidates.specs.Quotient.{f32, largest, quotient, before-f32}
+use Rattle.vectors.specs.Distance.{f32}
+use Rattle.candidates.specs.Quotient.{largest, quotient, before-f32}
 use Rattle.candidates.specs.Words.{pair}
 use Rattle.candidates.proofs.Floats.{lt-f32, eq-f32}
 

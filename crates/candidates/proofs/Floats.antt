@@ -16,7 +16,8 @@ use lib.Ieee.Order.{transfer, round-mono}
 use lib.Ieee.Scale.{round-same}
 use lib.Ieee.Positive.{first-pos, above, above-of-le}
 use borrow.Author.Tests.{ne-eqb}
-use Rattle.candidates.specs.Quotient.{f32, largest, quotient}
+use Rattle.vectors.specs.Distance.{f32}
+use Rattle.candidates.specs.Quotient.{largest, quotient}
 -- so that the examples are checked first
 use Rattle.candidates.proofs.Cases
 

@@ -14,7 +14,8 @@ use lib.Ieee.Order.{round-mono, kept, drop}
 use lib.Ieee.Positive.{num, den, den-pos, positive, through}
 use borrow.Author.Tests.{lt-ltb, le-ltb, ltb-true, ltb-false}
 use Rattle.lists.proofs.All.{by-cases}
-use Rattle.candidates.specs.Quotient.{f32, largest, fmax, quotient}
+use Rattle.vectors.specs.Distance.{f32}
+use Rattle.candidates.specs.Quotient.{largest, fmax, quotient}
 use Rattle.candidates.proofs.Floats.{lt-of-values, f32-value, quotient-whole}
 
 abbrev pub plain : Float → Bool

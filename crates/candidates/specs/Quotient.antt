@@ -1,14 +1,10 @@
--- f32 numbers: whole numbers held exactly, their order with slots, and the quotient of two distances. Document 01, "Candidates and the walk" and
+-- f32 numbers: their order with slots, and the quotient of two distances. Document 01, "Candidates and the walk" and
 -- "Selections"; `Candidate` and `prune_scored` in the Rust. Assumes nothing.
 use Prim.Native.Nat.{ℕ, zero, suc}
 use mathlib.Core.Bool.{Bool, cond, _&&_, _||_}
-use lib.IntN.{pos}
+use Rattle.vectors.specs.Distance.{f32}
 use lib.Dec.{ltb}
-use lib.Ieee.{Float, binary32, div, lt, eq, ofInt, ofBits}
-
--- a whole number as an f32; exact up to 2 ^ 24
-unfoldable pub f32 : ℕ → Float
-f32 n = ofInt binary32 (pos n)
+use lib.Ieee.{Float, binary32, div, lt, eq, ofBits}
 
 -- the order of candidates whose distances are f32 numbers: that of the whole numbers up to 2 ^ 24 (`before-exact`)
 unfoldable pub before-f32 : Float → ℕ → Float → ℕ → Bool

@@ -3,7 +3,8 @@ ghost use mathlib.Core.Path.{_≡_};
 ghost use Prim.Native.Nat.{_≤_};
 ghost use Rattle.candidates.specs.Candidates as Candidates;
 ghost use Rattle.candidates.specs.Quotient as Quotient;
-ghost use Rattle.candidates.specs.Quotient.{f32, before-f32};
+ghost use Rattle.vectors.specs.Distance.{f32};
+ghost use Rattle.candidates.specs.Quotient.{before-f32};
 ghost use Rattle.candidates.specs.Words.{pair};
 
 // The largest finite f32.

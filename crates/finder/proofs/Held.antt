@@ -8,7 +8,7 @@ use borrow.Author.Tests.{lt-ltb, le-ltb}
 use lib.Dec.{T}
 use lib.Ieee.{Float, nan, inf, fin, binary32, ofBits, toBits, nanBits, isNan, fits, le, lt, eq}
 use lib.Ieee.Bits.{is-false, nanBits-is, nanBits-above, ofBits-toBits}
-use Rattle.candidates.specs.Quotient.{f32}
+use Rattle.vectors.specs.Distance.{f32}
 use Rattle.candidates.proofs.Floats.{one-bits}
 use Rattle.slots.specs.Sizes.{alpha-ok}
 use Rattle.index.specs.declared.Index.{Index}

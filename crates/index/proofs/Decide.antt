@@ -11,7 +11,7 @@ use lib.Pow.{pow-pos, pow-add}
 use lib.Ieee.{Float}
 use lib.ListN.{length}
 use lib.Dec.{eqb, ltb, leb}
-use Rattle.candidates.specs.Quotient.{f32}
+use Rattle.vectors.specs.Distance.{f32}
 use Rattle.lists.specs.Lists.{All, filter, range}
 use Rattle.slots.specs.Sizes.{Sizes, Lengths, limits, within, sizes-ok, alpha-ok, lengths-ok}
 use Rattle.vectors.specs.Vector.{Bytes}

@@ -14,7 +14,7 @@ use Rattle.lists.proofs.All.{all-take}
 use Rattle.lists.proofs.Front.{front-map}
 use Rattle.slots.specs.Sizes.{limits}
 use Rattle.candidates.specs.Candidates.{Candidate, ids}
-use Rattle.candidates.specs.Quotient.{f32}
+use Rattle.vectors.specs.Distance.{f32}
 use Rattle.candidates.specs.Words.{cand, cands, Small}
 use Rattle.candidates.proofs.Words.{cands-none, cands-length, cands-snoc, cands-each, cands-take}
 use Rattle.slots.specs.Store.{Store, store-view, store-ops}

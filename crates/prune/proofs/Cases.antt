@@ -6,7 +6,8 @@ use mathlib.Core.List.{List, [], _∷_}
 use lib.Dec.{eqb}
 use lib.Ieee.{Float, lt, le, mul, div, ofInt, ofBits, binary32}
 use Rattle.candidates.specs.Candidates.{scored, ids}
-use Rattle.candidates.specs.Quotient.{f32, largest, quotient}
+use Rattle.vectors.specs.Distance.{f32}
+use Rattle.candidates.specs.Quotient.{largest, quotient}
 use Rattle.prune.specs.Prune.{growth, thresholds-from, thresholds, raise, select, consider, pass, passes, considered, prune-scored}
 use Rattle.prune.specs.RobustPrune.{Rules, stays, choose, remaining, run, robust-prune, paper, amended}
 

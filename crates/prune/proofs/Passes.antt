@@ -12,7 +12,8 @@ use Rattle.lists.specs.Lists.{elem, range, foldl}
 use Rattle.lists.proofs.All.{by-cases}
 use Rattle.lists.proofs.Unique.{or-false, or-false-l, or-false-r, elem-snoc, keys-snoc}
 use Rattle.candidates.specs.Candidates.{Candidate, ids}
-use Rattle.candidates.specs.Quotient.{f32, largest, fmax, quotient}
+use Rattle.vectors.specs.Distance.{f32}
+use Rattle.candidates.specs.Quotient.{largest, fmax, quotient}
 use Rattle.prune.specs.Prune.{no-candidate, Selection, raise, select, consider, pass, passes, thresholds}
 -- so that the examples are checked first
 use Rattle.prune.proofs.Cases

@@ -17,7 +17,8 @@ use Rattle.lists.proofs.Filter.{filter-length, filter-every, filter-or}
 use Rattle.lists.proofs.Sorted.{First, Sorted, sort-sorted, distinct-sorted, take-sorted, least-first}
 use Rattle.lists.proofs.Unique.{Unique, or-false-l, or-false-r, eqb-flip}
 use Rattle.candidates.specs.Candidates.{Candidate, ids, nearer}
-use Rattle.candidates.specs.Quotient.{f32, largest, quotient}
+use Rattle.vectors.specs.Distance.{f32}
+use Rattle.candidates.specs.Quotient.{largest, quotient}
 use Rattle.candidates.proofs.Plain.{plain, f32-plain, largest-plain, quotient-plain, max-plain, max-above, lt-le-trans, lt-plain}
 use Rattle.prune.specs.Prune.{Selection, considered, prune-scored, thresholds}
 use Rattle.prune.specs.RobustPrune.{stays, choose, remaining, run, robust-prune, amended}

@@ -11,7 +11,7 @@ use Rattle.lists.specs.Lists.{All, filter, sort-by, distinct-by}
 use Rattle.lists.proofs.All.{all-map}
 use Rattle.lists.proofs.Parts.{fits-in}
 use Rattle.candidates.specs.Candidates.{nearer}
-use Rattle.candidates.specs.Quotient.{f32}
+use Rattle.vectors.specs.Distance.{f32}
 use Rattle.candidates.specs.Words.{cands, kept, Left, Holds}
 use Rattle.candidates.proofs.Words.{cands-length}
 use Rattle.candidates.proofs.After.{left-left, left-holds, left-so}

@@ -11,7 +11,8 @@ use lib.ListN.{length, getD}
 use lib.Ieee.{Float, binary32, nan, lt, le, ofBits, ofInt}
 use Rattle.lists.specs.Lists.{foldl, range}
 use Rattle.candidates.specs.Candidates.{Candidate}
-use Rattle.candidates.specs.Quotient.{f32, largest}
+use Rattle.vectors.specs.Distance.{f32}
+use Rattle.candidates.specs.Quotient.{largest}
 use Rattle.candidates.specs.Words.{cand, cands, put, Outside}
 use Rattle.candidates.proofs.Words.{cands-none, cands-at, cands-length, cands-push, cands-kept, put-length, put-outside, outside-none, outside-wide, outside-then}
 use Rattle.prune.specs.Prune.{no-candidate, Selection, thresholds-from, thresholds, raise, select, consider, pass}

@@ -18,7 +18,8 @@ use lib.Ieee.Exact.{HasValue, round-exact}
 use lib.Ieee.Order.{le-of-values}
 use lib.Ieee.Positive.{num, den, den-pos, positive, own-value, mul-at, mul-mono, le→cross, cross→le, le-trans-positive, between}
 use Rattle.lists.proofs.All.{by-cases}
-use Rattle.candidates.specs.Quotient.{f32, largest, fmin}
+use Rattle.vectors.specs.Distance.{f32}
+use Rattle.candidates.specs.Quotient.{largest, fmin}
 use Rattle.candidates.proofs.Floats.{f32-value, or-l, or-r}
 use Rattle.candidates.proofs.Plain.{plain, plain-of-positive, largest-plain, lt-plain, lt-le-trans}
 use Rattle.slots.specs.Sizes.{alpha-ok}

@@ -10,7 +10,7 @@ use lib.Ieee.{Float, le, ofInt}
 use Rattle.lists.specs.Lists.{All, least-from}
 use Rattle.lists.proofs.All.{all-filter}
 use Rattle.candidates.specs.Candidates.{Candidate}
-use Rattle.candidates.specs.Quotient.{f32}
+use Rattle.vectors.specs.Distance.{f32}
 use Rattle.candidates.proofs.Floats.{quotient-above-one}
 use Rattle.prune.specs.Prune.{considered, prune-scored}
 use Rattle.prune.specs.RobustPrune.{Rules, stays, choose, robust-prune, amended}

@@ -7,7 +7,8 @@ use lib.Dec.{eqb, leb}
 use lib.Ieee.{Float, binary32, mul, lt, le, ofBits}
 use Rattle.lists.specs.Lists.{filter, range, foldl, sort-by, distinct-by}
 use Rattle.candidates.specs.Candidates.{Candidate, nearer}
-use Rattle.candidates.specs.Quotient.{f32, largest, fmax, fmin, quotient}
+use Rattle.vectors.specs.Distance.{f32}
+use Rattle.candidates.specs.Quotient.{largest, fmax, fmin, quotient}
 use Rattle.slots.specs.View.{View, slot-distance}
 
 -- 1.2 as an f32

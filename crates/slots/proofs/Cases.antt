@@ -3,7 +3,7 @@
 use Prim.Native.Nat.{ℕ}
 use mathlib.Core.Path.{_≡_, refl}
 use mathlib.Core.List.{List, [], _∷_, map}
-use Rattle.candidates.specs.Quotient.{f32}
+use Rattle.vectors.specs.Distance.{f32}
 use Rattle.slots.specs.Store.{Store, blank, current, refs-of, store-view, write-neighbors, write-vector, set-mark, next-version, store-ops}
 use Rattle.slots.specs.Plain.{plain-ops}
 

@@ -3,7 +3,7 @@ use Prim.Native.Nat.{ℕ, _*_}
 use mathlib.Core.Bool.{Bool, _&&_}
 use lib.Dec.{eqb, leb}
 use lib.Ieee.{Float, le}
-use Rattle.candidates.specs.Quotient.{f32}
+use Rattle.vectors.specs.Distance.{f32}
 
 pub record Sizes : Type 0 where
   pub dim : ℕ

@@ -3,6 +3,8 @@
 use Prim.Native.Nat.{ℕ, _+_, _-_, _*_, _≤_}
 use mathlib.Core.List.{List, [], _∷_}
 use mathlib.Core.Path.{_≡_}
+use lib.IntN.{pos}
+use lib.Ieee.{Float, binary32, ofInt}
 
 -- of x - y and y - x one is 0
 unfoldable pub squared-difference : ℕ → ℕ → ℕ
@@ -13,6 +15,10 @@ unfoldable pub distance : List ℕ → List ℕ → ℕ
 distance [] ys = 0
 distance (x ∷ xs) [] = 0
 distance (x ∷ xs) (y ∷ ys) = squared-difference x y + distance xs ys
+
+-- a whole number as an f32; exact up to 2 ^ 24
+unfoldable pub f32 : ℕ → Float
+f32 n = ofInt binary32 (pos n)
 
 -- what `distance` promises: the distance, which an f32 holds exactly
 pub record Distance (a b : List ℕ) (r : ℕ) : Type 0 where

@@ -1,5 +1,6 @@
 use native.Mathlib.Omega.{arith}
-use Rattle.candidates.specs.Quotient.{f32, largest}
+use Rattle.vectors.specs.Distance.{f32}
+use Rattle.candidates.specs.Quotient.{largest}
 use Rattle.candidates.proofs.Floats.{in-float}
 use Rattle.candidates.proofs.Exact.{quotient-zero, quotient-other}
 use Rattle.candidates.proofs.candidate.quotient.Statement.{statement}

@@ -1,5 +1,5 @@
 use mathlib.Core.Path.{refl}
-use Rattle.candidates.specs.Quotient.{f32}
+use Rattle.vectors.specs.Distance.{f32}
 use Rattle.candidates.proofs.Floats.{in-float}
 use Rattle.candidates.proofs.candidate.Candidate.new.Statement.{statement}
 use Rattle.candidates.proofs.candidate.Candidate.new.Tie as tie
