@@ -66,8 +66,7 @@ gives-number (Mark s) = true
 gives-number (Version s) = true
 gives-number (Target s place) = true
 
--- the value that a word is: a version, or another number
--- a number that was read; alpha is not read so (`gives-number`)
+-- the value that a word is: a version, or another number; alpha is not read so (`gives-number`)
 unfoldable pub value-in : Reading → ℕ → Value
 value-in Dim n = Number n
 value-in Capacity n = Number n

@@ -34,195 +34,44 @@ extern "C" {
         pool_len: usize,
         index: *mut Words,
     ) -> u32;
+}
 
-    pub fn finder_dim(
-        index: *const Words,
-        vectors: *const u8,
-        vectors_len: usize,
-        targets: *const u32,
-        targets_len: usize,
-        edges: *const u16,
-        edges_len: usize,
-        versions: *const u16,
-        versions_len: usize,
-        marks: *const u8,
-        marks_len: usize,
-        pool: *const u32,
-        pool_len: usize,
-        value: *mut u32,
-    ) -> u32;
+// Declares functions that take an index and its six slices first, and then what is named.
+macro_rules! on_an_index {
+    ($(fn $function:ident($($name:ident: $type:ty),*) -> $answer:ty;)*) => {
+        extern "C" {
+            $(pub fn $function(
+                index: *const Words,
+                vectors: *const u8,
+                vectors_len: usize,
+                targets: *const u32,
+                targets_len: usize,
+                edges: *const u16,
+                edges_len: usize,
+                versions: *const u16,
+                versions_len: usize,
+                marks: *const u8,
+                marks_len: usize,
+                pool: *const u32,
+                pool_len: usize,
+                $($name: $type),*
+            ) -> $answer;)*
+        }
+    };
+}
 
-    pub fn finder_capacity(
-        index: *const Words,
-        vectors: *const u8,
-        vectors_len: usize,
-        targets: *const u32,
-        targets_len: usize,
-        edges: *const u16,
-        edges_len: usize,
-        versions: *const u16,
-        versions_len: usize,
-        marks: *const u8,
-        marks_len: usize,
-        pool: *const u32,
-        pool_len: usize,
-        value: *mut u32,
-    ) -> u32;
-
-    pub fn finder_degree(
-        index: *const Words,
-        vectors: *const u8,
-        vectors_len: usize,
-        targets: *const u32,
-        targets_len: usize,
-        edges: *const u16,
-        edges_len: usize,
-        versions: *const u16,
-        versions_len: usize,
-        marks: *const u8,
-        marks_len: usize,
-        pool: *const u32,
-        pool_len: usize,
-        value: *mut u32,
-    ) -> u32;
-
-    pub fn finder_alpha(
-        index: *const Words,
-        vectors: *const u8,
-        vectors_len: usize,
-        targets: *const u32,
-        targets_len: usize,
-        edges: *const u16,
-        edges_len: usize,
-        versions: *const u16,
-        versions_len: usize,
-        marks: *const u8,
-        marks_len: usize,
-        pool: *const u32,
-        pool_len: usize,
-        value: *mut f32,
-    ) -> u32;
-
-    pub fn finder_entry(
-        index: *const Words,
-        vectors: *const u8,
-        vectors_len: usize,
-        targets: *const u32,
-        targets_len: usize,
-        edges: *const u16,
-        edges_len: usize,
-        versions: *const u16,
-        versions_len: usize,
-        marks: *const u8,
-        marks_len: usize,
-        pool: *const u32,
-        pool_len: usize,
-        value: *mut u32,
-    ) -> u32;
-
-    pub fn finder_live(
-        index: *const Words,
-        vectors: *const u8,
-        vectors_len: usize,
-        targets: *const u32,
-        targets_len: usize,
-        edges: *const u16,
-        edges_len: usize,
-        versions: *const u16,
-        versions_len: usize,
-        marks: *const u8,
-        marks_len: usize,
-        pool: *const u32,
-        pool_len: usize,
-        value: *mut u32,
-    ) -> u32;
-
-    pub fn finder_mark(
-        index: *const Words,
-        vectors: *const u8,
-        vectors_len: usize,
-        targets: *const u32,
-        targets_len: usize,
-        edges: *const u16,
-        edges_len: usize,
-        versions: *const u16,
-        versions_len: usize,
-        marks: *const u8,
-        marks_len: usize,
-        pool: *const u32,
-        pool_len: usize,
-        slot: u32,
-        value: *mut u32,
-    ) -> u32;
-
-    pub fn finder_version(
-        index: *const Words,
-        vectors: *const u8,
-        vectors_len: usize,
-        targets: *const u32,
-        targets_len: usize,
-        edges: *const u16,
-        edges_len: usize,
-        versions: *const u16,
-        versions_len: usize,
-        marks: *const u8,
-        marks_len: usize,
-        pool: *const u32,
-        pool_len: usize,
-        slot: u32,
-        value: *mut u32,
-    ) -> u32;
-
-    pub fn finder_target(
-        index: *const Words,
-        vectors: *const u8,
-        vectors_len: usize,
-        targets: *const u32,
-        targets_len: usize,
-        edges: *const u16,
-        edges_len: usize,
-        versions: *const u16,
-        versions_len: usize,
-        marks: *const u8,
-        marks_len: usize,
-        pool: *const u32,
-        pool_len: usize,
-        slot: u32,
-        place: u32,
-        value: *mut u32,
-    ) -> u32;
-
-    pub fn finder_vector(
-        index: *const Words,
-        vectors: *const u8,
-        vectors_len: usize,
-        targets: *const u32,
-        targets_len: usize,
-        edges: *const u16,
-        edges_len: usize,
-        versions: *const u16,
-        versions_len: usize,
-        marks: *const u8,
-        marks_len: usize,
-        pool: *const u32,
-        pool_len: usize,
-        slot: u32,
-    ) -> usize;
-
-    pub fn finder_search(
-        index: *const Words,
-        vectors: *const u8,
-        vectors_len: usize,
-        targets: *const u32,
-        targets_len: usize,
-        edges: *const u16,
-        edges_len: usize,
-        versions: *const u16,
-        versions_len: usize,
-        marks: *const u8,
-        marks_len: usize,
-        pool: *const u32,
-        pool_len: usize,
+on_an_index! {
+    fn finder_dim(value: *mut u32) -> u32;
+    fn finder_capacity(value: *mut u32) -> u32;
+    fn finder_degree(value: *mut u32) -> u32;
+    fn finder_alpha(value: *mut f32) -> u32;
+    fn finder_entry(value: *mut u32) -> u32;
+    fn finder_live(value: *mut u32) -> u32;
+    fn finder_mark(slot: u32, value: *mut u32) -> u32;
+    fn finder_version(slot: u32, value: *mut u32) -> u32;
+    fn finder_target(slot: u32, place: u32, value: *mut u32) -> u32;
+    fn finder_vector(slot: u32) -> usize;
+    fn finder_search(
         query: *const u8,
         query_len: usize,
         k: u32,
@@ -233,6 +82,6 @@ extern "C" {
         out_dists_len: usize,
         scratch: *mut u32,
         scratch_len: usize,
-        found: *mut u32,
+        found: *mut u32
     ) -> u32;
 }
