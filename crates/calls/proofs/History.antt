@@ -6,15 +6,16 @@ use mathlib.Core.Path.{_≡_, refl, sym, ap, ap₂, _∙_, subst}
 use mathlib.Core.List.{List, [], _∷_, _++_, map}
 use native.Mathlib.Omega.{arith}
 use native.Mathlib.Nat.{div-mul-le-self, mul-le-mul, le-trans, max-le}
-use borrow.Author.Tests.{ltb-false, eq-eqb}
+use borrow.Author.Tests.{ltb-false}
 use lib.ListN.{length, take, drop, getD, length-drop, length-append, length-replicate}
 use lib.Seq.{length-take-le, take-append-le}
 use lib.Dec.{eqb, ltb}
-use Rattle.lists.specs.Lists.{filter, range, part, times}
+use Rattle.lists.specs.Lists.{filter, range, part, times, least-of}
 use Rattle.lists.proofs.Parts.{before-next}
 use Rattle.lists.proofs.Counts.{times-append}
+use Rattle.vectors.specs.Space.{slot-distance}
 use Rattle.slots.specs.Sizes.{Lengths, limits, sizes-ok, alpha-ok, lengths-ok}
-use Rattle.slots.specs.View.{View, live-neighbors, live-slots, free-slots}
+use Rattle.slots.specs.View.{View, live-neighbors, live-slots, free-slots, emptied}
 use Rattle.slots.specs.Store.{Store, blank, store-view, store-ops}
 use Rattle.slots.specs.Plain.{plain-ops}
 use Rattle.slots.proofs.Agree.{Agree, recount}
@@ -22,12 +23,13 @@ use Rattle.slots.proofs.New.{agree-new}
 use Rattle.walk.specs.Walk.{search-pool}
 use Rattle.insert.specs.Insert.{insert-batch}
 use Rattle.insert.proofs.Agree.{Long, agree-insert}
-use Rattle.repair.specs.Delete.{Stats, emptied, delete-batch}
+use Rattle.repair.specs.Delete.{Stats, delete-batch}
 use Rattle.repair.proofs.Agree.{agree-delete}
-use Rattle.guard.specs.Guard.{Config, Guard, off, on, Report, normalized, pool-of, guard-status, landmark-pool, select-landmarks, greatest-from, farthest, nearest-reference}
-use Rattle.calls.specs.Calls.{Making, Reading, read-dim, read-capacity, read-degree, read-alpha, read-entry, read-live, read-mark, read-version, read-target, read-vector, Operation, create, read, search-for, insert, delete, enable, status, assess, guarded-delete, Call, Answer, number, alpha, version, vector, found, inserted, deleted, standing, assessed, applied, deferred, created}
-use Rattle.calls.specs.Refusals.{Test, first-of, making-tests, config-over, new-pool, index-tests, short, tests, guard-fault}
-use Rattle.calls.specs.Step.{State, Kind, stored, plain, vectors-of, landmarks, report-of, with-graph, made, reading, guarded, perform, refusal, settle, step}
+use Rattle.guard.specs.Guard.{Config, Guard, off, on, Report, normalized, pool-of, guard-status, landmark-pool, select-landmarks, greatest-from, farthest}
+use Rattle.calls.specs.Calls.{Making, Reading, read-dim, read-capacity, read-degree, read-alpha, read-entry, read-live, read-mark, read-version, read-target, Delete, Operation, create, read, read-vector, search, insert, delete, enable, status, assess, guarded-delete, Lent, Call, Answer, number, alpha, version, vector, found, inserted, deleted, standing, assessed, applied, deferred, created}
+use Rattle.calls.specs.Refusals.{Test, first-of, making-tests, config-over, new-pool, index-tests, scratch-short, tests, guard-fault}
+use Rattle.calls.specs.State.{State, Kind, stored, plain, view-of, shown, made, with-graph, with-guard}
+use Rattle.calls.specs.Step.{vectors-of, report-of, reading, guarded, perform, refusal, settle, step}
 use Rattle.calls.specs.History.{Seen, hide, look, seen, log-performed, log-settled, Few, log-after, Within, trace, History}
 use Rattle.calls.proofs.Tests.{first-none, or-neither, accepted}
 
@@ -37,20 +39,18 @@ pub record Same (log : List ℕ) (w : State Store) (p : State View) : Type 0 whe
   pub agree : Agree (λ s. times s log) (w .graph) (p .graph)
   pub live : w .live ≡ p .live
   pub guard : w .guard ≡ p .guard
-  pub words-long : length (w .words) ≡ limits .pool
-  pub pool : landmarks w ≡ landmarks p
+  pub pool-long : length (w .pool) ≡ limits .pool
+  pub pool : pool-of (w .guard) (w .pool) ≡ pool-of (p .guard) (p .pool)
+
+-- so a call sees the same of both
+pub same-shown : {log : List ℕ} {w : State Store} {p : State View} → Same log w p → shown stored w ≡ shown plain p
+unfolding shown stored plain store-ops plain-ops
+same-shown e = λ i. record { graph = e .agree .same i; live = e .live i; guard = e .guard i; pool = e .pool i }
 
 -- the two states agree, and the answers, but for a version
 pub record Both (log : List ℕ) (r : State Store × Answer) (q : State View × Answer) : Type 0 where
   pub same : Same log (r .0) (q .0)
   pub answer : hide (r .1) ≡ hide (q .1)
-
--- ---- the same refusal
-
-module _ (size-answer : ℕ → ℕ → ℕ → ℕ) where
-  same-refusal : (log : List ℕ) (w : State Store) (p : State View) → Same log w p → (c : Call) → refusal size-answer stored w c ≡ refusal size-answer plain p c
-  unfolding refusal stored plain store-ops plain-ops
-  same-refusal log w p e c = λ i. first-of (tests size-answer (c .lent) (e .agree .same i) (e .live i) (e .guard i) (c .operation))
 
 -- ---- the pool fits its slice
 
@@ -59,7 +59,7 @@ unfolding farthest
 farthest-few v gone zero refs s = omega arith
 farthest-few v gone (suc n) refs [] = omega arith
 farthest-few v gone (suc n) refs (x ∷ xs) =
-    let next = greatest-from (nearest-reference v gone refs) x xs in
+    let next = greatest-from (λ s. least-of (slot-distance (v .space) s) refs) x xs in
     let h = farthest-few v gone n (refs ++ (next ∷ [])) (filter (λ y. not (eqb y next)) (x ∷ xs)) in
     omega arith
 
@@ -70,7 +70,7 @@ product-small c m h k =
     let p : max 1 c * max 1 m ≤ 64 * 16 = mul-le-mul a b in
     max-le (omega arith) p
 
-pool-fits : (v : View) (c : Config) → config-over c ≡ false → length (new-pool v c) ≤ limits .pool
+pool-fits : (v : View) (c : Config) → config-over limits c ≡ false → length (new-pool v c) ≤ limits .pool
 unfolding new-pool landmark-pool normalized select-landmarks limits
 pool-fits v c e =
     let o₁ = or-neither (ltb 64 (c .landmark-count) || ltb 16 (c .multiplier) || ltb 65536 (c .sample-size)) (ltb 1024 (c .beam)) e in
@@ -81,12 +81,12 @@ pool-fits v c e =
 
 -- ---- a call that is carried out
 
-pub made-both : (lent : Lengths) (m : Making) → first-of (making-tests lent m) ≡ none → Both [] (made stored m, created) (made plain m, created)
-unfolding made with-graph stored plain store-ops plain-ops pool-of
+pub made-both : (lent : Lengths) (m : Making) → first-of (making-tests limits lent m) ≡ none → Both [] (made stored m, created) (made plain m, created)
+unfolding made stored plain store-ops plain-ops pool-of
 made-both lent m acc =
     let a = agree-new (m .sizes) (m .given) (m .vectors) (m .rows) (m .entry) (accepted lent m acc) in
     record {
-      same = record { agree = a; live = ap (λ u. length (live-slots u)) (a .same); guard = refl; words-long = length-replicate (limits .pool) 0; pool = refl };
+      same = record { agree = a; live = ap (λ u. length (live-slots u)) (a .same); guard = refl; pool-long = length-replicate (limits .pool) 0; pool = refl };
       answer = refl;
     }
 
@@ -106,32 +106,28 @@ whole-vectors d bytes =
 
 module _ (log : List ℕ) (w : State Store) (p : State View) (e : Same log w p) where
   -- a call that only looks
-  looks : (f : View → ℕ → Guard → List ℕ → Answer)
-      → Both log (w, f (store-view (w .graph)) (w .live) (w .guard) (landmarks w)) (p, f (p .graph) (p .live) (p .guard) (landmarks p))
-  looks f = record { same = e; answer = λ i. hide (f (e .agree .same i) (e .live i) (e .guard i) (e .pool i)) }
+  looks : (f : State View → Answer) → Both log (w, f (shown stored w)) (p, f (shown plain p))
+  looks f = record { same = e; answer = ap (λ s. hide (f s)) (same-shown e) }
 
   -- the state after a call that changes the graph
   changed : (log′ : List ℕ) (b : Store) (v : View) → Agree (λ s. times s log′) b v → Same log′ (with-graph stored w b) (with-graph plain p v)
   unfolding with-graph stored plain store-ops plain-ops
-  changed log′ b v a = record { agree = a; live = ap (λ u. length (live-slots u)) (a .same); guard = e .guard; words-long = e .words-long; pool = e .pool }
+  changed log′ b v a = record { agree = a; live = ap (λ u. length (live-slots u)) (a .same); guard = e .guard; pool-long = e .pool-long; pool = e .pool }
 
-  same-report : (ids : List ℕ) → report-of (store-view (w .graph)) (w .guard) (landmarks w) ids ≡ report-of (p .graph) (p .guard) (landmarks p) ids
-  same-report ids = λ i. report-of (e .agree .same i) (e .guard i) (e .pool i) ids
-
-  deletes : (beam degree : ℕ) (ids : List ℕ) (f : List Stats → Answer) → Few (emptied (p .graph) ids ++ log)
-      → Both (emptied (p .graph) ids ++ log)
-      (with-graph stored w (delete-batch store-ops beam degree (w .graph) ids .0), f (delete-batch store-ops beam degree (w .graph) ids .1))
-      (with-graph plain p (delete-batch plain-ops beam degree (p .graph) ids .0), f (delete-batch plain-ops beam degree (p .graph) ids .1))
-  deletes beam degree ids f few =
-      let ss = emptied (p .graph) ids in
-      let d = agree-delete beam degree (λ s. times s log) (w .graph) (p .graph) (e .agree) ids (λ s. rw (← (times-append s ss log)) (few s)) in
+  deletes : (a : Delete) (f : List Stats → Answer) → Few (emptied (p .graph) (a .ids) ++ log)
+      → let d = delete-batch store-ops (a .repair-beam) (a .repair-degree) (w .graph) (a .ids) in
+      let q = delete-batch plain-ops (a .repair-beam) (a .repair-degree) (p .graph) (a .ids) in
+      Both (emptied (p .graph) (a .ids) ++ log) (with-graph stored w (d .0), f (d .1)) (with-graph plain p (q .0), f (q .1))
+  deletes a f few =
+      let ss = emptied (p .graph) (a .ids) in
+      let d = agree-delete (a .repair-beam) (a .repair-degree) (λ s. times s log) (w .graph) (p .graph) (e .agree) (a .ids) (λ s. rw (← (times-append s ss log)) (few s)) in
       record { same = changed (ss ++ log) _ _ (recount _ _ _ _ (λ s h. sym (times-append s ss log)) (d .agree)); answer = ap (λ x. hide (f x)) (d .stats) }
 
-  guarded-both : (ids : List ℕ) (beam degree : ℕ) (r : Report) (q : Bool) → Few (cond q (emptied (p .graph) ids ++ log) log)
-      → Both (cond q (emptied (p .graph) ids ++ log) log) (guarded stored w ids beam degree r q) (guarded plain p ids beam degree r q)
+  guarded-both : (a : Delete) (r : Report) (q : Bool) → Few (cond q (emptied (p .graph) (a .ids) ++ log) log)
+      → Both (cond q (emptied (p .graph) (a .ids) ++ log) log) (guarded stored w a r q) (guarded plain p a r q)
   unfolding guarded stored plain
-  guarded-both ids beam degree r true few = deletes beam degree ids (λ d. applied d r) few
-  guarded-both ids beam degree r false few = record { same = e; answer = refl }
+  guarded-both a r true few = deletes a (λ d. applied d r) few
+  guarded-both a r false few = record { same = e; answer = refl }
 
   inserts : (bytes : List ℕ) (beam : ℕ) → Agree (λ s. times s log)
       (insert-batch store-ops beam (w .graph) (vectors-of (store-view (w .graph) .sizes .dim) bytes))
@@ -142,124 +138,123 @@ module _ (log : List ℕ) (w : State Store) (p : State View) (e : Same log w p) 
       (agree-insert beam (λ s. times s log) (w .graph) (p .graph) (e .agree) (vectors-of d bytes) (whole-vectors d bytes))
 
   -- a pool that is written: its slice holds it, and the words past it stay
-  enables : (c : Config) (n : ℕ) (pool : List ℕ) → length pool ≡ n → n ≤ limits .pool
-      → Same log (record { graph = w .graph; live = w .live; guard = on c n; words = stored .put-pool (w .words) pool })
-      (record { graph = p .graph; live = p .live; guard = on c n; words = plain .put-pool (p .words) pool })
-  unfolding stored plain pool-of
-  enables c n pool l h = record {
+  enables : (c : Config) (pool : List ℕ) → length pool ≤ limits .pool → Same log (with-guard stored w c pool) (with-guard plain p c pool)
+  unfolding with-guard stored plain pool-of
+  enables c pool h = record {
     agree = e .agree;
     live = e .live;
     guard = refl;
-    words-long = simp (length-append, length-drop, e .words-long) (omega arith);
-    pool = take-append-le n pool (drop (length pool) (w .words)) (omega arith);
+    pool-long = simp (length-append, length-drop, e .pool-long) (omega arith);
+    pool = take-append-le (length pool) pool (drop (length pool) (w .pool)) (omega arith);
   }
 
-  not-over : (size-answer : ℕ → ℕ → ℕ → ℕ) (lent : Lengths) (c : Config) (scratch : ℕ)
-      → refusal size-answer plain p (record { lent = lent; operation = enable c scratch }) ≡ none → config-over c ≡ false
-  unfolding refusal tests index-tests plain plain-ops
-  not-over size lent c scratch r =
+  not-over : (lent : Lent) (c : Config) → refusal plain p (record { lent = lent; operation = enable c }) ≡ none → config-over limits c ≡ false
+  unfolding refusal tests index-tests shown plain plain-ops
+  not-over lent c r =
+      let s = shown plain p in
       let v = p .graph in
-      let after : List Test = (8, short size lent v (p .live) (p .guard) scratch) ∷ (12, eqb (length (live-slots v)) 0) ∷ (13, eqb (length (new-pool v c)) 0) ∷ [] in
-      let seven : List Test = (7, config-over c) ∷ after in
-      let bad₆ = not (eqb (p .live) (length (live-slots v))) || not (ltb (v .entry) (v .sizes .capacity)) || guard-fault (p .guard) in
+      let after : List Test = (8, scratch-short limits lent s) ∷ (12, eqb (length (live-slots v)) 0) ∷ (13, eqb (length (new-pool v c)) 0) ∷ [] in
+      let seven : List Test = (7, config-over limits c) ∷ after in
+      let bad₆ = not (eqb (p .live) (length (live-slots v))) || not (ltb (v .entry) (v .sizes .capacity)) || guard-fault limits (p .guard) in
       let six : List Test = (6, bad₆) ∷ seven in
-      let bad₃ = not (lengths-ok limits (v .sizes) lent) || false in
+      let bad₃ = not (lengths-ok limits (v .sizes) (lent .slices)) || false in
       let three : List Test = (3, bad₃) ∷ six in
       let two : List Test = (2, not (alpha-ok (v .sizes .alpha))) ∷ three in
       let t₂ = first-none 1 (not (sizes-ok limits (v .sizes))) two r .1 in
       let t₃ = first-none 2 (not (alpha-ok (v .sizes .alpha))) three t₂ .1 in
       let t₆ = first-none 3 bad₃ six t₃ .1 in
       let t₇ = first-none 6 bad₆ seven t₆ .1 in
-      first-none 7 (config-over c) after t₇ .0
+      first-none 7 (config-over limits c) after t₇ .0
 
   reading-both : (r : Reading) → Both log (w, reading stored w r) (p, reading plain p r)
-  unfolding reading stored plain store-ops plain-ops
-  reading-both read-dim = looks (λ v n g pool. number (v .sizes .dim))
-  reading-both read-capacity = looks (λ v n g pool. number (v .sizes .capacity))
-  reading-both read-degree = looks (λ v n g pool. number (v .sizes .degree))
-  reading-both read-alpha = looks (λ v n g pool. alpha (v .sizes .alpha))
-  reading-both read-entry = looks (λ v n g pool. number (v .entry))
-  reading-both read-live = looks (λ v n g pool. number n)
-  reading-both (read-mark s) = looks (λ v n g pool. number (cond (v .live s) 1 0))
-  reading-both (read-version s) = record { same = e; answer = unfold hide in refl }
-  reading-both (read-target s place) = looks (λ v n g pool. number (getD (live-neighbors v s) place blank))
-  reading-both (read-vector s) = looks (λ v n g pool. vector (cond (v .live s) (v .vector s) []))
+  unfolding reading shown
+  reading-both read-dim = looks (λ s. number (s .graph .sizes .dim))
+  reading-both read-capacity = looks (λ s. number (s .graph .sizes .capacity))
+  reading-both read-degree = looks (λ s. number (s .graph .sizes .degree))
+  reading-both read-alpha = looks (λ s. alpha (s .graph .sizes .alpha))
+  reading-both read-entry = looks (λ s. number (s .graph .entry))
+  reading-both read-live = looks (λ s. number (s .live))
+  reading-both (read-mark t) = looks (λ s. number (cond (s .graph .live t) 1 0))
+  reading-both (read-version t) = record { same = e; answer = unfold hide in refl }
+  reading-both (read-target t place) = looks (λ s. number (getD (live-neighbors (s .graph) t) place blank))
 
-  perform-both : (size-answer : ℕ → ℕ → ℕ → ℕ) (lent : Lengths) (o : Operation) → refusal size-answer plain p (record { lent = lent; operation = o }) ≡ none
+  perform-both : (lent : Lent) (o : Operation) → refusal plain p (record { lent = lent; operation = o }) ≡ none
       → Few (log-performed log p o) → Both (log-performed log p o) (perform stored w o) (perform plain p o)
-  unfolding refusal tests perform log-performed stored plain store-ops plain-ops
-  perform-both size lent (create m) r few = made-both lent m r
-  perform-both size lent (read q) r few = reading-both q
-  perform-both size lent (search-for query k beam room scratch) r few = looks (λ v n g pool. found (take k (search-pool v query beam)))
-  perform-both size lent (insert bytes beam room scratch) r few = record {
-    same = changed log _ _ (inserts bytes beam);
-    answer = ap (λ u. hide (inserted (take (length (vectors-of (u .sizes .dim) bytes)) (free-slots u)))) (e .agree .same);
+  unfolding refusal tests perform log-performed shown stored plain store-ops plain-ops
+  perform-both lent (create m) r few = made-both (lent .slices) m r
+  perform-both lent (read q) r few = reading-both q
+  perform-both lent (read-vector t) r few = looks (λ s. vector (cond (s .graph .live t) (s .graph .space .vector t) []))
+  perform-both lent (search a) r few = looks (λ s. found (take (a .k) (search-pool (s .graph) (a .query) (a .beam))))
+  perform-both lent (insert a) r few = record {
+    same = changed log _ _ (inserts (a .bytes) (a .beam));
+    answer = ap (λ u. hide (inserted (take (length (vectors-of (u .sizes .dim) (a .bytes))) (free-slots u)))) (e .agree .same);
   }
-  perform-both size lent (delete ids beam degree room scratch) r few = deletes beam degree ids deleted few
-  perform-both size lent (enable c scratch) r few =
+  perform-both lent (delete a) r few = deletes a deleted few
+  perform-both lent (enable c) r few =
       let pool = new-pool (p .graph) c in
-      let fits = pool-fits (p .graph) c (not-over size lent c scratch r) in
       record {
-        same = subst (λ u. Same log (record { graph = w .graph; live = w .live; guard = on (normalized c) (length (new-pool u c)); words = stored .put-pool (w .words) (new-pool u c) })
-            (record { graph = p .graph; live = p .live; guard = on (normalized c) (length pool); words = plain .put-pool (p .words) pool }))
-            (sym (e .agree .same)) (enables (normalized c) (length pool) pool refl fits);
+        same = subst (λ u. Same log (with-guard stored w (normalized c) (new-pool u c)) (with-guard plain p (normalized c) pool))
+            (sym (e .agree .same)) (enables (normalized c) pool (pool-fits (p .graph) c (not-over lent c r)));
         answer = ap (λ u. hide (standing (guard-status u (on (normalized c) (length (new-pool u c))) (new-pool u c)))) (e .agree .same);
       }
-  perform-both size lent status r few = looks (λ v n g pool. standing (guard-status v g pool))
-  perform-both size lent (assess ids lists scratch) r few = looks (λ v n g pool. assessed (report-of v g pool ids))
-  perform-both size lent (guarded-delete ids beam degree room lists scratch) r few =
-      let q = report-of (p .graph) (p .guard) (landmarks p) ids in
-      subst (λ x. Both (cond (q .admitted) (emptied (p .graph) ids ++ log) log) (guarded stored w ids beam degree x (x .admitted)) (guarded plain p ids beam degree q (q .admitted)))
-      (sym (same-report ids)) (guarded-both ids beam degree q (q .admitted) few)
+  perform-both lent status r few = looks (λ s. standing (guard-status (s .graph) (s .guard) (s .pool)))
+  perform-both lent (assess ids) r few = looks (λ s. assessed (report-of s ids))
+  perform-both lent (guarded-delete a) r few =
+      let q = report-of (shown plain p) (a .ids) in
+      subst (λ s. Both (cond (q .admitted) (emptied (p .graph) (a .ids) ++ log) log) (guarded stored w a (report-of s (a .ids)) (report-of s (a .ids) .admitted)) (guarded plain p a q (q .admitted)))
+      (sym (same-shown e)) (guarded-both a q (q .admitted) few)
 
   -- ---- one call
 
-  settle-both : (size-answer : ℕ → ℕ → ℕ → ℕ) (c : Call) (q : Option ℕ) → refusal size-answer plain p c ≡ q → Few (log-settled log p c q)
-      → Both (log-settled log p c q) (settle size-answer stored w c q) (settle size-answer plain p c q)
-  unfolding settle log-settled
-  settle-both size c (some n) r few = record { same = e; answer = refl }
-  settle-both size c none r few = perform-both size (c .lent) (c .operation) r few
+  same-refusal : (c : Call) → refusal stored w c ≡ refusal plain p c
+  unfolding refusal
+  same-refusal c = ap (λ s. first-of (tests limits (c .lent) s (c .operation))) (same-shown e)
 
-  pub step-both : (size-answer : ℕ → ℕ → ℕ → ℕ) (c : Call) → Few (log-after size-answer log p c)
-      → Both (log-after size-answer log p c) (step size-answer stored w c) (step size-answer plain p c)
+  settle-both : (c : Call) (q : Option ℕ) → refusal plain p c ≡ q → Few (log-settled log p c q)
+      → Both (log-settled log p c q) (settle stored w c q) (settle plain p c q)
+  unfolding settle log-settled
+  settle-both c (some n) r few = record { same = e; answer = refl }
+  settle-both c none r few = perform-both (c .lent) (c .operation) r few
+
+  pub step-both : (c : Call) → Few (log-after log p c) → Both (log-after log p c) (step stored w c) (step plain p c)
   unfolding step log-after
-  step-both size c few =
-      let q = refusal size plain p c in
-      subst (λ x. Both (log-settled log p c q) (settle size stored w c x) (settle size plain p c q)) (sym (same-refusal size log w p e c)) (settle-both size c q refl few)
+  step-both c few =
+      let q = refusal plain p c in
+      subst (λ x. Both (log-settled log p c q) (settle stored w c x) (settle plain p c q)) (sym (same-refusal c)) (settle-both c q refl few)
 
 -- ---- every history
 
 pub same-seen : (log : List ℕ) (r : State Store × Answer) (q : State View × Answer) → Both log r q → seen stored (r .0) (r .1) ≡ seen plain (q .0) (q .1)
-unfolding stored plain store-ops plain-ops look
-same-seen log r q e = λ i. record {
-  answer = e .answer i;
-  entry = e .same .agree .same i .entry;
-  live = e .same .live i;
-  guard = e .same .guard i;
-  pool = e .same .pool i;
-  slots = live-slots (e .same .agree .same i);
-  vectors = map (e .same .agree .same i .vector) (live-slots (e .same .agree .same i));
-  targets = map (live-neighbors (e .same .agree .same i)) (range 0 (e .same .agree .same i .sizes .capacity));
-}
+unfolding look
+same-seen log r q e = λ i.
+    let s = same-shown (e .same) i in
+    record {
+      answer = e .answer i;
+      entry = s .graph .entry;
+      live = s .live;
+      guard = s .guard;
+      pool = s .pool;
+      slots = live-slots (s .graph);
+      vectors = map (s .graph .space .vector) (live-slots (s .graph));
+      targets = map (live-neighbors (s .graph)) (range 0 (s .graph .sizes .capacity));
+    }
 
-module _ (size-answer : ℕ → ℕ → ℕ → ℕ) where
-  pub traces : (log : List ℕ) (w : State Store) (p : State View) → Same log w p → (cs : List Call) → Within size-answer log p cs
-      → trace size-answer stored w cs ≡ trace size-answer plain p cs
-  traces log w p e [] h = refl
-  traces log w p e (c ∷ cs) h =
-      let b = step-both log w p e size-answer c (h .0) in
-      ap₂ (λ x y. x ∷ y) (same-seen (log-after size-answer log p c) (step size-answer stored w c) (step size-answer plain p c) b)
-      (traces (log-after size-answer log p c) (step size-answer stored w c .0) (step size-answer plain p c .0) (b .same) cs (h .1))
+pub traces : (log : List ℕ) (w : State Store) (p : State View) → Same log w p → (cs : List Call) → Within log p cs → trace stored w cs ≡ trace plain p cs
+traces log w p e [] h = refl
+traces log w p e (c ∷ cs) h =
+    let b = step-both log w p e c (h .0) in
+    ap₂ (λ x y. x ∷ y) (same-seen (log-after log p c) (step stored w c) (step plain p c) b)
+    (traces (log-after log p c) (step stored w c .0) (step plain p c .0) (b .same) cs (h .1))
 
-  -- the making with which a history begins
-  pub made-step : {B : Type 0} (K : Kind B) (w : State B) (lent : Lengths) (m : Making) → first-of (making-tests lent m) ≡ none
-      → step size-answer K w (record { lent = lent; operation = create m }) ≡ (made K m, created)
-  unfolding step refusal settle tests perform
-  made-step K w lent m acc = ap (settle size-answer K w (record { lent = lent; operation = create m })) acc
+-- the making with which a history begins
+pub made-step : {B : Type 0} (K : Kind B) (w : State B) (lent : Lent) (m : Making) → first-of (making-tests limits (lent .slices) m) ≡ none
+    → step K w (record { lent = lent; operation = create m }) ≡ (made K m, created)
+unfolding step refusal settle tests perform
+made-step K w lent m acc = ap (settle K w (record { lent = lent; operation = create m })) acc
 
-  pub history : History size-answer
-  history w p lent m cs acc h =
-      let b = made-both lent m acc in
-      ap (λ (x : State Store × Answer). seen stored (x .0) (x .1) ∷ trace size-answer stored (x .0) cs) (made-step stored w lent m acc)
-      ∙ ap₂ (λ x y. x ∷ y) (same-seen [] _ _ b) (traces [] _ _ (b .same) cs h)
-      ∙ sym (ap (λ (x : State View × Answer). seen plain (x .0) (x .1) ∷ trace size-answer plain (x .0) cs) (made-step plain p lent m acc))
+pub history : History
+history w p lent m cs acc h =
+    let b = made-both (lent .slices) m acc in
+    ap (λ (x : State Store × Answer). seen stored (x .0) (x .1) ∷ trace stored (x .0) cs) (made-step stored w lent m acc)
+    ∙ ap₂ (λ x y. x ∷ y) (same-seen [] _ _ b) (traces [] _ _ (b .same) cs h)
+    ∙ sym (ap (λ (x : State View × Answer). seen plain (x .0) (x .1) ∷ trace plain (x .0) cs) (made-step plain p lent m acc))

@@ -32,7 +32,7 @@ unfoldable pub exact : Sizes → Lengths
 exact z = record {
   vectors = z .capacity * z .dim;
   targets = z .capacity * z .degree;
-  edge-versions = z .capacity * z .degree;
+  edges = z .capacity * z .degree;
   versions = z .capacity;
   marks = z .capacity;
   pool = limits .pool;
@@ -43,7 +43,7 @@ unfolding lengths-ok exact
 passed-lengths z n e =
     let v = eqb (n .vectors) (z .capacity * z .dim) in
     let t = eqb (n .targets) (z .capacity * z .degree) in
-    let g = eqb (n .edge-versions) (z .capacity * z .degree) in
+    let g = eqb (n .edges) (z .capacity * z .degree) in
     let r = eqb (n .versions) (z .capacity) in
     let m = eqb (n .marks) (z .capacity) in
     let q = eqb (n .pool) (limits .pool) in
@@ -55,7 +55,7 @@ passed-lengths z n e =
     λ i. record {
       vectors = eqb-true (n .vectors) (z .capacity * z .dim) (a₅ .0) i;
       targets = eqb-true (n .targets) (z .capacity * z .degree) (a₅ .1) i;
-      edge-versions = eqb-true (n .edge-versions) (z .capacity * z .degree) (a₄ .1) i;
+      edges = eqb-true (n .edges) (z .capacity * z .degree) (a₄ .1) i;
       versions = eqb-true (n .versions) (z .capacity) (a₃ .1) i;
       marks = eqb-true (n .marks) (z .capacity) (a₂ .1) i;
       pool = eqb-true (n .pool) (limits .pool) (a₁ .1) i;
@@ -106,24 +106,24 @@ module _ (lent : Lengths) (m : Making) where
   abbrev rows-right : Bool
   rows-right = eqb (length (m .rows)) (m .given * m .sizes .degree)
 
-  five : or-zero (first-of (making-tests lent m)) ≡ 0
+  five : or-zero (first-of (making-tests limits lent m)) ≡ 0
       → Five (not (sizes-ok limits (m .sizes))) (not (alpha-ok (m .sizes .alpha))) (not (lent-right && vectors-right && rows-right)) (ltb (m .sizes .capacity) (m .given))
       (not (names-given (m .given) (m .rows) && entry-given (m .given) (m .entry)))
   unfolding making-tests
   five e = none-of-five _ _ _ _ _ e
 
   -- a 0 says that none holds
-  pub none-judged : or-zero (first-of (making-tests lent m)) ≡ 0 → first-of (making-tests lent m) ≡ none
+  pub none-judged : or-zero (first-of (making-tests limits lent m)) ≡ 0 → first-of (making-tests limits lent m) ≡ none
   unfolding making-tests
   none-judged e = let f = five e in rw (f .one, f .two, f .three, f .four, f .five)
 
-  pub lengths-made : first-of (making-tests lent m) ≡ none → lent ≡ exact (m .sizes)
+  pub lengths-made : first-of (making-tests limits lent m) ≡ none → lent ≡ exact (m .sizes)
   lengths-made h =
       let f = five (ap or-zero h) in
       passed-lengths (m .sizes) lent
       (and-both lent-right vectors-right (and-both (lent-right && vectors-right) rows-right (not-false (lent-right && vectors-right && rows-right) (f .three)) .0) .0)
 
-  pub accepted : first-of (making-tests lent m) ≡ none → Accepted (m .sizes) (m .given) (m .vectors) (m .rows) (m .entry)
+  pub accepted : first-of (making-tests limits lent m) ≡ none → Accepted (m .sizes) (m .given) (m .vectors) (m .rows) (m .entry)
   accepted h =
       let f = five (ap or-zero h) in
       let named = names-given (m .given) (m .rows) in

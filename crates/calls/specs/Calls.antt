@@ -1,6 +1,6 @@
 -- The calls that the apps can make, with what they lend, and the answers. Assumes nothing.
 use Prim.Native.Nat.{ℕ}
-use mathlib.Core.List.{List, [], _∷_}
+use mathlib.Core.List.{List, []}
 use lib.Ieee.{Float}
 use Rattle.slots.specs.Sizes.{Sizes, Lengths}
 use Rattle.candidates.specs.Candidates.{Candidate}
@@ -15,7 +15,7 @@ pub record Making : Type 0 where
   pub rows : List ℕ
   pub entry : ℕ
 
--- one number, or the vector of a slot
+-- one number
 pub data Reading : Type 0 where
   read-dim : Reading
   read-capacity : Reading
@@ -25,24 +25,51 @@ pub data Reading : Type 0 where
   read-live : Reading
   read-mark : (slot : ℕ) → Reading
   read-version : (slot : ℕ) → Reading
+  -- by the place among the slot's live targets
   read-target : (slot place : ℕ) → Reading
-  read-vector : (slot : ℕ) → Reading
 
--- `room` is the length of an output list (of the shorter one where there are two), `scratch` that of the scratch
+pub record Search : Type 0 where
+  pub query : List ℕ
+  pub k : ℕ
+  pub beam : ℕ
+
+pub record Insert : Type 0 where
+  pub bytes : List ℕ
+  pub beam : ℕ
+
+pub record Delete : Type 0 where
+  pub ids : List ℕ
+  pub repair-beam : ℕ
+  pub repair-degree : ℕ
+
 pub data Operation : Type 0 where
   create : Making → Operation
   read : Reading → Operation
-  search-for : (query : List ℕ) (k beam room scratch : ℕ) → Operation
-  insert : (bytes : List ℕ) (beam room scratch : ℕ) → Operation
-  delete : (ids : List ℕ) (beam degree room scratch : ℕ) → Operation
-  enable : (config : Config) (scratch : ℕ) → Operation
+  read-vector : (slot : ℕ) → Operation
+  search : Search → Operation
+  insert : Insert → Operation
+  delete : Delete → Operation
+  enable : Config → Operation
   status : Operation
-  assess : (ids : List ℕ) (lists scratch : ℕ) → Operation
-  guarded-delete : (ids : List ℕ) (beam degree room lists scratch : ℕ) → Operation
+  assess : (ids : List ℕ) → Operation
+  guarded-delete : Delete → Operation
 
--- an operation, and the lengths of the six slices that are lent as the index's
+-- how many the lists hold that are lent for answers: slots and distances, stats, and the report's two lists
+pub record Room : Type 0 where
+  pub slots : ℕ
+  pub dists : ℕ
+  pub stats : ℕ
+  pub checked : ℕ
+  pub lost : ℕ
+
+-- the lengths of all that a call is lent: the six slices of the index, the lists for its answer, and the scratch
+pub record Lent : Type 0 where
+  pub slices : Lengths
+  pub room : Room
+  pub scratch : ℕ
+
 pub record Call : Type 0 where
-  pub lent : Lengths
+  pub lent : Lent
   pub operation : Operation
 
 pub data Answer : Type 0 where
@@ -61,25 +88,14 @@ pub data Answer : Type 0 where
   deferred : Report → Answer
 
 -- a call that is turned back gives its number; where a vector is read, the empty part
-unfoldable pub reading-refused : ℕ → Reading → Answer
-reading-refused n read-dim = refused n
-reading-refused n read-capacity = refused n
-reading-refused n read-degree = refused n
-reading-refused n read-alpha = refused n
-reading-refused n read-entry = refused n
-reading-refused n read-live = refused n
-reading-refused n (read-mark s) = refused n
-reading-refused n (read-version s) = refused n
-reading-refused n (read-target s place) = refused n
-reading-refused n (read-vector s) = vector []
-
 unfoldable pub refused-as : ℕ → Operation → Answer
 refused-as n (create m) = refused n
-refused-as n (read r) = reading-refused n r
-refused-as n (search-for query k beam room scratch) = refused n
-refused-as n (insert bytes beam room scratch) = refused n
-refused-as n (delete ids beam degree room scratch) = refused n
-refused-as n (enable config scratch) = refused n
+refused-as n (read r) = refused n
+refused-as n (read-vector s) = vector []
+refused-as n (search a) = refused n
+refused-as n (insert a) = refused n
+refused-as n (delete a) = refused n
+refused-as n (enable config) = refused n
 refused-as n status = refused n
-refused-as n (assess ids lists scratch) = refused n
-refused-as n (guarded-delete ids beam degree room lists scratch) = refused n
+refused-as n (assess ids) = refused n
+refused-as n (guarded-delete a) = refused n

@@ -5,14 +5,14 @@ use mathlib.Core.List.{List, [], _∷_, _++_, map}
 use mathlib.Core.Option.{Option, none, some}
 use mathlib.Core.Path.{_≡_}
 use Rattle.lists.specs.Lists.{range, times}
-use Rattle.slots.specs.Sizes.{Lengths}
-use Rattle.slots.specs.View.{View, live-neighbors, live-slots}
+use Rattle.slots.specs.Sizes.{limits}
+use Rattle.slots.specs.View.{View, live-neighbors, live-slots, emptied}
 use Rattle.slots.specs.Store.{Store}
-use Rattle.repair.specs.Delete.{emptied}
 use Rattle.guard.specs.Guard.{Guard}
-use Rattle.calls.specs.Calls.{Making, Operation, create, read, search-for, insert, delete, enable, status, assess, guarded-delete, Call, Answer, refused, created, number, alpha, version, vector, found, inserted, deleted, standing, assessed, applied, deferred}
+use Rattle.calls.specs.Calls.{Making, Operation, create, read, read-vector, search, insert, delete, enable, status, assess, guarded-delete, Lent, Call, Answer, refused, created, number, alpha, version, vector, found, inserted, deleted, standing, assessed, applied, deferred}
 use Rattle.calls.specs.Refusals.{first-of, making-tests}
-use Rattle.calls.specs.Step.{State, Kind, landmarks, view-of, step, refusal, report-of, made, stored, plain}
+use Rattle.calls.specs.State.{State, Kind, shown, made, stored, plain}
+use Rattle.calls.specs.Step.{step, refusal, report-of}
 
 -- ---- what is compared after each call
 
@@ -43,21 +43,22 @@ hide (applied ds r) = applied ds r
 hide (deferred r) = deferred r
 
 -- the answer, entry, live count, guard, pool, the live slots and their vectors, and the live targets of every slot
-unfoldable pub look : View → ℕ → Guard → List ℕ → Answer → Seen
-look v n g pool answer =
+unfoldable pub look : State View → Answer → Seen
+look w answer =
+    let v = w .graph in
     record {
       answer = hide answer;
       entry = v .entry;
-      live = n;
-      guard = g;
-      pool = pool;
+      live = w .live;
+      guard = w .guard;
+      pool = w .pool;
       slots = live-slots v;
-      vectors = map (v .vector) (live-slots v);
+      vectors = map (v .space .vector) (live-slots v);
       targets = map (live-neighbors v) (range 0 (v .sizes .capacity));
     }
 
 abbrev pub seen : {B : Type 0} → Kind B → State B → Answer → Seen
-seen K w answer = look (view-of K w) (w .live) (w .guard) (landmarks w) answer
+seen K w answer = look (shown K w) answer
 
 -- ---- how often each slot was emptied
 
@@ -65,43 +66,42 @@ seen K w answer = look (view-of K w) (w .live) (w .guard) (landmarks w) answer
 unfoldable pub log-performed : List ℕ → State View → Operation → List ℕ
 log-performed log p (create m) = []
 log-performed log p (read r) = log
-log-performed log p (search-for query k beam room scratch) = log
-log-performed log p (insert bytes beam room scratch) = log
-log-performed log p (delete ids beam degree room scratch) = emptied (p .graph) ids ++ log
-log-performed log p (enable config scratch) = log
+log-performed log p (read-vector s) = log
+log-performed log p (search a) = log
+log-performed log p (insert a) = log
+log-performed log p (delete a) = emptied (p .graph) (a .ids) ++ log
+log-performed log p (enable config) = log
 log-performed log p status = log
-log-performed log p (assess ids lists scratch) = log
-log-performed log p (guarded-delete ids beam degree room lists scratch) =
-    cond (report-of (p .graph) (p .guard) (landmarks p) ids .admitted) (emptied (p .graph) ids ++ log) log
+log-performed log p (assess ids) = log
+log-performed log p (guarded-delete a) = cond (report-of (shown plain p) (a .ids) .admitted) (emptied (p .graph) (a .ids) ++ log) log
 
 unfoldable pub log-settled : List ℕ → State View → Call → Option ℕ → List ℕ
 log-settled log p c (some n) = log
 log-settled log p c none = log-performed log p (c .operation)
 
+unfoldable pub log-after : List ℕ → State View → Call → List ℕ
+log-after log p c = log-settled log p c (refusal plain p c)
+
 -- no slot stands in the log more than 65,535 times
 abbrev pub Few : List ℕ → Type 0
 Few log = (s : ℕ) → times s log ≤ 65535
 
+-- no slot is emptied more than 65,535 times since the index was last made
+abbrev pub Within : List ℕ → State View → List Call → Type 0
+Within log p [] = Unit {0}
+Within log p (c ∷ cs) = let log′ = log-after log p c in Few log′ × Within log′ (step plain p c .0) cs
+
 -- ---- histories
 
-module _ (size-answer : ℕ → ℕ → ℕ → ℕ) where
-  unfoldable pub log-after : List ℕ → State View → Call → List ℕ
-  log-after log p c = log-settled log p c (refusal size-answer plain p c)
+-- what is seen of a list of calls, each on what the last one left
+abbrev pub trace : {B : Type 0} → Kind B → State B → List Call → List Seen
+trace K w [] = []
+trace K w (c ∷ cs) = let r = step K w c in seen K (r .0) (r .1) ∷ trace K (r .0) cs
 
-  -- no slot is emptied more than 65,535 times since the index was last made
-  abbrev pub Within : List ℕ → State View → List Call → Type 0
-  Within log p [] = Unit {0}
-  Within log p (c ∷ cs) = let log′ = log-after log p c in Few log′ × Within log′ (step size-answer plain p c .0) cs
-
-  -- what is seen of a list of calls, each on what the last one left
-  abbrev pub trace : {B : Type 0} → Kind B → State B → List Call → List Seen
-  trace K w [] = []
-  trace K w (c ∷ cs) = let r = step size-answer K w c in seen K (r .0) (r .1) ∷ trace K (r .0) cs
-
-  -- the claim, whatever stood in the memory before the accepted making with which the list begins
-  abbrev pub History : Type 0
-  History =
-      (w : State Store) (p : State View) (lent : Lengths) (m : Making) (cs : List Call)
-      → first-of (making-tests lent m) ≡ none
-      → Within [] (made plain m) cs
-      → let making : Call = record { lent = lent; operation = create m } in trace stored w (making ∷ cs) ≡ trace plain p (making ∷ cs)
+-- the claim, whatever stood in the memory before the accepted making with which the list begins
+abbrev pub History : Type 0
+History =
+    (w : State Store) (p : State View) (lent : Lent) (m : Making) (cs : List Call)
+    → first-of (making-tests limits (lent .slices) m) ≡ none
+    → Within [] (made plain m) cs
+    → let making : Call = record { lent = lent; operation = create m } in trace stored w (making ∷ cs) ≡ trace plain p (making ∷ cs)

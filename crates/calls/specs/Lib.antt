@@ -1,7 +1,8 @@
 pub mod Calls
-pub mod Outputs
+pub mod State
 pub mod Refusals
 pub mod Step
+pub mod Outputs
 pub mod History
 pub mod Runs
 pub mod Table

@@ -1,18 +1,20 @@
 -- Document 01's small shelf and an example of each refusal that can occur, as one table of calls with their answers. Assumes nothing.
-use Prim.Native.Nat.{ℕ, _*_}
+use Prim.Native.Nat.{ℕ, _-_, _*_}
 use mathlib.Core.Bool.{true, false}
-use mathlib.Core.List.{List, [], _∷_, map}
+use mathlib.Core.List.{List, [], _∷_, _++_, map}
 use mathlib.Core.Option.{none, some}
 use lib.ListN.{replicate}
 use lib.Ieee.{Float, binary32, ofBits}
 use Rattle.candidates.specs.Candidates.{Candidate}
 use Rattle.vectors.specs.Distance.{f32}
 use Rattle.slots.specs.Sizes.{Sizes, Lengths, limits}
+use Rattle.slots.specs.Scratch.{size-answer}
 use Rattle.slots.specs.Store.{Store, blank}
 use Rattle.repair.specs.Delete.{Stats}
 use Rattle.guard.specs.Guard.{config, Report, off}
-use Rattle.calls.specs.Calls.{Making, Reading, read-entry, read-live, read-mark, read-version, read-target, read-vector, Operation, create, read, search-for, insert, delete, enable, status, assess, guarded-delete, Call, Answer, refused, created, number, version, vector, found, inserted, deleted, standing, assessed, applied, deferred}
-use Rattle.calls.specs.Step.{State, landmarks, step, made, stored}
+use Rattle.calls.specs.Calls.{Making, Reading, read-entry, read-live, read-mark, read-version, read-target, Search, Insert, Delete, Operation, create, read, read-vector, search, insert, delete, enable, status, assess, guarded-delete, Room, Lent, Call, Answer, refused, created, number, version, vector, found, inserted, deleted, standing, assessed, applied, deferred}
+use Rattle.calls.specs.State.{State, shown, made, stored}
+use Rattle.calls.specs.Step.{step}
 
 -- ---- notation
 
@@ -22,19 +24,35 @@ at slot dist = record { dist = dist; id = slot }
 abbrev stats : ℕ → ℕ → ℕ → ℕ → Stats
 stats a b c d = record { outgoing-seeds = a; recovered-in-neighbors = b; repair-candidates = c; repair-edges-attempted = d }
 
+-- search for one byte; k is the beam
+abbrev nearest : ℕ → ℕ → Operation
+nearest x beam = search (record { query = x ∷ []; k = beam; beam = beam })
+
+abbrev insert-all : List ℕ → ℕ → Operation
+insert-all bytes beam = insert (record { bytes = bytes; beam = beam })
+
+abbrev deleting : List ℕ → ℕ → ℕ → Delete
+deleting ids beam degree = record { ids = ids; repair-beam = beam; repair-degree = degree }
+
 -- slices of exact length
 abbrev exact : ℕ → ℕ → ℕ → Lengths
 exact dim capacity degree = record {
   vectors = capacity * dim;
   targets = capacity * degree;
-  edge-versions = capacity * degree;
+  edges = capacity * degree;
   versions = capacity;
   marks = capacity;
   pool = limits .pool;
 }
 
-abbrev lent : Lengths → List Operation → List Call
-lent n os = map (λ o. record { lent = n; operation = o }) os
+-- a call with room for n in each list of slots, distances and stats and for m in each list of a report, and with some scratch
+abbrev lent : Lengths → ℕ → ℕ → ℕ → Operation → Call
+lent slices n m scratch o =
+    record { lent = record { slices = slices; room = record { slots = n; dists = n; stats = n; checked = m; lost = m }; scratch = scratch }; operation = o }
+
+-- one with room for 4 and 64, and scratch as the size answer has it for 4 slots
+abbrev ample : Lengths → Operation → Call
+ample slices o = lent slices 4 64 (size-answer 4) o
 
 -- ---- the shelf
 
@@ -62,19 +80,19 @@ wide vectors = record { sizes = record { dim = 2; capacity = 4; degree = 1; alph
 unfoldable pub nothing : State Store
 nothing = record {
   graph = record {
-    arrays = record { dim = 0; degree = 0; vectors = []; targets = []; edge-versions = []; versions = []; marks = [] };
+    arrays = record { dim = 0; degree = 0; vectors = []; targets = []; edges = []; versions = []; marks = [] };
     capacity = 0;
     alpha = f32 0;
     entry = 0;
   };
   live = 0;
   guard = off;
-  words = [];
+  pool = [];
 }
 
 -- the shelf with a live count of 2
 unfoldable pub miscounted : State Store
-miscounted = let w = made stored shelf in record { graph = w .graph; live = 2; guard = w .guard; words = w .words }
+miscounted = let w = made stored shelf in record { graph = w .graph; live = 2; guard = w .guard; pool = w .pool }
 
 -- ---- the table
 
@@ -88,33 +106,33 @@ pub record Case : Type 0 where
   pub calls : List Call
   pub outcome : Outcome
 
-abbrev on-shelf-with : List ℕ → List Operation → List Answer → Case
-on-shelf-with pool os answers = record { start = nothing; calls = lent (exact 1 4 2) (create shelf ∷ os); outcome = record { answers = created ∷ answers; pool = pool } }
+abbrev on-shelf-with : List ℕ → List Call → List Answer → Case
+on-shelf-with pool cs answers = record { start = nothing; calls = ample (exact 1 4 2) (create shelf) ∷ cs; outcome = record { answers = created ∷ answers; pool = pool } }
 
 abbrev on-shelf : List Operation → List Answer → Case
-on-shelf os answers = on-shelf-with [] os answers
+on-shelf os answers = on-shelf-with [] (map (ample (exact 1 4 2)) os) answers
 
 abbrev making : Making → Lengths → ℕ → Case
-making m n row = record { start = nothing; calls = lent n (create m ∷ []); outcome = record { answers = refused row ∷ []; pool = [] } }
+making m n row = record { start = nothing; calls = ample n (create m) ∷ []; outcome = record { answers = refused row ∷ []; pool = [] } }
 
 unfoldable pub table : List Case
 table =
     -- search 2, beam 2; search 0, beam 1
-    on-shelf (search-for (2 ∷ []) 2 2 2 100 ∷ search-for (0 ∷ []) 1 1 1 100 ∷ [])
+    on-shelf (nearest 2 2 ∷ nearest 0 1 ∷ [])
     (found (at 1 1 ∷ at 0 4 ∷ []) ∷ found (at 1 9 ∷ []) ∷ [])
     -- insert 6, beam 2: slot 3, row [1,2], row 1 is [0,3], row 2 is [3]; then delete 1, repair beam 2, repair degree 1: counts 2, 1, 2, 2, entry 0; what
     -- program `shelf` prints; then search 3, beam 3
     ∷ on-shelf
-    (insert (6 ∷ []) 2 1 100
+    (insert-all (6 ∷ []) 2
     ∷ read (read-target 3 0) ∷ read (read-target 3 1) ∷ read (read-target 1 0) ∷ read (read-target 1 1) ∷ read (read-target 2 0) ∷ read (read-target 2 1)
-    ∷ delete (1 ∷ []) 2 1 1 100
+    ∷ delete (deleting (1 ∷ []) 2 1)
     ∷ read read-entry ∷ read read-live
     ∷ read (read-mark 0) ∷ read (read-version 0) ∷ read (read-target 0 0) ∷ read (read-target 0 1)
-    ∷ read (read-mark 1) ∷ read (read-version 1) ∷ read (read-target 1 0) ∷ read (read-vector 1)
-    ∷ read (read-mark 2) ∷ read (read-version 2) ∷ read (read-target 2 0) ∷ read (read-target 2 1) ∷ read (read-vector 2)
+    ∷ read (read-mark 1) ∷ read (read-version 1) ∷ read (read-target 1 0) ∷ read-vector 1
+    ∷ read (read-mark 2) ∷ read (read-version 2) ∷ read (read-target 2 0) ∷ read (read-target 2 1) ∷ read-vector 2
     ∷ read (read-mark 3) ∷ read (read-version 3) ∷ read (read-target 3 0) ∷ read (read-target 3 1)
-    ∷ read (read-mark 4) ∷ read (read-version 4) ∷ read (read-target 4 0) ∷ read (read-vector 4)
-    ∷ search-for (3 ∷ []) 3 3 3 100
+    ∷ read (read-mark 4) ∷ read (read-version 4) ∷ read (read-target 4 0) ∷ read-vector 4
+    ∷ nearest 3 3
     ∷ [])
     (inserted (3 ∷ [])
     ∷ number 1 ∷ number 2 ∷ number 0 ∷ number 3 ∷ number 3 ∷ number blank
@@ -128,19 +146,20 @@ table =
     ∷ found (at 0 9 ∷ at 3 9 ∷ at 2 49 ∷ [])
     ∷ [])
     -- delete 0, 1, 2: entry stays 1; insert 7 gets slot 0; search is empty
-    ∷ on-shelf (delete (0 ∷ 1 ∷ 2 ∷ []) 2 1 3 100 ∷ read read-entry ∷ insert (7 ∷ []) 1 1 100 ∷ search-for (7 ∷ []) 1 1 1 100 ∷ [])
+    ∷ on-shelf (delete (deleting (0 ∷ 1 ∷ 2 ∷ []) 2 1) ∷ read read-entry ∷ insert-all (7 ∷ []) 1 ∷ nearest 7 1 ∷ [])
     (deleted (stats 1 0 0 0 ∷ stats 2 0 0 0 ∷ stats 1 0 0 0 ∷ []) ∷ number 1 ∷ inserted (0 ∷ []) ∷ found [] ∷ [])
     -- guard count 0, multiplier 1, sample 4, beam 2: pool [2]; assess 0: admitted; assess 1: entry 0, baseline 1, residual 0, lost [2], not admitted;
     -- the guarded delete of both; no live id: admitted, requested 0
     ∷ on-shelf-with (2 ∷ [])
-    (enable (config 0 1 4 2) 100
-    ∷ assess (0 ∷ []) 64 100
-    ∷ assess (1 ∷ []) 64 100
-    ∷ assess (3 ∷ []) 64 100
-    ∷ guarded-delete (1 ∷ []) 2 1 1 64 100
-    ∷ guarded-delete (0 ∷ []) 2 1 1 64 100
+    (map (ample (exact 1 4 2))
+    (enable (config 0 1 4 2)
+    ∷ assess (0 ∷ [])
+    ∷ assess (1 ∷ [])
+    ∷ assess (3 ∷ [])
+    ∷ guarded-delete (deleting (1 ∷ []) 2 1)
+    ∷ guarded-delete (deleting (0 ∷ []) 2 1)
     ∷ status
-    ∷ [])
+    ∷ []))
     (standing (record { enabled = true; pool-size = 1; live-landmarks = 1; landmark-count = 1; beam = 2 })
     ∷ assessed (record { admitted = true; requested = 1; entry = some 1; checked = 2 ∷ []; baseline = 1; residual = 1; lost = []; supplemental = 0 })
     ∷ assessed (record { admitted = false; requested = 1; entry = some 0; checked = 2 ∷ []; baseline = 1; residual = 0; lost = 2 ∷ []; supplemental = 0 })
@@ -150,7 +169,7 @@ table =
     ∷ standing (record { enabled = true; pool-size = 1; live-landmarks = 1; landmark-count = 1; beam = 2 })
     ∷ [])
     -- empty batches: no slots, no counts
-    ∷ on-shelf (insert [] 2 0 100 ∷ delete [] 2 1 0 100 ∷ []) (inserted [] ∷ deleted [] ∷ [])
+    ∷ on-shelf (insert-all [] 2 ∷ delete (deleting [] 2 1) ∷ []) (inserted [] ∷ deleted [] ∷ [])
     -- 1: dim 257; 2: alpha 0.9; 3: three slots of dim 2, 5 bytes; 4: 5 into 4; 5: 3 given, a row names 3; entry not given
     ∷ making (sized 257 2 (f32 1)) (exact 257 4 2) 1
     ∷ making (sized 1 0 (f32 1)) (exact 1 4 0) 1
@@ -161,37 +180,37 @@ table =
     ∷ making (given 3 (shelf .vectors) (1 ∷ blank ∷ 0 ∷ 3 ∷ 1 ∷ blank ∷ []) 1) (exact 1 4 2) 5
     ∷ making (given 3 (shelf .vectors) (shelf .rows) 3) (exact 1 4 2) 5
     -- 6: live 2, three marks; a vector that is read is the empty part
-    ∷ record { start = miscounted; calls = lent (exact 1 4 2) (read read-entry ∷ read (read-vector 0) ∷ []); outcome = record { answers = refused 6 ∷ vector [] ∷ []; pool = [] } }
-    -- 3, 7, 8, 10 and 11, and which comes first
-    ∷ on-shelf
-    (search-for (0 ∷ 0 ∷ []) 1 1 1 0
-    ∷ delete (replicate 257 0) 2 1 256 0
-    ∷ assess (replicate 257 0) 63 0
-    ∷ delete (replicate 257 0) 2 1 257 0
-    ∷ search-for (0 ∷ []) 2 1025 2 0
-    ∷ search-for (0 ∷ []) 2 1 1 100
-    ∷ search-for (0 ∷ []) 1 1 1 99
-    ∷ insert (1 ∷ 2 ∷ []) 2 2 100
-    ∷ assess (0 ∷ []) 64 100
+    ∷ record { start = miscounted; calls = map (ample (exact 1 4 2)) (read read-entry ∷ read-vector 0 ∷ []); outcome = record { answers = refused 6 ∷ vector [] ∷ []; pool = [] } }
+    -- 3, 7, 8, 10 and 11, and which comes first: by room for slots, distances and stats, by room for a report, and by scratch
+    ∷ on-shelf-with []
+    (lent (exact 1 4 2) 4 64 0 (search (record { query = 0 ∷ 0 ∷ []; k = 1; beam = 1 }))
+    ∷ lent (exact 1 4 2) 256 64 0 (delete (deleting (replicate 257 0) 2 1))
+    ∷ lent (exact 1 4 2) 4 63 0 (assess (replicate 257 0))
+    ∷ lent (exact 1 4 2) 257 64 0 (delete (deleting (replicate 257 0) 2 1))
+    ∷ lent (exact 1 4 2) 4 64 0 (search (record { query = 0 ∷ []; k = 2; beam = 1025 }))
+    ∷ lent (exact 1 4 2) 1 64 (size-answer 4) (search (record { query = 0 ∷ []; k = 2; beam = 1 }))
+    ∷ lent (exact 1 4 2) 1 64 (size-answer 4 - 1) (nearest 0 1)
+    ∷ lent (exact 1 4 2) 2 64 (size-answer 4) (insert-all (1 ∷ 2 ∷ []) 2)
+    ∷ ample (exact 1 4 2) (assess (0 ∷ []))
     ∷ [])
     (refused 3 ∷ refused 3 ∷ refused 3 ∷ refused 7 ∷ refused 7 ∷ refused 7 ∷ refused 8 ∷ refused 10 ∷ refused 11 ∷ [])
     -- 3: slices of other lengths
-    ∷ record { start = made stored shelf; calls = lent (exact 1 3 2) (read read-entry ∷ read (read-vector 0) ∷ []); outcome = record { answers = refused 3 ∷ vector [] ∷ []; pool = [] } }
+    ∷ record { start = made stored shelf; calls = map (ample (exact 1 3 2)) (read read-entry ∷ read-vector 0 ∷ []); outcome = record { answers = refused 3 ∷ vector [] ∷ []; pool = [] } }
     -- 9: 3 bytes, dim 2, which comes before 10
     ∷ record {
       start = made stored (wide (1 ∷ 2 ∷ 3 ∷ 4 ∷ 5 ∷ 6 ∷ []));
-      calls = lent (exact 2 4 1) (insert (1 ∷ 2 ∷ 3 ∷ []) 2 1 100 ∷ insert (1 ∷ 2 ∷ 3 ∷ 4 ∷ 5 ∷ []) 2 2 100 ∷ []);
+      calls = map (ample (exact 2 4 1)) (insert-all (1 ∷ 2 ∷ 3 ∷ []) 2 ∷ insert-all (1 ∷ 2 ∷ 3 ∷ 4 ∷ 5 ∷ []) 2 ∷ []);
       outcome = record { answers = refused 9 ∷ refused 9 ∷ []; pool = [] };
     }
     -- 12: all emptied; 13: one live
-    ∷ on-shelf (delete (0 ∷ 1 ∷ []) 2 1 2 100 ∷ enable (config 1 1 4 2) 100 ∷ delete (2 ∷ []) 2 1 1 100 ∷ enable (config 1 1 4 2) 100 ∷ [])
+    ∷ on-shelf (delete (deleting (0 ∷ 1 ∷ []) 2 1) ∷ enable (config 1 1 4 2) ∷ delete (deleting (2 ∷ []) 2 1) ∷ enable (config 1 1 4 2) ∷ [])
     (deleted (stats 1 0 0 0 ∷ stats 2 1 1 0 ∷ []) ∷ refused 13 ∷ deleted (stats 0 0 0 0 ∷ []) ∷ refused 12 ∷ [])
     ∷ []
 
--- what a list of calls answers and leaves, with a size answer of 100 words
+-- what a list of calls answers and leaves
 unfoldable pub outcome-of : State Store → List Call → Outcome
-outcome-of w [] = record { answers = []; pool = landmarks w }
+outcome-of w [] = record { answers = []; pool = shown stored w .pool }
 outcome-of w (c ∷ cs) =
-    let r = step (λ dim capacity degree. 100) stored w c in
+    let r = step stored w c in
     let rest = outcome-of (r .0) cs in
     record { answers = r .1 ∷ rest .answers; pool = rest .pool }

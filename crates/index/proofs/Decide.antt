@@ -1,7 +1,7 @@
 -- The tests that calls share: what the code finds is what the table says, and what follows. Assumes nothing.
 use Prim.Native.Nat.{ℕ, _*_, _^_, _≤_, _<_}
 use mathlib.Core.Bool.{Bool, true, false, not, _&&_, _||_}
-use mathlib.Core.Path.{_≡_, refl, sym, ap, _∙_, subst⁻¹}
+use mathlib.Core.Path.{_≡_, refl, sym, ap, _∙_, subst, subst⁻¹}
 use mathlib.Core.List.{List, [], _∷_}
 use mathlib.Core.Option.{Option, none, some}
 use native.Mathlib.Nat.{le-of-lt, lt-of-le-of-lt, mul-le-mul-left, mul-lt-mul-of-pos-right}
@@ -13,18 +13,19 @@ use lib.ListN.{length}
 use lib.Dec.{eqb, ltb, leb}
 use Rattle.vectors.specs.Distance.{f32}
 use Rattle.lists.specs.Lists.{All, filter, range}
-use Rattle.slots.specs.Sizes.{Sizes, Lengths, limits, within, sizes-ok, alpha-ok, lengths-ok}
+use Rattle.slots.specs.Sizes.{Sizes, Slices, Lengths, lengths-of, limits, within, sizes-ok, alpha-ok, lengths-ok}
+use Rattle.slots.specs.Scratch.{size-answer}
 use Rattle.vectors.specs.Vector.{Bytes}
 use Rattle.slots.specs.Store.{Store, is-valid, store-view, store-ops}
 use Rattle.slots.specs.Rows.{arrays, RowShape}
 use Rattle.slots.proofs.Places.{rows-shaped}
 use Rattle.index.specs.declared.Index.{Index}
-use Rattle.index.specs.declared.Words.the-variants.{Refused, Words as words}
+use Rattle.index.specs.declared.ScratchWords.the-variants.{Refused, Words}
 use Rattle.calls.specs.Calls.{Call, refused-as}
 use Rattle.calls.specs.Refusals.{Test, first-of, or-zero, index-tests, tests, guard-fault}
-use Rattle.calls.specs.Step.{State, view-of, stored, perform, refusal, settle, step}
-use Rattle.calls.specs.Runs.{lengths-of}
-use Rattle.index.specs.Index.{size-answer, words-for, sizes, sizes-of, lengths, guard-of, state-of}
+use Rattle.calls.specs.State.{State, stored, shown}
+use Rattle.calls.specs.Step.{perform, refusal, settle, step}
+use Rattle.index.specs.Index.{words-for, sizes, sizes-of, guard-of, state-of}
 use Rattle.index.specs.Deciding.{Decided, Passed}
 use Rattle.calls.proofs.Tests.{and-both, or-neither, exact, passed-lengths}
 
@@ -66,7 +67,7 @@ ranges z e =
     record { dim-low = d .0; dim-high = d .1; capacity-low = c .0; capacity-high = c .1; degree-low = g .0; degree-high = g .1 }
 
 -- the size answer of accepted sizes is no more than document 01 allows, and not 0
-pub words-bound : (z : Sizes) → sizes-ok limits z ≡ true → (0 < size-answer (z .dim) (z .capacity) (z .degree)) × (size-answer (z .dim) (z .capacity) (z .degree) ≤ 8388608)
+pub words-bound : (z : Sizes) → sizes-ok limits z ≡ true → (0 < size-answer (z .capacity)) × (size-answer (z .capacity) ≤ 8388608)
 unfolding size-answer
 words-bound z e = let r = ranges z e in (omega arith, omega arith)
 
@@ -76,7 +77,7 @@ module _ (dim capacity degree : ℕ) {r : Bool} (e : (alpha : Float) → r ≡ n
   unfolding words-for
   words-refused t alpha = rw (not-true (sizes-ok limits (sizes dim capacity degree alpha)) (sym (e alpha) ∙ t))
 
-  pub words-given : r ≡ false → (alpha : Float) → words (size-answer dim capacity degree) ≡ words-for (sizes dim capacity degree alpha)
+  pub words-given : r ≡ false → (alpha : Float) → Words (size-answer capacity) ≡ words-for (sizes dim capacity degree alpha)
   unfolding words-for
   words-given t alpha = rw (not-false (sizes-ok limits (sizes dim capacity degree alpha)) (sym (e alpha) ∙ t))
 
@@ -97,46 +98,54 @@ bad₃ index n = not (lengths-ok limits (sizes-of index) n)
 
 abbrev bad₆ : Index → List ℕ → ℕ → Bool
 bad₆ index marks n =
-    not (eqb (index .live) (length (filter (is-valid marks) (range 0 n)))) || not (ltb (index .entry) (index .capacity)) || guard-fault (guard-of (index .guard))
+    not (eqb (index .live) (length (filter (is-valid marks) (range 0 n)))) || not (ltb (index .entry) (index .capacity)) || guard-fault limits (guard-of (index .guard))
+
+abbrev four : Bool → Bool → Bool → Bool → List Test → List Test
+four q₁ q₂ q₃ q₆ rest = (1, q₁) ∷ (2, q₂) ∷ (3, q₃) ∷ (6, q₆) ∷ rest
+
+abbrev decides : Index → Lengths → List ℕ → Bool → List Test → ℕ
+decides index lent marks wrong rest = or-zero (first-of (four (bad₁ index) (bad₂ index) (bad₃ index lent || wrong) (bad₆ index marks (index .capacity)) rest))
+
+-- these decide: the lengths lent are those of slices with these marks
+decided : (index : Index) (lent : Lengths) (marks : List ℕ) {wrong : Bool} {rest : List Test} {r : ℕ} → (lent .marks ≡ length marks → r ≡ decides index lent marks wrong rest)
+    → Decided index lent marks wrong rest r
+unfolding index-tests shown stored store-ops store-view state-of
+decided index lent marks {wrong} {rest} {r} f =
+    record { does = λ s e h. subst (λ m. r ≡ decides index lent m wrong rest) (sym h) (f (sym (ap (λ n. n .marks) e) ∙ ap length h)) }
 
 -- where the lengths are right, there are as many marks as slots
-marked : (index : Index) (vectors targets edges versions : ℕ) (marks : List ℕ) (pool : ℕ) {r₆ : Bool}
-    → bad₃ index (lengths vectors targets edges versions (length marks) pool) ≡ false → r₆ ≡ bad₆ index marks (length marks) → r₆ ≡ bad₆ index marks (index .capacity)
+marked : (index : Index) (lent : Lengths) (marks : List ℕ) {r₆ : Bool} → bad₃ index lent ≡ false → r₆ ≡ bad₆ index marks (length marks) → lent .marks ≡ length marks
+    → r₆ ≡ bad₆ index marks (index .capacity)
 unfolding exact
-marked index vectors targets edges versions marks pool h sound =
-    let n = lengths vectors targets edges versions (length marks) pool in
-    let m : length marks ≡ index .capacity = ap (λ l. l .marks) (passed-lengths (sizes-of index) n (not-false (lengths-ok limits (sizes-of index) n) h)) in
-    rw m at sound
+marked index lent marks h sound k =
+    let m : lent .marks ≡ index .capacity = ap (λ l. l .marks) (passed-lengths (sizes-of index) lent (not-false (lengths-ok limits (sizes-of index) lent) h)) in
+    rw (sym k ∙ m) at sound
 
-module _ {index : Index} {vectors targets edges versions : ℕ} {marks : List ℕ} {pool : ℕ} {wrong r₁ : Bool}
+module _ {index : Index} {lent : Lengths} {marks : List ℕ} {wrong r₁ : Bool}
     (sized : (alpha : Float) → r₁ ≡ not (sizes-ok limits (sizes (index .dim) (index .capacity) (index .degree) alpha))) where
-  pub decided-sizes : r₁ ≡ true → Decided index vectors targets edges versions marks pool wrong [] 1
-  unfolding index-tests store-view state-of
-  decided-sizes t₁ = record { does = λ vs ts es ns ps. rw (sym (sized (index .alpha)) ∙ t₁) }
+  pub decided-sizes : r₁ ≡ true → Decided index lent marks wrong [] 1
+  decided-sizes t₁ = decided index lent marks (λ k. rw (sym (sized (index .alpha)) ∙ t₁))
 
   module _ {r₂ : Bool} (t₁ : r₁ ≡ false) (grown : r₂ ≡ not (alpha-ok (index .alpha))) where
-    pub decided-alpha : r₂ ≡ true → Decided index vectors targets edges versions marks pool wrong [] 2
-    unfolding index-tests store-view state-of
-    decided-alpha t₂ = record { does = λ vs ts es ns ps. rw (sym (sized (index .alpha)) ∙ t₁, sym grown ∙ t₂) }
+    pub decided-alpha : r₂ ≡ true → Decided index lent marks wrong [] 2
+    decided-alpha t₂ = decided index lent marks (λ k. rw (sym (sized (index .alpha)) ∙ t₁, sym grown ∙ t₂))
 
-    module _ {r₃ : Bool} (t₂ : r₂ ≡ false) (long : (alpha : Float) → r₃ ≡ not (lengths-ok limits (sizes (index .dim) (index .capacity) (index .degree) alpha) (lengths vectors targets edges versions (length marks) pool))) where
-      pub decided-lengths : r₃ ≡ true → Decided index vectors targets edges versions marks pool wrong [] 3
-      unfolding index-tests store-view state-of
-      decided-lengths t₃ = record { does = λ vs ts es ns ps. rw (sym (sized (index .alpha)) ∙ t₁, sym grown ∙ t₂, sym (long (index .alpha)) ∙ t₃) }
+    module _ {r₃ : Bool} (t₂ : r₂ ≡ false) (long : (alpha : Float) → r₃ ≡ not (lengths-ok limits (sizes (index .dim) (index .capacity) (index .degree) alpha) lent)) where
+      pub decided-lengths : r₃ ≡ true → Decided index lent marks wrong [] 3
+      decided-lengths t₃ = decided index lent marks (λ k. rw (sym (sized (index .alpha)) ∙ t₁, sym grown ∙ t₂, sym (long (index .alpha)) ∙ t₃))
 
       module _ (t₃ : r₃ ≡ false) where
-        pub decided-wrong : wrong ≡ true → Decided index vectors targets edges versions marks pool wrong [] 3
-        unfolding index-tests store-view state-of
-        decided-wrong t = record { does = λ vs ts es ns ps. rw (sym (sized (index .alpha)) ∙ t₁, sym grown ∙ t₂, sym (long (index .alpha)) ∙ t₃, t) }
+        pub decided-wrong : wrong ≡ true → Decided index lent marks wrong [] 3
+        decided-wrong t = decided index lent marks (λ k. rw (sym (sized (index .alpha)) ∙ t₁, sym grown ∙ t₂, sym (long (index .alpha)) ∙ t₃, t))
 
         module _ {r₆ : Bool} (t : wrong ≡ false) (sound : r₆ ≡ bad₆ index marks (length marks)) where
-          pub decided-index : r₆ ≡ true → Decided index vectors targets edges versions marks pool wrong [] 6
-          unfolding index-tests store-view state-of
-          decided-index t₆ = record { does = λ vs ts es ns ps. rw (sym (sized (index .alpha)) ∙ t₁, sym grown ∙ t₂, sym (long (index .alpha)) ∙ t₃, t, sym (marked index vectors targets edges versions marks pool (sym (long (index .alpha)) ∙ t₃) sound) ∙ t₆) }
+          pub decided-index : r₆ ≡ true → Decided index lent marks wrong [] 6
+          decided-index t₆ =
+              decided index lent marks (λ k. rw (sym (sized (index .alpha)) ∙ t₁, sym grown ∙ t₂, sym (long (index .alpha)) ∙ t₃, t, sym (marked index lent marks (sym (long (index .alpha)) ∙ t₃) sound k) ∙ t₆))
 
-          pub decided-none : r₆ ≡ false → Decided index vectors targets edges versions marks pool wrong [] 0
-          unfolding index-tests store-view state-of
-          decided-none t₆ = record { does = λ vs ts es ns ps. rw (sym (sized (index .alpha)) ∙ t₁, sym grown ∙ t₂, sym (long (index .alpha)) ∙ t₃, t, sym (marked index vectors targets edges versions marks pool (sym (long (index .alpha)) ∙ t₃) sound) ∙ t₆) }
+          pub decided-none : r₆ ≡ false → Decided index lent marks wrong [] 0
+          decided-none t₆ =
+              decided index lent marks (λ k. rw (sym (sized (index .alpha)) ∙ t₁, sym grown ∙ t₂, sym (long (index .alpha)) ∙ t₃, t, sym (marked index lent marks (sym (long (index .alpha)) ∙ t₃) sound k) ∙ t₆))
 
 -- ---- what the number says
 
@@ -159,9 +168,6 @@ record Four (q₁ q₂ q₃ q₆ : Bool) : Type 0 where
   pub three : q₃ ≡ false
   pub six : q₆ ≡ false
 
-abbrev four : Bool → Bool → Bool → Bool → List Test → List Test
-four q₁ q₂ q₃ q₆ rest = (1, q₁) ∷ (2, q₂) ∷ (3, q₃) ∷ (6, q₆) ∷ rest
-
 none-of : (q₁ q₂ q₃ q₆ : Bool) (rest : List Test) → All Numbered rest → or-zero (first-of (four q₁ q₂ q₃ q₆ rest)) ≡ 0 → Four q₁ q₂ q₃ q₆
 none-of true q₂ q₃ q₆ rest p e = absurd (omega (arith, e))
 none-of false true q₃ q₆ rest p e = absurd (omega (arith, e))
@@ -180,74 +186,73 @@ first-four false false false false rest r e n = absurd (n e)
 after-four : (q₁ q₂ q₃ q₆ : Bool) (rest : List Test) (r : ℕ) → 0 ≡ or-zero (first-of (four q₁ q₂ q₃ q₆ [])) → r ≡ or-zero (first-of rest) → r ≡ or-zero (first-of (four q₁ q₂ q₃ q₆ rest))
 after-four q₁ q₂ q₃ q₆ rest r e h = let f = none-of q₁ q₂ q₃ q₆ [] tt (sym e) in rw (f .one, f .two, f .three, f .six) h
 
-module _ {index : Index} {vectors targets edges versions : ℕ} {marks : List ℕ} {pool : ℕ} {wrong : Bool} {r₁ : ℕ} (d : Decided index vectors targets edges versions marks pool wrong [] r₁) where
-  pub decided-before : (rest : List Test) → (r₁ ≡ 0 → ⊥) → Decided index vectors targets edges versions marks pool wrong rest r₁
-  unfolding index-tests store-view state-of
-  decided-before rest n = record { does = λ vs ts es ns ps. first-four (bad₁ index) (bad₂ index) (bad₃ index (lengths vectors targets edges versions (length marks) pool) || wrong) (bad₆ index marks (index .capacity)) rest r₁ (d .does vs ts es ns ps) n }
+module _ {index : Index} {lent : Lengths} {marks : List ℕ} {wrong : Bool} {r₁ : ℕ} (d : Decided index lent marks wrong [] r₁) where
+  pub decided-before : (rest : List Test) → (r₁ ≡ 0 → ⊥) → Decided index lent marks wrong rest r₁
+  unfolding index-tests shown stored store-ops store-view state-of
+  decided-before rest n =
+      record { does = λ s e h. first-four (bad₁ index) (bad₂ index) (bad₃ index lent || wrong) (bad₆ index (s .marks) (index .capacity)) rest r₁ (d .does s e h) n }
 
-  pub decided-after : (rest : List Test) (r : ℕ) → r₁ ≡ 0 → r ≡ or-zero (first-of rest) → Decided index vectors targets edges versions marks pool wrong rest r
-  unfolding index-tests store-view state-of
-  decided-after rest r z h = record { does = λ vs ts es ns ps. after-four (bad₁ index) (bad₂ index) (bad₃ index (lengths vectors targets edges versions (length marks) pool) || wrong) (bad₆ index marks (index .capacity)) rest r (sym z ∙ d .does vs ts es ns ps) h }
+  pub decided-after : (rest : List Test) (r : ℕ) → r₁ ≡ 0 → r ≡ or-zero (first-of rest) → Decided index lent marks wrong rest r
+  unfolding index-tests shown stored store-ops store-view state-of
+  decided-after rest r z k =
+      record { does = λ s e h. after-four (bad₁ index) (bad₂ index) (bad₃ index lent || wrong) (bad₆ index (s .marks) (index .capacity)) rest r (sym z ∙ d .does s e h) k }
 
-module _ (index : Index) (vectors targets edges versions marks pool : List ℕ) {wrong : Bool} {rest : List Test} {r : ℕ} (p : All Numbered rest)
-    (d : Decided index (length vectors) (length targets) (length edges) (length versions) marks (length pool) wrong rest r) where
-  abbrev lent : Lengths
-  lent = lengths (length vectors) (length targets) (length edges) (length versions) (length marks) (length pool)
+module _ (index : Index) (s : Slices) {wrong : Bool} {rest : List Test} {r : ℕ} (p : All Numbered rest) (d : Decided index (lengths-of s) (s .marks) wrong rest r) where
+  abbrev shared : List Test
+  shared = four (bad₁ index) (bad₂ index) (bad₃ index (lengths-of s) || wrong) (bad₆ index (s .marks) (index .capacity)) rest
 
-  found : r ≡ or-zero (first-of (four (bad₁ index) (bad₂ index) (bad₃ index lent || wrong) (bad₆ index marks (index .capacity)) rest))
-  unfolding index-tests store-view state-of
-  found = d .does vectors targets edges versions pool
+  found : r ≡ or-zero (first-of shared)
+  unfolding index-tests shown stored store-ops store-view state-of
+  found = d .does s refl refl
 
-  none-found : r ≡ 0 → Four (bad₁ index) (bad₂ index) (bad₃ index lent || wrong) (bad₆ index marks (index .capacity))
+  none-found : r ≡ 0 → Four (bad₁ index) (bad₂ index) (bad₃ index (lengths-of s) || wrong) (bad₆ index (s .marks) (index .capacity))
   none-found z = none-of _ _ _ _ rest p (sym found ∙ z)
 
   -- a number that is not 0 is the number given
-  pub turned-back : (r ≡ 0 → ⊥)
-      → let w = state-of index vectors targets edges versions marks pool in first-of (index-tests size-answer (lengths-of w) (view-of stored w) (w .live) (w .guard) wrong rest) ≡ some r
-  unfolding index-tests stored store-ops store-view lengths-of state-of
+  pub turned-back : (r ≡ 0 → ⊥) → first-of (index-tests limits (lengths-of s) (shown stored (state-of index s)) wrong rest) ≡ some r
+  unfolding index-tests shown stored store-ops store-view state-of
   turned-back n = first-number _ r found n
 
   -- 0 is none
-  pub let-through : r ≡ 0
-      → let w = state-of index vectors targets edges versions marks pool in first-of (index-tests size-answer (lengths-of w) (view-of stored w) (w .live) (w .guard) wrong rest) ≡ none
-  unfolding index-tests stored store-ops store-view lengths-of state-of
-  let-through z = no-number (four (bad₁ index) (bad₂ index) (bad₃ index lent || wrong) (bad₆ index marks (index .capacity)) rest) (omega arith, (omega arith, (omega arith, (omega arith, p)))) (sym found ∙ z)
+  pub let-through : r ≡ 0 → first-of (index-tests limits (lengths-of s) (shown stored (state-of index s)) wrong rest) ≡ none
+  unfolding index-tests shown stored store-ops store-view state-of
+  let-through z = no-number shared (omega arith, (omega arith, (omega arith, (omega arith, p)))) (sym found ∙ z)
 
   -- nor does a test of the call's own hold
   pub own-none : r ≡ 0 → first-of rest ≡ none
   own-none z = let f = none-found z in no-number rest p (rw (f .one, f .two, f .three, f .six) at (sym found ∙ z))
 
   pub not-wrong : r ≡ 0 → wrong ≡ false
-  not-wrong z = or-neither (bad₃ index lent) wrong (none-found z .three) .1
+  not-wrong z = or-neither (bad₃ index (lengths-of s)) wrong (none-found z .three) .1
 
   -- and says all that a call may rest on
-  pub passed : r ≡ 0 → Passed index vectors targets edges versions marks pool
+  pub passed : r ≡ 0 → Passed index s
   unfolding exact store-view state-of
   passed z =
       let f = none-found z in
       let m = sizes-of index in
       let sized = not-false (sizes-ok limits m) (f .one) in
-      let s = ranges m sized in
-      let l = passed-lengths m lent (not-false (lengths-ok limits m lent) (or-neither (bad₃ index lent) wrong (f .three) .0)) in
-      let e = eqb (index .live) (length (filter (is-valid marks) (range 0 (index .capacity)))) in
+      let b = ranges m sized in
+      let l = passed-lengths m (lengths-of s) (not-false (lengths-ok limits m (lengths-of s)) (or-neither (bad₃ index (lengths-of s)) wrong (f .three) .0)) in
+      let e = eqb (index .live) (length (filter (is-valid (s .marks)) (range 0 (index .capacity)))) in
       let i = ltb (index .entry) (index .capacity) in
-      let o = or-neither (not e || not i) (guard-fault (guard-of (index .guard))) (f .six) in
+      let o = or-neither (not e || not i) (guard-fault limits (guard-of (index .guard))) (f .six) in
       let p = or-neither (not e) (not i) (o .0) in
       record {
         shaped = record {
           vectors-long = ap (λ x. x .vectors) l;
           targets-long = ap (λ x. x .targets) l;
-          edges-long = ap (λ x. x .edge-versions) l;
+          edges-long = ap (λ x. x .edges) l;
           versions-long = ap (λ x. x .versions) l;
           marks-long = ap (λ x. x .marks) l;
         };
         pool-long = ap (λ x. x .pool) l;
-        dim-low = s .dim-low;
-        dim-high = s .dim-high;
-        capacity-low = s .capacity-low;
-        capacity-high = s .capacity-high;
-        degree-low = s .degree-low;
-        degree-high = s .degree-high;
+        dim-low = b .dim-low;
+        dim-high = b .dim-high;
+        capacity-low = b .capacity-low;
+        capacity-high = b .capacity-high;
+        degree-low = b .degree-low;
+        degree-high = b .degree-high;
         sizes-right = sized;
         alpha-right = not-false (alpha-ok (index .alpha)) (f .two);
         entry-inside = ltb-true (index .entry) (index .capacity) (not-false i (p .1));
@@ -256,22 +261,26 @@ module _ (index : Index) (vectors targets edges versions marks pool : List ℕ) 
       }
 
 -- what the functions on rows and on vectors ask
-pub passed-rows : {index : Index} {vectors targets edges versions marks pool : List ℕ} → Passed index vectors targets edges versions marks pool
-    → RowShape (index .degree) targets edges versions marks
-passed-rows {index} {vectors} {targets} {edges} {versions} {marks} p =
-    rows-shaped (index .capacity) (arrays (index .dim) (index .degree) vectors targets edges versions marks) (p .shaped) (p .capacity-high)
+module _ {index : Index} {s : Slices} (p : Passed index s) where
+  pub passed-rows : RowShape (index .degree) (s .targets) (s .edges) (s .versions) (s .marks)
+  unfolding state-of
+  passed-rows = rows-shaped (index .capacity) (state-of index s .graph .arrays) (p .shaped) (p .capacity-high)
 
-pub passed-bytes : {index : Index} {vectors targets edges versions marks pool : List ℕ} → Passed index vectors targets edges versions marks pool
-    → Bytes (index .dim) (length marks) vectors
-passed-bytes p = record { long = rw (p .shaped .marks-long) (p .shaped .vectors-long); small = p .dim-high }
+  pub passed-marks : length (s .marks) ≡ index .capacity
+  unfolding state-of
+  passed-marks = p .shaped .marks-long
+
+  pub passed-bytes : Bytes (index .dim) (length (s .marks)) (s .vectors)
+  unfolding state-of
+  passed-bytes = record { long = rw (p .shaped .marks-long) (p .shaped .vectors-long); small = p .dim-high }
 
 -- ---- one call, turned back or not
 
 module _ (w : State Store) (c : Call) where
-  pub step-back : (n : ℕ) → first-of (tests size-answer (c .lent) (view-of stored w) (w .live) (w .guard) (c .operation)) ≡ some n → step size-answer stored w c ≡ (w, refused-as n (c .operation))
+  pub step-back : (n : ℕ) → first-of (tests limits (c .lent) (shown stored w) (c .operation)) ≡ some n → step stored w c ≡ (w, refused-as n (c .operation))
   unfolding step refusal settle
-  step-back n e = ap (settle size-answer stored w c) e
+  step-back n e = ap (settle stored w c) e
 
-  pub step-on : first-of (tests size-answer (c .lent) (view-of stored w) (w .live) (w .guard) (c .operation)) ≡ none → step size-answer stored w c ≡ perform stored w (c .operation)
+  pub step-on : first-of (tests limits (c .lent) (shown stored w) (c .operation)) ≡ none → step stored w c ≡ perform stored w (c .operation)
   unfolding step refusal settle
-  step-on e = ap (settle size-answer stored w c) e
+  step-on e = ap (settle stored w c) e

@@ -21,11 +21,11 @@ use Rattle.index.specs.declared.Index.{Index}
 use Rattle.index.specs.declared.Guard.the-variants.{Off}
 use Rattle.index.specs.declared.Created.{Created}
 use Rattle.index.specs.declared.Created.the-variants.{Refused, Done}
-use Rattle.slots.specs.Sizes.{limits, sizes-ok, alpha-ok, lengths-ok}
+use Rattle.slots.specs.Sizes.{Slices, Lengths, lengths-of, limits, sizes-ok, alpha-ok, lengths-ok}
 use Rattle.calls.specs.Calls.{Making}
 use Rattle.calls.specs.Refusals.{first-of, or-zero, names-given, entry-given, making-tests}
-use Rattle.index.specs.Index.{sizes, lengths, guard-of, state-of}
-use Rattle.calls.specs.Step.{stored, with-graph, made}
+use Rattle.calls.specs.State.{stored, made}
+use Rattle.index.specs.Index.{sizes, guard-of, state-of}
 use Rattle.index.specs.Create.{making, fresh-index, making-of, Judged, Creates}
 use Rattle.index.proofs.Decide.{first-number}
 use Rattle.calls.proofs.Tests.{exact, none-judged, lengths-made, accepted}
@@ -68,38 +68,38 @@ entry-left {entry} {count} h z = rw (le-ltb entry count h, ne-eqb count 0 z)
 
 -- ---- the tests, one after the other
 
-module _ {m : Making} {vectors targets edges versions marks pool : ℕ} {r₁ : Bool}
+module _ {m : Making} {lent : Lengths} {r₁ : Bool}
     (sized : (alpha : Float) → r₁ ≡ not (sizes-ok limits (sizes (m .sizes .dim) (m .sizes .capacity) (m .sizes .degree) alpha))) where
-  pub judged-sizes : r₁ ≡ true → Judged m vectors targets edges versions marks pool 1
+  pub judged-sizes : r₁ ≡ true → Judged m lent 1
   unfolding making-tests
   judged-sizes t₁ = record { does = rw (sym (sized (m .sizes .alpha)) ∙ t₁) }
 
   module _ {r₂ : Bool} (t₁ : r₁ ≡ false) (grown : r₂ ≡ not (alpha-ok (m .sizes .alpha))) where
-    pub judged-alpha : r₂ ≡ true → Judged m vectors targets edges versions marks pool 2
+    pub judged-alpha : r₂ ≡ true → Judged m lent 2
     unfolding making-tests
     judged-alpha t₂ = record { does = rw (sym (sized (m .sizes .alpha)) ∙ t₁, sym grown ∙ t₂) }
 
     module _ {r₃ : Bool} (t₂ : r₂ ≡ false)
-        (long : (alpha : Float) → r₃ ≡ not (lengths-ok limits (sizes (m .sizes .dim) (m .sizes .capacity) (m .sizes .degree) alpha) (lengths vectors targets edges versions marks pool))) where
-      pub judged-lengths : r₃ ≡ true → Judged m vectors targets edges versions marks pool 3
+        (long : (alpha : Float) → r₃ ≡ not (lengths-ok limits (sizes (m .sizes .dim) (m .sizes .capacity) (m .sizes .degree) alpha) lent)) where
+      pub judged-lengths : r₃ ≡ true → Judged m lent 3
       unfolding making-tests
       judged-lengths t₃ =
-          let q = lengths-ok limits (m .sizes) (lengths vectors targets edges versions marks pool) in
+          let q = lengths-ok limits (m .sizes) lent in
           record { does = rw (sym (sized (m .sizes .alpha)) ∙ t₁, sym grown ∙ t₂, not-true q (sym (long (m .sizes .alpha)) ∙ t₃)) }
 
       module _ {r₄ : Bool} (t₃ : r₃ ≡ false) (given : r₄ ≡ not (eqb (length (m .vectors)) (m .given * m .sizes .dim) && eqb (length (m .rows)) (m .given * m .sizes .degree))) where
-        pub judged-given : r₄ ≡ true → Judged m vectors targets edges versions marks pool 3
+        pub judged-given : r₄ ≡ true → Judged m lent 3
         unfolding making-tests
         judged-given t₄ =
-            let q = lengths-ok limits (m .sizes) (lengths vectors targets edges versions marks pool) in
+            let q = lengths-ok limits (m .sizes) lent in
             record { does = rw (sym (sized (m .sizes .alpha)) ∙ t₁, sym grown ∙ t₂, not-false q (sym (long (m .sizes .alpha)) ∙ t₃), sym given ∙ t₄) }
 
         pub judged-rest : {r : ℕ} → r₄ ≡ false
             → r ≡ or-zero (first-of ((4, ltb (m .sizes .capacity) (m .given)) ∷ (5, not (names-given (m .given) (m .rows) && entry-given (m .given) (m .entry))) ∷ []))
-            → Judged m vectors targets edges versions marks pool r
+            → Judged m lent r
         unfolding making-tests
         judged-rest t₄ e =
-            let q = lengths-ok limits (m .sizes) (lengths vectors targets edges versions marks pool) in
+            let q = lengths-ok limits (m .sizes) lent in
             record { does = rw (sym (sized (m .sizes .alpha)) ∙ t₁, sym grown ∙ t₂, not-false q (sym (long (m .sizes .alpha)) ∙ t₃), sym given ∙ t₄) e }
 
 -- ---- the live slots of a new index are those given
@@ -126,39 +126,31 @@ live-given m ok =
     ∙ omega (arith, all-below (m .given) 0 (m .sizes .capacity) (omega arith) (omega (arith, ok .room)))
 
 -- what is written, with the new index by value, is what making makes
-made-new : {index : Index} {bytes rows vectors targets edges versions marks pool : List ℕ} → index .guard ≡ Off
+made-new : {index : Index} {bytes rows : List ℕ} {s : Slices} → index .guard ≡ Off
     → Accepted (sizes (index .dim) (index .capacity) (index .degree) (index .alpha)) (index .live) bytes rows (index .entry)
-    → New (index .dim) (index .capacity) (index .degree) (index .live) bytes rows vectors targets edges versions marks pool
-    → state-of index vectors targets edges versions marks pool ≡ made stored (making-of index bytes rows)
-unfolding state-of made with-graph stored store-ops guard-of
+    → New (index .dim) (index .capacity) (index .degree) (index .live) bytes rows (s .vectors) (s .targets) (s .edges) (s .versions) (s .marks) (s .pool)
+    → state-of index s ≡ made stored (making-of index bytes rows)
+unfolding state-of made stored store-ops guard-of
 made-new {index} {bytes} {rows} g ok w = λ i. record {
   graph = record { arrays = w .does (index .alpha) i; capacity = index .capacity; alpha = index .alpha; entry = index .entry };
   live = sym (live-given (making-of index bytes rows) ok) i;
   guard = ap guard-of g i;
-  words = w .pool-empty i;
+  pool = w .pool-empty i;
 }
 
 -- ---- what the number says
 
-module _ {m : Making} {vectors targets edges versions marks pool : List ℕ} {r : ℕ}
-    (j : Judged m (length vectors) (length targets) (length edges) (length versions) (length marks) (length pool) r) where
+module _ {m : Making} (s : Slices) {r : ℕ} (j : Judged m (lengths-of s) r) where
   -- a making that is turned back
-  pub creates-back : (r ≡ 0 → ⊥) → Creates m vectors targets edges versions marks pool vectors targets edges versions marks pool (Refused r)
+  pub creates-back : (r ≡ 0 → ⊥) → Creates m s s (Refused r)
   creates-back n = record {
-    back = λ k e. record {
-      number = first-number _ r (j .does) n ∙ ap some (let q : r ≡ k = cc in q);
-      vectors-kept = refl;
-      targets-kept = refl;
-      edges-kept = refl;
-      versions-kept = refl;
-      marks-kept = refl;
-      pool-kept = refl;
-    };
+    back = λ k e. record { number = first-number _ r (j .does) n ∙ ap some (let q : r ≡ k = cc in q); kept = refl };
     done = λ i e. absurd (let z : _≡_ {A = ℕ} 0 1 = cc in omega arith);
   }
 
   -- one that is not has the room for what it writes
-  pub creates-room : r ≡ 0 → Room (m .sizes .dim) (m .sizes .capacity) (m .sizes .degree) (m .given) (m .vectors) (m .rows) vectors targets edges versions marks pool
+  pub creates-room : r ≡ 0
+      → Room (m .sizes .dim) (m .sizes .capacity) (m .sizes .degree) (m .given) (m .vectors) (m .rows) (s .vectors) (s .targets) (s .edges) (s .versions) (s .marks) (s .pool)
   unfolding exact
   creates-room z =
       let h = none-judged _ m (sym (j .does) ∙ z) in
@@ -170,26 +162,24 @@ module _ {m : Making} {vectors targets edges versions marks pool : List ℕ} {r 
         rows-long = ok .rows-long;
         vectors-long = ap (λ x. x .vectors) l;
         targets-long = ap (λ x. x .targets) l;
-        edges-long = ap (λ x. x .edge-versions) l;
+        edges-long = ap (λ x. x .edges) l;
         versions-long = ap (λ x. x .versions) l;
         marks-long = ap (λ x. x .marks) l;
         pool-long = ap (λ x. x .pool) l;
       }
 
 -- and what it writes is the new index
-pub creates-done : {index : Index} {bytes rows vectors targets edges versions marks pool vectors′ targets′ edges′ versions′ marks′ pool′ : List ℕ} {r : ℕ} {v : Created}
-    → Judged (making-of index bytes rows) (length vectors) (length targets) (length edges) (length versions) (length marks) (length pool) r → r ≡ 0 → index .guard ≡ Off
-    → (v ≡ Done index) × New (index .dim) (index .capacity) (index .degree) (index .live) bytes rows vectors′ targets′ edges′ versions′ marks′ pool′
-    → Creates (making-of index bytes rows) vectors targets edges versions marks pool vectors′ targets′ edges′ versions′ marks′ pool′ v
-creates-done {index} {bytes} {rows} {vectors′ = vectors′} {targets′ = targets′} {edges′ = edges′} {versions′ = versions′} {marks′ = marks′} {pool′ = pool′} j z g w =
+pub creates-done : {index : Index} {bytes rows : List ℕ} (before after : Slices) {r : ℕ} {v : Created}
+    → Judged (making-of index bytes rows) (lengths-of before) r → r ≡ 0 → index .guard ≡ Off
+    → (v ≡ Done index) × New (index .dim) (index .capacity) (index .degree) (index .live) bytes rows (after .vectors) (after .targets) (after .edges) (after .versions) (after .marks) (after .pool)
+    → Creates (making-of index bytes rows) before after v
+creates-done {index} {bytes} {rows} before after j z g w =
     let m = making-of index bytes rows in
     let h = none-judged _ m (sym (j .does) ∙ z) in
     let e = w .0 in
     record {
       back = λ n q. absurd (let z : _≡_ {A = ℕ} 0 1 = cc in omega arith);
-      done = λ i q.
-          let k : i ≡ index = cc in
-          record { accepted = h; new = ap (λ k. state-of k vectors′ targets′ edges′ versions′ marks′ pool′) k ∙ made-new g (accepted _ m h) (w .1) };
+      done = λ i q. let k : i ≡ index = cc in record { accepted = h; new = ap (λ k. state-of k after) k ∙ made-new g (accepted _ m h) (w .1) };
     }
 
 -- the new index by value
@@ -197,8 +187,6 @@ module _ {dim capacity degree : ℕ} {alpha : Float} {entry count : ℕ} {index 
   pub fresh-off : index .guard ≡ Off
   fresh-off = ap (λ i. i .guard) e
 
-  pub creates-fresh : {bytes rows vectors targets edges versions marks pool vectors′ targets′ edges′ versions′ marks′ pool′ : List ℕ} {v : Created}
-      → Creates (making-of index bytes rows) vectors targets edges versions marks pool vectors′ targets′ edges′ versions′ marks′ pool′ v
-      → Creates (making dim capacity degree alpha entry count bytes rows) vectors targets edges versions marks pool vectors′ targets′ edges′ versions′ marks′ pool′ v
-  creates-fresh {bytes} {rows} {vectors} {targets} {edges} {versions} {marks} {pool} {vectors′} {targets′} {edges′} {versions′} {marks′} {pool′} {v} c =
-      subst (λ i. Creates (making-of i bytes rows) vectors targets edges versions marks pool vectors′ targets′ edges′ versions′ marks′ pool′ v) e c
+  pub creates-fresh : {bytes rows : List ℕ} {before after : Slices} {v : Created}
+      → Creates (making-of index bytes rows) before after v → Creates (making dim capacity degree alpha entry count bytes rows) before after v
+  creates-fresh {bytes} {rows} {before} {after} {v} c = subst (λ i. Creates (making-of i bytes rows) before after v) e c

@@ -1,11 +1,10 @@
 -- What a call of `create` leaves and answers. Assumes nothing.
 use Prim.Native.Nat.{ℕ}
-use mathlib.Core.List.{List}
+use mathlib.Core.List.{List, []}
 use mathlib.Core.Option.{none, some}
 use mathlib.Core.Path.{_≡_}
 use lib.Ieee.{Float}
-use lib.ListN.{length}
-use Rattle.slots.specs.Sizes.{Lengths}
+use Rattle.slots.specs.Sizes.{Slices, Lengths, lengths-of, limits}
 use Rattle.slots.specs.Store.{Store}
 use Rattle.slots.specs.Rows.{arrays}
 use Rattle.index.specs.declared.Index.{Index}
@@ -14,10 +13,10 @@ use Rattle.index.specs.declared.Created.{Created}
 use Rattle.index.specs.declared.Created.the-variants.{Refused, Done}
 use Rattle.calls.specs.Calls.{Making, Answer, create, refused, created}
 use Rattle.calls.specs.Refusals.{first-of, or-zero, making-tests}
-use Rattle.calls.specs.Step.{State, stored, made}
+use Rattle.calls.specs.State.{State, stored, made}
 use Rattle.calls.specs.Outputs.{no-outputs}
 use Rattle.calls.specs.Runs.{Run}
-use Rattle.index.specs.Index.{sizes, lengths, state-of}
+use Rattle.index.specs.Index.{sizes, state-of}
 
 -- what making is given, one by one
 abbrev pub making : ℕ → ℕ → ℕ → Float → ℕ → ℕ → List ℕ → List ℕ → Making
@@ -34,28 +33,20 @@ abbrev pub making-of : Index → List ℕ → List ℕ → Making
 making-of i bytes rows = making (i .dim) (i .capacity) (i .degree) (i .alpha) (i .entry) (i .live) bytes rows
 
 -- r is the number of the first of making's tests that holds, 0 if none does
-pub record Judged (m : Making) (vectors targets edges versions marks pool : ℕ) (r : ℕ) : Type 0 where
-  pub does : r ≡ or-zero (first-of (making-tests (lengths vectors targets edges versions marks pool) m))
+pub record Judged (m : Making) (lent : Lengths) (r : ℕ) : Type 0 where
+  pub does : r ≡ or-zero (first-of (making-tests limits lent m))
 
--- the slices as they are lent, and, each with a prime, as they are left
-module _ (m : Making) (vectors targets edges versions marks pool vectors′ targets′ edges′ versions′ marks′ pool′ : List ℕ) where
-  abbrev lent : Lengths
-  lent = lengths (length vectors) (length targets) (length edges) (length versions) (length marks) (length pool)
-
+-- the slices as they are lent, and as they are left
+module _ (m : Making) (before after : Slices) where
   -- a making that is turned back: its number, and slices as they were
   pub record Turned-back (n : ℕ) : Type 0 where
-    pub number : first-of (making-tests lent m) ≡ some n
-    pub vectors-kept : vectors′ ≡ vectors
-    pub targets-kept : targets′ ≡ targets
-    pub edges-kept : edges′ ≡ edges
-    pub versions-kept : versions′ ≡ versions
-    pub marks-kept : marks′ ≡ marks
-    pub pool-kept : pool′ ≡ pool
+    pub number : first-of (making-tests limits (lengths-of before) m) ≡ some n
+    pub kept : after ≡ before
 
   -- one that is carried out: the new index with its slices is what making makes
   pub record Carried-out (i : Index) : Type 0 where
-    pub accepted : first-of (making-tests lent m) ≡ none
-    pub new : state-of i vectors′ targets′ edges′ versions′ marks′ pool′ ≡ made stored m
+    pub accepted : first-of (making-tests limits (lengths-of before) m) ≡ none
+    pub new : state-of i after ≡ made stored m
 
   -- what `create` promises: that this is what `step` gives, whatever index the app had before, is `create-meets`
   pub record Creates (r : Created) : Type 0 where
@@ -64,14 +55,19 @@ module _ (m : Making) (vectors targets edges versions marks pool vectors′ targ
 
 -- ---- a run of `create`, whatever index the app had before
 
-abbrev pub with-slices : State Store → List ℕ → List ℕ → List ℕ → List ℕ → List ℕ → List ℕ → State Store
-with-slices w vectors targets edges versions marks pool =
+abbrev pub with-slices : State Store → Slices → State Store
+with-slices w s =
     let b = w .graph in
     record {
-      graph = record { arrays = arrays (b .arrays .dim) (b .arrays .degree) vectors targets edges versions marks; capacity = b .capacity; alpha = b .alpha; entry = b .entry };
+      graph = record {
+        arrays = arrays (b .arrays .dim) (b .arrays .degree) (s .vectors) (s .targets) (s .edges) (s .versions) (s .marks);
+        capacity = b .capacity;
+        alpha = b .alpha;
+        entry = b .entry;
+      };
       live = w .live;
       guard = w .guard;
-      words = pool;
+      pool = s .pool;
     }
 
 unfoldable pub created-as : Created → Answer
@@ -79,20 +75,20 @@ created-as (Refused n) = refused n
 created-as (Done i) = created
 
 -- the index that the app has: the one that it had, or the new one
-unfoldable pub left-by : Created → State Store → List ℕ → List ℕ → List ℕ → List ℕ → List ℕ → List ℕ → State Store
-left-by (Refused n) w vectors targets edges versions marks pool = with-slices w vectors targets edges versions marks pool
-left-by (Done i) w vectors targets edges versions marks pool = state-of i vectors targets edges versions marks pool
+unfoldable pub left-by : Created → State Store → Slices → State Store
+left-by (Refused n) w s = with-slices w s
+left-by (Done i) w s = state-of i s
 
 -- `create` takes neither outputs nor scratch
-abbrev pub create-run : Making → State Store → List ℕ → List ℕ → List ℕ → List ℕ → List ℕ → List ℕ → List ℕ → List ℕ → List ℕ → List ℕ → List ℕ → List ℕ → Created → List ℕ → Run
-create-run m w vectors targets edges versions marks pool vectors′ targets′ edges′ versions′ marks′ pool′ r scratch =
+abbrev pub create-run : Making → State Store → Slices → Slices → Created → Run
+create-run m w before after r =
     record {
       operation = create m;
-      before = with-slices w vectors targets edges versions marks pool;
-      after = left-by r w vectors′ targets′ edges′ versions′ marks′ pool′;
+      before = with-slices w before;
+      after = left-by r w after;
       answer = created-as r;
       outputs-before = no-outputs;
       outputs-after = no-outputs;
-      scratch-before = scratch;
-      scratch-after = scratch;
+      scratch-before = [];
+      scratch-after = [];
     }

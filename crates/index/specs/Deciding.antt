@@ -4,32 +4,30 @@ use mathlib.Core.Bool.{Bool, true, false}
 use mathlib.Core.List.{List}
 use mathlib.Core.Path.{_≡_}
 use lib.ListN.{length}
-use Rattle.slots.specs.Sizes.{limits, sizes-ok, alpha-ok}
+use Rattle.slots.specs.Sizes.{Slices, Lengths, lengths-of, limits, sizes-ok, alpha-ok}
 use Rattle.slots.specs.View.{live-slots}
 use Rattle.slots.specs.Store.{Shaped, store-view}
-use Rattle.slots.specs.Rows.{arrays}
 use Rattle.index.specs.declared.Index.{Index}
 use Rattle.calls.specs.Refusals.{Test, first-of, or-zero, index-tests, guard-fault}
-use Rattle.index.specs.Index.{size-answer, lengths, guard-of, state-of}
+use Rattle.calls.specs.State.{stored, shown}
+use Rattle.index.specs.Index.{sizes-of, guard-of, state-of}
 
 -- r is the number of the first test that holds, of the shared ones and then of a call's own, 0 if none does; of five slices the lengths alone count
-pub record Decided (index : Index) (vectors targets edges versions : ℕ) (marks : List ℕ) (pool : ℕ) (wrong : Bool) (rest : List Test) (r : ℕ) : Type 0 where
-  pub does : (vs ts es ns ps : List ℕ)
-      → r ≡ or-zero (first-of (index-tests size-answer (lengths vectors targets edges versions (length marks) pool)
-      (store-view (state-of index vs ts es ns marks ps .graph)) (index .live) (guard-of (index .guard)) wrong rest))
+pub record Decided (index : Index) (lent : Lengths) (marks : List ℕ) (wrong : Bool) (rest : List Test) (r : ℕ) : Type 0 where
+  pub does : (s : Slices) → lengths-of s ≡ lent → s .marks ≡ marks → r ≡ or-zero (first-of (index-tests limits lent (shown stored (state-of index s)) wrong rest))
 
 -- an index and six slices of which no shared test holds
-pub record Passed (index : Index) (vectors targets edges versions marks pool : List ℕ) : Type 0 where
-  pub shaped : Shaped (index .capacity) (arrays (index .dim) (index .degree) vectors targets edges versions marks)
-  pub pool-long : length pool ≡ limits .pool
+pub record Passed (index : Index) (s : Slices) : Type 0 where
+  pub shaped : Shaped (index .capacity) (state-of index s .graph .arrays)
+  pub pool-long : length (s .pool) ≡ limits .pool
   pub dim-low : 1 ≤ index .dim
   pub dim-high : index .dim ≤ 256
   pub capacity-low : 1 ≤ index .capacity
   pub capacity-high : index .capacity ≤ 65536
   pub degree-low : 1 ≤ index .degree
   pub degree-high : index .degree ≤ 64
-  pub sizes-right : sizes-ok limits (store-view (state-of index vectors targets edges versions marks pool .graph) .sizes) ≡ true
+  pub sizes-right : sizes-ok limits (sizes-of index) ≡ true
   pub alpha-right : alpha-ok (index .alpha) ≡ true
   pub entry-inside : index .entry < index .capacity
-  pub live-right : index .live ≡ length (live-slots (store-view (state-of index vectors targets edges versions marks pool .graph)))
-  pub guard-right : guard-fault (guard-of (index .guard)) ≡ false
+  pub live-right : index .live ≡ length (live-slots (store-view (state-of index s .graph)))
+  pub guard-right : guard-fault limits (guard-of (index .guard)) ≡ false

@@ -1,5 +1,4 @@
 pub mod Index
+pub mod Run
 pub mod Deciding
 pub mod Create
-pub mod Read
-pub mod Search

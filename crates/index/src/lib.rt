@@ -1,14 +1,9 @@
-// The calls of the library, on an index by value and the six slices that are lent beside it.
+// An index by value and the six slices that are lent beside it: making one, and the tests that all calls share.
 mod making;
-mod readings;
-mod refusals;
-mod searching;
+pub mod refusals;
 
 pub use making::create;
-pub use readings::read;
-pub use readings::read_vector;
 pub use refusals::scratch_words;
-pub use searching::search;
 
 // The settings of a guard that is on, and the length of its landmark pool.
 pub struct Settings {
@@ -35,8 +30,18 @@ pub struct Index {
     pub guard: Guard,
 }
 
+// The lengths of the six slices.
+pub struct Lengths {
+    pub vectors: usize,
+    pub targets: usize,
+    pub edges: usize,
+    pub versions: usize,
+    pub marks: usize,
+    pub pool: usize,
+}
+
 // The size answer, or the number of a refusal.
-pub enum Words {
+pub enum ScratchWords {
     Refused(u32),
     Words(u32),
 }
@@ -45,32 +50,4 @@ pub enum Words {
 pub enum Created {
     Refused(u32),
     Done(Index),
-}
-
-// What can be read of an index as one number.
-pub enum Reading {
-    Dim,
-    Capacity,
-    Degree,
-    Alpha,
-    Entry,
-    Live,
-    Mark(u32),
-    Version(u32),
-    // A slot, and a place among the live targets of its row.
-    Target(u32, u32),
-}
-
-// What was read, or the number of a refusal.
-pub enum Value {
-    Refused(u32),
-    Number(u32),
-    Alpha(f32),
-    Version(u16),
-}
-
-// How many were found, or the number of a refusal.
-pub enum Found {
-    Refused(u32),
-    Found(u32),
 }

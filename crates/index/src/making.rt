@@ -2,6 +2,7 @@
 use super::Created;
 use super::Guard;
 use super::Index;
+use super::Lengths;
 use super::refusals::alpha_bad;
 use super::refusals::lengths_bad;
 use super::refusals::product;
@@ -13,10 +14,12 @@ ghost use mathlib.Core.Path.{_≡_};
 ghost use Prim.Native.Nat.{_*_};
 ghost use lib.Dec.{eqb, ltb};
 ghost use lib.ListN.{length};
+ghost use Rattle.slots.specs.Sizes.{slices};
 ghost use Rattle.slots.specs.Making.{Room, New};
 ghost use Rattle.index.specs.declared.Guard.the-variants.{Off};
 ghost use Rattle.index.specs.declared.Created.the-variants.{Done};
 ghost use Rattle.calls.specs.Refusals.{first-of, or-zero, names-given, entry-given};
+ghost use Rattle.index.specs.Index.{lengths-in};
 ghost use Rattle.index.specs.Create.{making, fresh-index, making-of, Judged, Creates};
 
 // Row 5, of the given rows: a word is neither blank nor a given slot.
@@ -77,18 +80,8 @@ fn given_refusal(capacity: u32, entry: u32, count: u32, rows: &[u32]) -> u32
 }
 
 // The first of rows 1 to 5 that turns a making back, else 0.
-fn making_refusal(
-    index: Index,
-    bytes: &[u8],
-    rows: &[u32],
-    vectors: usize,
-    targets: usize,
-    edges: usize,
-    versions: usize,
-    marks: usize,
-    pool: usize,
-) -> u32
-    ensures { λ r. ⌜ Judged (making-of index (now (bytes .entry)) (now (rows .entry))) vectors targets edges versions marks pool r ⌝ }
+fn making_refusal(index: Index, bytes: &[u8], rows: &[u32], lent: Lengths) -> u32
+    ensures { λ r. ⌜ Judged (making-of index (now (bytes .entry)) (now (rows .entry))) (lengths-in lent) r ⌝ }
 {
     if sizes_bad(index.dim, index.capacity, index.degree) {
         return 1;
@@ -96,17 +89,7 @@ fn making_refusal(
     if alpha_bad(index.alpha) {
         return 2;
     }
-    if lengths_bad(
-        index.dim,
-        index.capacity,
-        index.degree,
-        vectors,
-        targets,
-        edges,
-        versions,
-        marks,
-        pool,
-    ) {
+    if lengths_bad(index.dim, index.capacity, index.degree, lent) {
         return 3;
     }
     if given_bad(index.dim, index.degree, index.live, bytes.len(), rows.len()) {
@@ -179,19 +162,17 @@ fn make(
     pool: &mut [u32],
 ) -> Created
     requires { ⌜ index .guard ≡ Off ⌝ }
-    ensures { λ r. ⌜ Creates (making-of index (now (bytes .entry)) (now (rows .entry))) (now (vectors .entry)) (now (targets .entry)) (now (edges .entry)) (now (versions .entry)) (now (marks .entry)) (now (pool .entry)) (now (vectors .exit)) (now (targets .exit)) (now (edges .exit)) (now (versions .exit)) (now (marks .exit)) (now (pool .exit)) r ⌝ }
+    ensures { λ r. ⌜ Creates (making-of index (now (bytes .entry)) (now (rows .entry))) (slices (now (vectors .entry)) (now (targets .entry)) (now (edges .entry)) (now (versions .entry)) (now (marks .entry)) (now (pool .entry))) (slices (now (vectors .exit)) (now (targets .exit)) (now (edges .exit)) (now (versions .exit)) (now (marks .exit)) (now (pool .exit))) r ⌝ }
 {
-    let r = making_refusal(
-        index,
-        bytes,
-        rows,
-        vectors.len(),
-        targets.len(),
-        edges.len(),
-        versions.len(),
-        marks.len(),
-        pool.len(),
-    );
+    let lent = Lengths {
+        vectors: vectors.len(),
+        targets: targets.len(),
+        edges: edges.len(),
+        versions: versions.len(),
+        marks: marks.len(),
+        pool: pool.len(),
+    };
+    let r = making_refusal(index, bytes, rows, lent);
     if r != 0 {
         return Created::Refused(r);
     }
@@ -225,7 +206,7 @@ pub fn create(
     marks: &mut [u8],
     pool: &mut [u32],
 ) -> Created
-    ensures { λ r. ⌜ Creates (making dim capacity degree alpha entry count (now (bytes .entry)) (now (rows .entry))) (now (vectors .entry)) (now (targets .entry)) (now (edges .entry)) (now (versions .entry)) (now (marks .entry)) (now (pool .entry)) (now (vectors .exit)) (now (targets .exit)) (now (edges .exit)) (now (versions .exit)) (now (marks .exit)) (now (pool .exit)) r ⌝ }
+    ensures { λ r. ⌜ Creates (making dim capacity degree alpha entry count (now (bytes .entry)) (now (rows .entry))) (slices (now (vectors .entry)) (now (targets .entry)) (now (edges .entry)) (now (versions .entry)) (now (marks .entry)) (now (pool .entry))) (slices (now (vectors .exit)) (now (targets .exit)) (now (edges .exit)) (now (versions .exit)) (now (marks .exit)) (now (pool .exit))) r ⌝ }
 {
     let index = new_index(dim, capacity, degree, alpha, entry, count);
     make(

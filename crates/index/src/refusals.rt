@@ -1,12 +1,16 @@
 // The tests of document 01's table that calls share, and the size answer.
 use super::Guard;
 use super::Index;
-use super::Settings;
-use super::Words;
+use super::Lengths;
+use super::ScratchWords;
+use slots::limits;
+use slots::marks::wide;
+use slots::scratch::MARKS;
+use slots::scratch::WORK_WORDS;
 ghost use mathlib.Core.Bool.{not, _||_};
 ghost use mathlib.Core.List.{[]};
 ghost use mathlib.Core.Path.{_≡_};
-ghost use Prim.Native.Nat.{ℕ, _*_};
+ghost use Prim.Native.Nat.{_*_};
 ghost use lib.Ieee.{Float};
 ghost use lib.Dec.{eqb, ltb};
 ghost use lib.ListN.{length};
@@ -15,7 +19,8 @@ ghost use Rattle.slots.specs.Sizes.{limits, within, sizes-ok, alpha-ok, lengths
 ghost use Rattle.slots.specs.Store.{is-valid};
 ghost use Rattle.guard.specs.Guard.{config};
 ghost use Rattle.calls.specs.Refusals.{guard-fault, config-over, config-zero};
-ghost use Rattle.index.specs.Index.{size-answer, words-for, guard-of, sizes, lengths};
+ghost use Rattle.slots.specs.Scratch.{size-answer};
+ghost use Rattle.index.specs.Index.{words-for, guard-of, sizes, lengths-in};
 ghost use Rattle.index.specs.Deciding.{Decided};
 
 // Whether a number is outside a range that begins at 1.
@@ -32,13 +37,13 @@ fn outside(high: u32, n: u32) -> bool
 pub fn sizes_bad(dim: u32, capacity: u32, degree: u32) -> bool
     ensures { λ r. ⌜ ((alpha : Float) → r ≡ not (sizes-ok limits (sizes dim capacity degree alpha))) ⌝ }
 {
-    if outside(256, dim) {
+    if outside(limits::DIM, dim) {
         return true;
     }
-    if outside(65536, capacity) {
+    if outside(limits::CAPACITY, capacity) {
         return true;
     }
-    outside(64, degree)
+    outside(limits::DEGREE, degree)
 }
 
 // Row 2: alpha is outside 1.0 to 2.0, or no number.
@@ -57,57 +62,47 @@ pub fn alpha_bad(alpha: f32) -> bool
 pub fn product(a: u32, b: u32) -> usize
     ensures { λ r. ⌜ r ≡ a * b ⌝ }
 {
-    slots::marks::wide(a) * slots::marks::wide(b)
+    wide(a) * wide(b)
 }
 
 // Row 3, of the six slices of an index: one of them has another length.
-pub fn lengths_bad(
-    dim: u32,
-    capacity: u32,
-    degree: u32,
-    vectors: usize,
-    targets: usize,
-    edges: usize,
-    versions: usize,
-    marks: usize,
-    pool: usize,
-) -> bool
-    ensures { λ r. ⌜ ((alpha : Float) → r ≡ not (lengths-ok limits (sizes dim capacity degree alpha) (lengths vectors targets edges versions marks pool))) ⌝ }
+pub fn lengths_bad(dim: u32, capacity: u32, degree: u32, lent: Lengths) -> bool
+    ensures { λ r. ⌜ ((alpha : Float) → r ≡ not (lengths-ok limits (sizes dim capacity degree alpha) (lengths-in lent))) ⌝ }
 {
     let rows = product(capacity, degree);
-    let count = slots::marks::wide(capacity);
-    if vectors != product(capacity, dim) {
+    let count = wide(capacity);
+    if lent.vectors != product(capacity, dim) {
         return true;
     }
-    if targets != rows {
+    if lent.targets != rows {
         return true;
     }
-    if edges != rows {
+    if lent.edges != rows {
         return true;
     }
-    if versions != count {
+    if lent.versions != count {
         return true;
     }
-    if marks != count {
+    if lent.marks != count {
         return true;
     }
-    pool != 1024
+    lent.pool != wide(limits::POOL)
 }
 
 // Row 7, of a guard's settings: one of them is over its limit.
 pub fn config_over(count: u32, multiplier: u32, sample: u32, beam: u32) -> bool
-    ensures { λ r. ⌜ r ≡ config-over (config count multiplier sample beam) ⌝ }
+    ensures { λ r. ⌜ r ≡ config-over limits (config count multiplier sample beam) ⌝ }
 {
-    if 64 < count {
+    if limits::LANDMARKS < count {
         return true;
     }
-    if 16 < multiplier {
+    if limits::MULTIPLIER < multiplier {
         return true;
     }
-    if 65536 < sample {
+    if limits::SAMPLE < sample {
         return true;
     }
-    1024 < beam
+    limits::BEAM < beam
 }
 
 // Whether one of a guard's settings is 0.
@@ -128,7 +123,7 @@ fn config_zero(count: u32, multiplier: u32, sample: u32, beam: u32) -> bool
 
 // Whether a guard has a fault: a setting that is 0 or over its limit, or too long a pool.
 fn guard_bad(guard: Guard) -> bool
-    ensures { λ r. ⌜ r ≡ guard-fault (guard-of guard) ⌝ }
+    ensures { λ r. ⌜ r ≡ guard-fault limits (guard-of guard) ⌝ }
 {
     let Guard::On(s) = guard else {
         return false;
@@ -139,14 +134,14 @@ fn guard_bad(guard: Guard) -> bool
     if config_over(s.count, s.multiplier, s.sample, s.beam) {
         return true;
     }
-    1024 < s.pool
+    limits::POOL < s.pool
 }
 
 // Row 6: the live count is not that of the marks, the entry is outside, or the guard has a fault.
 fn index_bad(index: Index, marks: &[u8]) -> bool
-    ensures { λ r. ⌜ r ≡ (not (eqb (index .live) (length (filter (is-valid (now (marks .entry))) (range 0 (length (now (marks .entry))))))) || not (ltb (index .entry) (index .capacity)) || guard-fault (guard-of (index .guard))) ⌝ }
+    ensures { λ r. ⌜ r ≡ (not (eqb (index .live) (length (filter (is-valid (now (marks .entry))) (range 0 (length (now (marks .entry))))))) || not (ltb (index .entry) (index .capacity)) || guard-fault limits (guard-of (index .guard))) ⌝ }
 {
-    let live = slots::marks::wide(index.live);
+    let live = wide(index.live);
     if live != slots::marks::count_valid(marks) {
         return true;
     }
@@ -158,17 +153,8 @@ fn index_bad(index: Index, marks: &[u8]) -> bool
 }
 
 // The first of rows 1, 2, 3 and 6 that turns a call back, else 0; `wrong` is the call's own part of row 3.
-pub fn index_refusal(
-    index: Index,
-    vectors: usize,
-    targets: usize,
-    edges: usize,
-    versions: usize,
-    marks: &[u8],
-    pool: usize,
-    wrong: bool,
-) -> u32
-    ensures { λ r. ⌜ Decided index vectors targets edges versions (now (marks .entry)) pool wrong [] r ⌝ }
+pub fn index_refusal(index: Index, lent: Lengths, marks: &[u8], wrong: bool) -> u32
+    ensures { λ r. ⌜ Decided index (lengths-in lent) (now (marks .entry)) wrong [] r ⌝ }
 {
     if sizes_bad(index.dim, index.capacity, index.degree) {
         return 1;
@@ -176,17 +162,7 @@ pub fn index_refusal(
     if alpha_bad(index.alpha) {
         return 2;
     }
-    if lengths_bad(
-        index.dim,
-        index.capacity,
-        index.degree,
-        vectors,
-        targets,
-        edges,
-        versions,
-        marks.len(),
-        pool,
-    ) {
+    if lengths_bad(index.dim, index.capacity, index.degree, lent) {
         return 3;
     }
     if wrong {
@@ -198,26 +174,26 @@ pub fn index_refusal(
     0
 }
 
-// The size answer of accepted sizes; the sum fits whatever they are.
-fn size_answer(capacity: u32, degree: u32) -> usize
-    ensures { λ r. ⌜ ((dim : ℕ) → r ≡ size-answer dim capacity degree) ⌝ }
+// The size answer; the sum fits whatever the capacity is.
+fn size_answer(capacity: u32) -> usize
+    ensures { λ r. ⌜ r ≡ size-answer capacity ⌝ }
 {
-    81920 + 4 * slots::marks::wide(capacity) + 2048 * slots::marks::wide(degree)
+    MARKS + wide(capacity) + WORK_WORDS
 }
 
 // Row 8: the scratch is shorter than the size answer.
-pub fn scratch_short(capacity: u32, degree: u32, scratch: usize) -> bool
-    ensures { λ r. ⌜ ((dim : ℕ) → r ≡ ltb scratch (size-answer dim capacity degree)) ⌝ }
+pub fn scratch_short(capacity: u32, scratch: usize) -> bool
+    ensures { λ r. ⌜ r ≡ ltb scratch (size-answer capacity) ⌝ }
 {
-    scratch < size_answer(capacity, degree)
+    scratch < size_answer(capacity)
 }
 
 // How many words of scratch the calls on an index of these sizes ask for.
-pub fn scratch_words(dim: u32, capacity: u32, degree: u32) -> Words
+pub fn scratch_words(dim: u32, capacity: u32, degree: u32) -> ScratchWords
     ensures { λ r. ⌜ ((alpha : Float) → r ≡ words-for (sizes dim capacity degree alpha)) ⌝ }
 {
     if sizes_bad(dim, capacity, degree) {
-        return Words::Refused(1);
+        return ScratchWords::Refused(1);
     }
-    Words::Words(size_answer(capacity, degree) as u32)
+    ScratchWords::Words(size_answer(capacity) as u32)
 }

@@ -42,6 +42,11 @@ module _ {A : Type 0} where
   least-from measure a [] = a
   least-from measure a (x ∷ xs) = least-from measure (cond (ltb (measure x) (measure a)) x a) xs
 
+  -- the least measure of a list; 0 of an empty one
+  abbrev pub least-of : (A → ℕ) → List A → ℕ
+  least-of measure [] = 0
+  least-of measure (x ∷ xs) = measure (least-from measure x xs)
+
   -- parts of n elements, the last one perhaps shorter; k bounds their number (`chunks-whole`: it never cuts)
   abbrev pub chunks : ℕ → ℕ → List A → List (List A)
   chunks zero n xs = []

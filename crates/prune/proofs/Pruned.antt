@@ -14,17 +14,17 @@ use Rattle.candidates.specs.Candidates.{Candidate, ids}
 use Rattle.candidates.specs.Words.{cand, cands}
 use Rattle.candidates.proofs.Words.{cands-agree, cands-each}
 use Rattle.slots.specs.Store.{Store, is-valid, vector-of, store-view}
-use Rattle.slots.specs.View.{slot-distance}
+use Rattle.vectors.specs.Space.{slot-distance, space}
 use Rattle.slots.proofs.Places.{live-inside}
 use Rattle.prune.specs.Prune.{prune-scored, prune}
-use Rattle.prune.specs.Selecting.{between, Pruned}
+use Rattle.prune.specs.Selecting.{Pruned}
 use Rattle.prune.proofs.Chosen.{chosen, chosen-live, chosen-not-source, chosen-once, chosen-given}
 use Rattle.prune.proofs.Thresholds.{Accepted}
 
 -- for an index: what is selected is what its view says
 pub pruned-view : (b : Store) (source : ℕ) (cs : List Candidate)
-    → prune-scored (b .arrays .degree) (b .alpha) (is-valid (b .arrays .marks)) (between (b .arrays .dim) (b .arrays .vectors)) source cs ≡ prune (store-view b) source cs
-unfolding between slot-distance store-view vector-of
+    → prune-scored (b .arrays .degree) (b .alpha) (is-valid (b .arrays .marks)) (slot-distance (space (b .arrays .dim) (b .arrays .vectors))) source cs ≡ prune (store-view b) source cs
+unfolding slot-distance space store-view vector-of
 pruned-view b source cs = refl
 
 module _ {degree : ℕ} {alpha : Float} {live : ℕ → Bool} {d : ℕ → ℕ → ℕ} {source : ℕ} {w : List ℕ} {a n to r : ℕ} {w′ : List ℕ} (f : Pruned degree alpha live d source w a n to r w′) where

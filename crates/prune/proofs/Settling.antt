@@ -8,14 +8,14 @@ use native.Mathlib.Omega.{arith}
 use lib.ListN.{length, getD, set, length-set}
 use lib.Seq.{set-getD}
 use lib.Ieee.{Float, nan, lt}
-use Rattle.lists.specs.Lists.{foldl, range, part}
-use Rattle.vectors.specs.Distance.{Distance}
+use Rattle.lists.specs.Lists.{foldl, range}
+use Rattle.vectors.specs.Space.{slot-distance, space, Measured}
 use Rattle.candidates.specs.Candidates.{Candidate}
 use Rattle.candidates.specs.Quotient.{largest, fmax, quotient}
 use Rattle.candidates.specs.Words.{cand, cands}
 use Rattle.candidates.proofs.Words.{cands-at, cands-length, cands-each}
 use Rattle.prune.specs.Prune.{raise}
-use Rattle.prune.specs.Selecting.{between, raised-factor, settled, Given}
+use Rattle.prune.specs.Selecting.{raised-factor, settled, Given}
 -- so that the examples are checked first
 use Rattle.prune.proofs.Cases
 
@@ -25,8 +25,8 @@ unfolding raised-factor
 raised-over alpha own pair f e = rw e
 
 pub raised-to : (alpha : Float) (own dim : ℕ) (vectors : List ℕ) {x y w z pair : ℕ} (f : Float) {r q : Float} → lt alpha f ≡ false → w ≡ x → z ≡ y
-    → Distance (part dim w vectors) (part dim z vectors) pair → q ≡ quotient own pair → r ≡ fmax f q → r ≡ raised-factor alpha own (between dim vectors x y) f
-unfolding raised-factor between
+    → Measured (slot-distance (space dim vectors) w z) pair → q ≡ quotient own pair → r ≡ fmax f q → r ≡ raised-factor alpha own (slot-distance (space dim vectors) x y) f
+unfolding raised-factor
 raised-to alpha own dim vectors {x} {y} {w} {z} {pair} f {r} {q} e u v n g h = rw (e, ← u, ← v, ← n .equals, ← g) h
 
 -- ---- all of those after the one taken

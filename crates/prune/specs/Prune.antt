@@ -9,7 +9,8 @@ use Rattle.lists.specs.Lists.{filter, range, foldl, sort-by, distinct-by}
 use Rattle.candidates.specs.Candidates.{Candidate, nearer}
 use Rattle.vectors.specs.Distance.{f32}
 use Rattle.candidates.specs.Quotient.{largest, fmax, fmin, quotient}
-use Rattle.slots.specs.View.{View, slot-distance}
+use Rattle.slots.specs.View.{View}
+use Rattle.vectors.specs.Space.{slot-distance}
 
 -- 1.2 as an f32
 unfoldable pub growth : Float
@@ -69,4 +70,4 @@ unfoldable pub prune-scored : ℕ → Float → (ℕ → Bool) → (ℕ → ℕ 
 prune-scored degree alpha live d source cs = passes degree alpha d (considered live source cs)
 
 abbrev pub prune : View → ℕ → List Candidate → List Candidate
-prune v source cs = prune-scored (v .sizes .degree) (v .sizes .alpha) (v .live) (slot-distance v) source cs
+prune v source cs = prune-scored (v .sizes .degree) (v .sizes .alpha) (v .live) (slot-distance (v .space)) source cs

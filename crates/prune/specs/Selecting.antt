@@ -6,16 +6,11 @@ use mathlib.Core.Bool.{Bool, cond}
 use mathlib.Core.List.{List, [], _∷_, _++_}
 use lib.ListN.{length, getD, set}
 use lib.Ieee.{Float, binary32, nan, mul, lt}
-use Rattle.lists.specs.Lists.{All, range, foldl, part}
-use Rattle.vectors.specs.Distance.{distance}
+use Rattle.lists.specs.Lists.{All, range, foldl}
 use Rattle.candidates.specs.Candidates.{Candidate}
 use Rattle.candidates.specs.Quotient.{largest, fmax, fmin, quotient}
 use Rattle.candidates.specs.Words.{cands, Small, Outside}
 use Rattle.prune.specs.Prune.{growth, thresholds, no-candidate, Selection, raise, pass, passes, prune-scored}
-
--- the distance of two slots, from the bytes of all
-unfoldable pub between : ℕ → List ℕ → ℕ → ℕ → ℕ
-between dim vectors s t = distance (part dim s vectors) (part dim t vectors)
 
 -- the threshold after t
 unfoldable pub next-threshold : Float → Float → Float

@@ -3,11 +3,12 @@ use slots::marks::wide;
 ghost use mathlib.Core.Path.{_≡_};
 ghost use Prim.Native.Nat.{_+_, _*_, _<_, _≤_};
 ghost use lib.ListN.{length};
+ghost use Rattle.vectors.specs.Space.{slot-distance, space};
 ghost use Rattle.candidates.specs.Quotient.{fmax, fmin};
 ghost use Rattle.candidates.specs.Words.{cands, Left};
 ghost use Rattle.slots.specs.Store.{is-valid};
 ghost use Rattle.prune.specs.Prune.{considered};
-ghost use Rattle.prune.specs.Selecting.{between, next-threshold, raised-factor, settled, Given, Considered, Room, Selected, Picked, Ready, Pruned};
+ghost use Rattle.prune.specs.Selecting.{next-threshold, raised-factor, settled, Given, Considered, Room, Selected, Picked, Ready, Pruned};
 
 // The larger of two factors.
 fn larger(x: f32, y: f32) -> f32
@@ -33,7 +34,7 @@ fn following(t: f32, alpha: f32) -> f32
 // The factor `f` of slot `x`, whose candidate has the distance `own`, once slot `y` is taken.
 fn raised(f: f32, alpha: f32, own: u32, dim: usize, vectors: &[u8], x: u32, y: u32) -> f32
     requires { ⌜ (own ≤ 16777216) × (x * dim + dim ≤ length (now vectors)) × (y * dim + dim ≤ length (now vectors)) × (dim ≤ 256) ⌝ }
-    ensures { λ r. ⌜ r ≡ raised-factor alpha own (between dim (now (vectors .entry)) x y) f ⌝ }
+    ensures { λ r. ⌜ r ≡ raised-factor alpha own (slot-distance (space dim (now (vectors .entry))) x y) f ⌝ }
 {
     if f > alpha {
         return f;
@@ -53,7 +54,7 @@ fn settle(
     i: usize,
 )
     requires { ⌜ Given dim (now vectors) (now words) a (length (now factors)) × (i < length (now factors)) ⌝ }
-    ensures { λ _. ⌜ now (factors .exit) ≡ settled alpha (between dim (now (vectors .entry))) (cands (now (words .entry)) a (length (now (factors .entry)))) i (now (factors .entry)) ⌝ }
+    ensures { λ _. ⌜ now (factors .exit) ≡ settled alpha (slot-distance (space dim (now (vectors .entry)))) (cands (now (words .entry)) a (length (now (factors .entry)))) i (now (factors .entry)) ⌝ }
 {
     let n = factors.len();
     let y = candidates::id_at(words, a, i);
@@ -81,7 +82,7 @@ fn consider(
     threshold: f32,
 ) -> usize
     requires { ⌜ Given dim (now vectors) (now words) a (length (now factors)) × (i < length (now factors)) × (to + 2 * m + 1 < length (now words)) ⌝ }
-    ensures { λ r. ⌜ Considered alpha (between dim (now (vectors .entry))) (cands (now (words .entry)) a (length (now (factors .entry)))) threshold i
+    ensures { λ r. ⌜ Considered alpha (slot-distance (space dim (now (vectors .entry)))) (cands (now (words .entry)) a (length (now (factors .entry)))) threshold i
         (now (factors .entry)) (now (words .entry)) to m (now (factors .exit)) (now (words .exit)) r ⌝ }
 {
     if factors[i] > threshold {
@@ -106,7 +107,7 @@ fn select(
     to: usize,
 ) -> usize
     requires { ⌜ Given dim (now vectors) (now words) a (length (now factors)) × Room degree (now words) a (length (now factors)) to ⌝ }
-    ensures { λ r. ⌜ Selected degree alpha (between dim (now (vectors .entry))) (now (factors .entry)) (now (words .entry)) a (length (now (factors .entry))) to r (now (words .exit)) ⌝ }
+    ensures { λ r. ⌜ Selected degree alpha (slot-distance (space dim (now (vectors .entry)))) (now (factors .entry)) (now (words .entry)) a (length (now (factors .entry))) to r (now (words .exit)) ⌝ }
 {
     let n = factors.len();
     let mut m: usize = 0;
@@ -142,7 +143,7 @@ fn pick(
     to: usize,
 ) -> usize
     requires { ⌜ Given dim (now vectors) (now words) a n × Room degree (now words) a n to × (n ≤ 750) ⌝ }
-    ensures { λ r. ⌜ Picked degree alpha (between dim (now (vectors .entry))) (now (words .entry)) a n to r (now (words .exit)) ⌝ }
+    ensures { λ r. ⌜ Picked degree alpha (slot-distance (space dim (now (vectors .entry)))) (now (words .entry)) a n to r (now (words .exit)) ⌝ }
 {
     let mut factors = [0.0f32; 750];
     select(degree, alpha, dim, vectors, &mut factors[..n], words, a, to)
@@ -172,7 +173,7 @@ pub fn prune_scored(
     to: usize,
 ) -> usize
     requires { ⌜ Ready degree dim (now vectors) (now marks) (now scratch) a n to ⌝ }
-    ensures { λ r. ⌜ Pruned degree alpha (is-valid (now (marks .entry))) (between dim (now (vectors .entry))) source (now (scratch .entry)) a n to r (now (scratch .exit)) ⌝ }
+    ensures { λ r. ⌜ Pruned degree alpha (is-valid (now (marks .entry))) (slot-distance (space dim (now (vectors .entry)))) source (now (scratch .entry)) a n to r (now (scratch .exit)) ⌝ }
 {
     let m = prepare(marks, source, scratch, a, n);
     pick(degree, alpha, dim, vectors, scratch, a, m, to)

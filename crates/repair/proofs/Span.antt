@@ -8,8 +8,8 @@ use native.Mathlib.Omega.{arith}
 use borrow.Author.Tests.{eq-eqb}
 use lib.ListN.{length, length-map}
 use lib.Dec.{eqb, ltb}
-use Rattle.lists.specs.Lists.{filter, init, last, least-from}
-use Rattle.repair.specs.Repair.{Link, swap-remove, gap, links, span, repair-links}
+use Rattle.lists.specs.Lists.{filter, init, last, least-from, least-of}
+use Rattle.repair.specs.Repair.{Link, swap-remove, links, span, repair-links}
 -- the examples are checked first, so that a wrong definition shows in one of them
 use Rattle.repair.proofs.Cases
 
@@ -30,7 +30,7 @@ module _ (d : ℕ → ℕ → ℕ) (degree : ℕ) where
   span-enough (suc m) zero c (r ∷ rs) l h = absurd (omega arith)
   span-enough (suc m) (suc n) c [] l h = refl
   span-enough (suc m) (suc n) c (r ∷ rs) l h =
-      let next = least-from (gap d degree c) r rs in
+      let next = least-from (λ x. least-of (d x) c) r rs in
       ap (λ (ls : List Link). links d degree c next ++ ls)
       (span-enough m n (c ++ (next ∷ [])) (swap-remove next (r ∷ rs)) (omega (arith, one-less next r rs)) (omega arith))
 

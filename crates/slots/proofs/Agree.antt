@@ -27,7 +27,7 @@ pub record Sound (emptied : ℕ → ℕ) (b : Store) : Type 0 where
   pub alpha-right : alpha-ok (b .alpha) ≡ true
   pub entry-inside : b .entry < b .capacity
   pub shaped : Shaped (b .capacity) (b .arrays)
-  pub fresh : Fresh (b .arrays .versions) (b .arrays .targets) (b .arrays .edge-versions)
+  pub fresh : Fresh (b .arrays .versions) (b .arrays .targets) (b .arrays .edges)
   pub worn : (s : ℕ) → s < b .capacity → getD (b .arrays .versions) s 0 ≡ emptied s
 
 -- the stored index is sound, and shows the plain one
@@ -68,7 +68,7 @@ module _ (emptied : ℕ → ℕ) (b : Store) (ok : Sound emptied b) (s : ℕ) (h
         alpha-right = ok .alpha-right;
         entry-inside = ok .entry-inside;
         shaped = shaped-written (b .capacity) (b .arrays) (ok .shaped) s h ids;
-        fresh = fresh-put versions (b .arrays .targets) (b .arrays .edge-versions) (padded d ids) (new-edges d versions ids) d s
+        fresh = fresh-put versions (b .arrays .targets) (b .arrays .edges) (padded d ids) (new-edges d versions ids) d s
             (ok .fresh) (fresh-written versions (padded d ids)) (ok .shaped .targets-long ∙ sym (ok .shaped .edges-long)) (length-padded d ids ∙ sym (length-new-edges d versions ids));
         worn = ok .worn;
       }
@@ -109,7 +109,7 @@ module _ (emptied : ℕ → ℕ) (b : Store) (ok : Sound emptied b) (s : ℕ) (h
     alpha-right = ok .alpha-right;
     entry-inside = ok .entry-inside;
     shaped = shaped-stepped (b .capacity) (b .arrays) (ok .shaped) s;
-    fresh = rw stepped-versions (fresh-raised (b .arrays .versions) s inside (b .arrays .targets) (b .arrays .edge-versions) (ok .fresh));
+    fresh = rw stepped-versions (fresh-raised (b .arrays .versions) s inside (b .arrays .targets) (b .arrays .edges) (ok .fresh));
     worn = λ t k. rw stepped-versions (worn-stepped t k);
   }
 
@@ -117,10 +117,10 @@ module _ (emptied : ℕ → ℕ) (b : Store) (ok : Sound emptied b) (s : ℕ) (h
   unfolding refs-of next-version
   refs-stepped t =
       let d = b .arrays .degree in
-      ap (λ vs. current vs (part d t (b .arrays .targets)) (part d t (b .arrays .edge-versions))) stepped-versions
-      ∙ current-raised (b .arrays .versions) s inside (part d t (b .arrays .targets)) (part d t (b .arrays .edge-versions))
-      (fresh-take (b .arrays .versions) d (drop (t * d) (b .arrays .targets)) (drop (t * d) (b .arrays .edge-versions))
-      (fresh-drop (b .arrays .versions) (t * d) (b .arrays .targets) (b .arrays .edge-versions) (ok .fresh)))
+      ap (λ vs. current vs (part d t (b .arrays .targets)) (part d t (b .arrays .edges))) stepped-versions
+      ∙ current-raised (b .arrays .versions) s inside (part d t (b .arrays .targets)) (part d t (b .arrays .edges))
+      (fresh-take (b .arrays .versions) d (drop (t * d) (b .arrays .targets)) (drop (t * d) (b .arrays .edges))
+      (fresh-drop (b .arrays .versions) (t * d) (b .arrays .targets) (b .arrays .edges) (ok .fresh)))
 
 -- ---- the marks and the vectors
 

@@ -15,7 +15,7 @@ before = record {
     degree = 2;
     vectors = 7 ∷ 8 ∷ 9 ∷ [];
     targets = 1 ∷ 1 ∷ blank ∷ blank ∷ 0 ∷ blank ∷ [];
-    edge-versions = 65535 ∷ 65534 ∷ 0 ∷ 0 ∷ 5 ∷ 0 ∷ [];
+    edges = 65535 ∷ 65534 ∷ 0 ∷ 0 ∷ 5 ∷ 0 ∷ [];
     versions = 5 ∷ 65535 ∷ 0 ∷ [];
     marks = 1 ∷ 1 ∷ 1 ∷ [];
   };
@@ -28,7 +28,7 @@ before = record {
 abbrev shown : Store → List (List ℕ)
 shown b =
     let a = b .arrays in
-    a .vectors ∷ a .targets ∷ a .edge-versions ∷ a .versions ∷ a .marks ∷ map (store-view b .refs) (0 ∷ 1 ∷ 2 ∷ [])
+    a .vectors ∷ a .targets ∷ a .edges ∷ a .versions ∷ a .marks ∷ map (store-view b .refs) (0 ∷ 1 ∷ 2 ∷ [])
 
 -- the targets' present versions, and blanks with version 0
 written : shown (store-ops .write before 2 (1 ∷ []))

@@ -70,13 +70,13 @@ module _ (n : ℕ) (a : Arrays) (f : Shaped n a) (s : ℕ) (h : s < n) where
 module _ (a : Arrays) (s : ℕ) where
   -- `set_valid`
   pub marked-by : (mark : ℕ) {marks′ : List ℕ} → marks′ ≡ set (a .marks) s mark
-      → arrays (a .dim) (a .degree) (a .vectors) (a .targets) (a .edge-versions) (a .versions) marks′ ≡ set-mark a s mark
+      → arrays (a .dim) (a .degree) (a .vectors) (a .targets) (a .edges) (a .versions) marks′ ≡ set-mark a s mark
   unfolding set-mark
-  marked-by mark e = λ i. arrays (a .dim) (a .degree) (a .vectors) (a .targets) (a .edge-versions) (a .versions) (e i)
+  marked-by mark e = λ i. arrays (a .dim) (a .degree) (a .vectors) (a .targets) (a .edges) (a .versions) (e i)
 
   -- `write_vector`, `fill_neighbors` and `set_valid(id, true)`
   pub filled-by : (vector : List ℕ) {vectors′ targets′ edges′ marks′ : List ℕ}
-      → vectors′ ≡ put-part (a .dim) s vector (a .vectors) → Wrote (a .degree) (a .targets) (a .edge-versions) (a .versions) s [] targets′ edges′ → marks′ ≡ set (a .marks) s 1
+      → vectors′ ≡ put-part (a .dim) s vector (a .vectors) → Wrote (a .degree) (a .targets) (a .edges) (a .versions) s [] targets′ edges′ → marks′ ≡ set (a .marks) s 1
       → arrays (a .dim) (a .degree) vectors′ targets′ edges′ (a .versions) marks′ ≡ set-mark (write-neighbors (write-vector a s vector) s []) s 1
   unfolding write-vector write-neighbors set-mark
   filled-by vector {targets′ = targets′} {edges′ = edges′} v w m =
@@ -85,9 +85,9 @@ module _ (a : Arrays) (s : ℕ) where
 
   -- `next_version` and `fill_neighbors`
   pub finished-by : {versions′ targets′ edges′ : List ℕ}
-      → versions′ ≡ set (a .versions) s (suc (getD (a .versions) s 0) % 65536) → Wrote (a .degree) (a .targets) (a .edge-versions) versions′ s [] targets′ edges′
+      → versions′ ≡ set (a .versions) s (suc (getD (a .versions) s 0) % 65536) → Wrote (a .degree) (a .targets) (a .edges) versions′ s [] targets′ edges′
       → arrays (a .dim) (a .degree) (a .vectors) targets′ edges′ versions′ (a .marks) ≡ write-neighbors (next-version a s) s []
   unfolding next-version
   finished-by e w =
       w .does (a .dim) (a .vectors) (a .marks)
-      ∙ (λ i. write-neighbors (arrays (a .dim) (a .degree) (a .vectors) (a .targets) (a .edge-versions) (e i) (a .marks)) s [])
+      ∙ (λ i. write-neighbors (arrays (a .dim) (a .degree) (a .vectors) (a .targets) (a .edges) (e i) (a .marks)) s [])

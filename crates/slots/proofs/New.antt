@@ -110,7 +110,7 @@ module _ (z : Sizes) (given : ℕ) (vectors rows : List ℕ) (entry : ℕ) (ok :
           sizes = z;
           entry = entry;
           live = λ s. given-live given free s i;
-          vector = λ s. part (z .dim) s (vectors ++ replicate (free * z .dim) 0);
+          space = record { vector = λ s. part (z .dim) s (vectors ++ replicate (free * z .dim) 0) };
           refs = λ s. current-zeros (z .capacity) (part (z .degree) s ts) (part (z .degree) s es) (simp (length-take, length-drop, l))
               (zeros-take (z .degree) _ (zeros-drop (s * z .degree) es (zeros (z .capacity * z .degree)))) i;
         };

@@ -33,7 +33,7 @@ live-inside marks s e = go (decLt s (length marks))
 -- ---- the shapes
 
 -- the rows of well-shaped arrays can be read
-pub rows-shaped : (n : ℕ) (a : Arrays) → Shaped n a → n ≤ 65536 → RowShape (a .degree) (a .targets) (a .edge-versions) (a .versions) (a .marks)
+pub rows-shaped : (n : ℕ) (a : Arrays) → Shaped n a → n ≤ 65536 → RowShape (a .degree) (a .targets) (a .edges) (a .versions) (a .marks)
 rows-shaped n a f few =
     let m = f .marks-long in
     record { targets-long = rw m (f .targets-long); edges-long = rw m (f .edges-long); versions-long = f .versions-long ∙ sym m; few = rw m few }
@@ -55,13 +55,13 @@ module _ (a : Arrays) (s place : ℕ) {t : ℕ} (e : t ≡ getD (a .targets) (s 
   unfolding ref-at is-valid
   ref-unmarked h = rw (← e, h)
 
-  pub ref-stale : (getD (a .edge-versions) (s * a .degree + place) 0 ≡ getD (a .versions) t 0 → ⊥) → Dead ≡ ref-at a s place
+  pub ref-stale : (getD (a .edges) (s * a .degree + place) 0 ≡ getD (a .versions) t 0 → ⊥) → Dead ≡ ref-at a s place
   unfolding ref-at
-  ref-stale h = rw (← e, ne-eqb (getD (a .edge-versions) (s * a .degree + place) 0) (getD (a .versions) t 0) h, and-false)
+  ref-stale h = rw (← e, ne-eqb (getD (a .edges) (s * a .degree + place) 0) (getD (a .versions) t 0) h, and-false)
 
-  pub ref-live : (getD (a .marks) t 0 ≡ 0 → ⊥) → getD (a .edge-versions) (s * a .degree + place) 0 ≡ getD (a .versions) t 0 → At t ≡ ref-at a s place
+  pub ref-live : (getD (a .marks) t 0 ≡ 0 → ⊥) → getD (a .edges) (s * a .degree + place) 0 ≡ getD (a .versions) t 0 → At t ≡ ref-at a s place
   unfolding ref-at is-valid
-  ref-live h k = rw (← e, ne-eqb (getD (a .marks) t 0) 0 h, eq-eqb (getD (a .edge-versions) (s * a .degree + place) 0) (getD (a .versions) t 0) k)
+  ref-live h k = rw (← e, ne-eqb (getD (a .marks) t 0) 0 h, eq-eqb (getD (a .edges) (s * a .degree + place) 0) (getD (a .versions) t 0) k)
 
 -- ---- a row from a place on
 
@@ -76,12 +76,12 @@ refs-from-end a s place h =
     let k : length row ≤ place = simp length-take (omega arith) in
     rw (drop-of-length-le row k)
 
-module _ (a : Arrays) (s place : ℕ) (ft : s * a .degree + a .degree ≤ length (a .targets)) (fe : s * a .degree + a .degree ≤ length (a .edge-versions)) (h : place < a .degree) where
+module _ (a : Arrays) (s place : ℕ) (ft : s * a .degree + a .degree ≤ length (a .targets)) (fe : s * a .degree + a .degree ≤ length (a .edges)) (h : place < a .degree) where
   abbrev target : ℕ
   target = getD (a .targets) (s * a .degree + place) 0
 
   abbrev edge : ℕ
-  edge = getD (a .edge-versions) (s * a .degree + place) 0
+  edge = getD (a .edges) (s * a .degree + place) 0
 
   pub refs-from-step : refs-from a s place
       ≡ cond (not (eqb target blank) && eqb edge (getD (a .versions) target 0)) (target ∷ refs-from a s (place + 1)) (refs-from a s (place + 1))
@@ -89,11 +89,11 @@ module _ (a : Arrays) (s place : ℕ) (ft : s * a .degree + a .degree ≤ length
   refs-from-step =
       let d = a .degree in
       let i : place < length (part d s (a .targets)) = simp (length-take, length-drop) (omega arith) in
-      let j : place < length (part d s (a .edge-versions)) = simp (length-take, length-drop) (omega arith) in
+      let j : place < length (part d s (a .edges)) = simp (length-take, length-drop) (omega arith) in
       let t : getD (part d s (a .targets)) place 0 ≡ target = getD-take d (drop (s * d) (a .targets)) place 0 h ∙ getD-drop (s * d) (a .targets) place 0 in
-      let e : getD (part d s (a .edge-versions)) place 0 ≡ edge =
-      getD-take d (drop (s * d) (a .edge-versions)) place 0 h ∙ getD-drop (s * d) (a .edge-versions) place 0 in
-      rw (add-one, drop-cons (part d s (a .targets)) place 0 i, drop-cons (part d s (a .edge-versions)) place 0 j, t, e)
+      let e : getD (part d s (a .edges)) place 0 ≡ edge =
+      getD-take d (drop (s * d) (a .edges)) place 0 h ∙ getD-drop (s * d) (a .edges) place 0 in
+      rw (add-one, drop-cons (part d s (a .targets)) place 0 i, drop-cons (part d s (a .edges)) place 0 j, t, e)
 
 -- ---- the live targets from a place on
 
@@ -109,7 +109,7 @@ pub live-from-end : (a : Arrays) (s place : ℕ) → a .degree ≤ place → liv
 unfolding live-from
 live-from-end a s place h = rw (refs-from-end a s place h)
 
-module _ (a : Arrays) (f : RowShape (a .degree) (a .targets) (a .edge-versions) (a .versions) (a .marks)) (s place : ℕ) (hs : s < length (a .marks)) (hp : place < a .degree) where
+module _ (a : Arrays) (f : RowShape (a .degree) (a .targets) (a .edges) (a .versions) (a .marks)) (s place : ℕ) (hs : s < length (a .marks)) (hp : place < a .degree) where
   live-from-step : live-from a s place ≡ cons-ref (ref-at a s place) (live-from a s (place + 1))
   unfolding live-from ref-at
   live-from-step = rw (refs-from-step a s place (shape-fits f s hs .0) (shape-fits f s hs .1) hp) (go (eqb t blank) (eqb e (getD (a .versions) t 0)) (is-valid (a .marks) t) refl refl)
@@ -118,7 +118,7 @@ module _ (a : Arrays) (f : RowShape (a .degree) (a .targets) (a .edge-versions) 
       t = getD (a .targets) (s * a .degree + place) 0
 
       e : ℕ
-      e = getD (a .edge-versions) (s * a .degree + place) 0
+      e = getD (a .edges) (s * a .degree + place) 0
 
       rest : List ℕ
       rest = refs-from a s (place + 1)
@@ -144,7 +144,7 @@ module _ (a : Arrays) (f : RowShape (a .degree) (a .targets) (a .edge-versions) 
 module _ (a : Arrays) (s place : ℕ) {r : Ref} {t : ℕ} (e : r ≡ ref-at a s place) (h : r ≡ At t) where
   pub ref-valid : is-valid (a .marks) t ≡ true
   unfolding ref-at
-  ref-valid = go (is-valid (a .marks) x) (eqb (getD (a .edge-versions) (s * a .degree + place) 0) (getD (a .versions) x 0)) refl (sym h ∙ e)
+  ref-valid = go (is-valid (a .marks) x) (eqb (getD (a .edges) (s * a .degree + place) 0) (getD (a .versions) x 0)) refl (sym h ∙ e)
     where
       x : ℕ
       x = getD (a .targets) (s * a .degree + place) 0

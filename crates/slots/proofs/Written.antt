@@ -91,15 +91,15 @@ module _ (versions ts es xs ys : List ℕ) (d s : ℕ) (ft : s * d + d ≤ lengt
 
 module _ (n : ℕ) (a : Arrays) (f : Shaped n a) (s : ℕ) (h : s < n) where
   -- a slot's row is inside both slices
-  pub row-fits : (s * a .degree + a .degree ≤ length (a .targets)) × (s * a .degree + a .degree ≤ length (a .edge-versions))
-  row-fits = (fits-in (a .degree) n s (length (a .targets)) h (f .targets-long), fits-in (a .degree) n s (length (a .edge-versions)) h (f .edges-long))
+  pub row-fits : (s * a .degree + a .degree ≤ length (a .targets)) × (s * a .degree + a .degree ≤ length (a .edges))
+  row-fits = (fits-in (a .degree) n s (length (a .targets)) h (f .targets-long), fits-in (a .degree) n s (length (a .edges)) h (f .edges-long))
 
   pub shaped-written : (ids : List ℕ) → Shaped n (write-neighbors a s ids)
   unfolding write-neighbors
   shaped-written ids = record {
     vectors-long = f .vectors-long;
     targets-long = length-put (a .degree) s (padded (a .degree) ids) (a .targets) (length-padded (a .degree) ids) (row-fits .0) ∙ f .targets-long;
-    edges-long = length-put (a .degree) s (new-edges (a .degree) (a .versions) ids) (a .edge-versions) (length-new-edges (a .degree) (a .versions) ids) (row-fits .1) ∙ f .edges-long;
+    edges-long = length-put (a .degree) s (new-edges (a .degree) (a .versions) ids) (a .edges) (length-new-edges (a .degree) (a .versions) ids) (row-fits .1) ∙ f .edges-long;
     versions-long = f .versions-long;
     marks-long = f .marks-long;
   }
@@ -109,7 +109,7 @@ module _ (n : ℕ) (a : Arrays) (f : Shaped n a) (s : ℕ) (h : s < n) where
   unfolding refs-of write-neighbors
   refs-written ids t =
       let d = a .degree in
-      current-put (a .versions) (a .targets) (a .edge-versions) (padded d ids) (new-edges d (a .versions) ids) d s (row-fits .0) (row-fits .1)
+      current-put (a .versions) (a .targets) (a .edges) (padded d ids) (new-edges d (a .versions) ids) d s (row-fits .0) (row-fits .1)
       (length-padded d ids) (length-new-edges d (a .versions) ids) t
       ∙ ap (λ (r : List ℕ). cond (eqb t s) r (refs-of a t)) (current-written (a .versions) (padded d ids) ∙ padded-targets d d ids)
 
@@ -125,7 +125,7 @@ module _ (n : ℕ) (a : Arrays) (f : Shaped n a) (s : ℕ) (h : s < n) where
       let v = a .versions in
       λ i. arrays (a .dim) d (a .vectors)
       (put-again d n (padded d xs) (padded d ys) (a .targets) (length-padded d xs) (length-padded d ys) (f .targets-long) s h i)
-      (put-again d n (new-edges d v xs) (new-edges d v ys) (a .edge-versions) (length-new-edges d v xs) (length-new-edges d v ys) (f .edges-long) s h i)
+      (put-again d n (new-edges d v xs) (new-edges d v ys) (a .edges) (length-new-edges d v xs) (length-new-edges d v ys) (f .edges-long) s h i)
       v (a .marks)
 
 -- rows of different slots may be written in either order
@@ -137,7 +137,7 @@ writes-swap n a f s t hs ht other xs ys =
     let v = a .versions in
     λ i. arrays (a .dim) d (a .vectors)
     (put-both d n (padded d xs) (padded d ys) (a .targets) (length-padded d xs) (length-padded d ys) (f .targets-long) s t hs ht other i)
-    (put-both d n (new-edges d v xs) (new-edges d v ys) (a .edge-versions) (length-new-edges d v xs) (length-new-edges d v ys) (f .edges-long) s t hs ht other i)
+    (put-both d n (new-edges d v xs) (new-edges d v ys) (a .edges) (length-new-edges d v xs) (length-new-edges d v ys) (f .edges-long) s t hs ht other i)
     v (a .marks)
 
 -- nothing else changes

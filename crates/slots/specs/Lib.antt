@@ -1,4 +1,5 @@
 pub mod Sizes
+pub mod Scratch
 pub mod View
 pub mod Ops
 pub mod Store

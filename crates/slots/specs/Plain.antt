@@ -20,7 +20,7 @@ other-than s t = not (eqb t s)
 
 -- a view with other marks, vectors and rows
 abbrev pub with-slots : View → (ℕ → Bool) → (ℕ → List ℕ) → (ℕ → List ℕ) → View
-with-slots v live vector refs = record { sizes = v .sizes; entry = v .entry; live = live; vector = vector; refs = refs }
+with-slots v live vector refs = record { sizes = v .sizes; entry = v .entry; live = live; space = record { vector = vector }; refs = refs }
 
 -- the rows with the slot s struck out of each, and its own emptied
 abbrev pub strike : View → ℕ → ℕ → List ℕ
@@ -29,11 +29,11 @@ strike v s t = cond (ltb s (v .sizes .capacity)) (cond (eqb t s) [] (filter (oth
 unfoldable pub plain-ops : Ops View
 plain-ops = record {
   view = λ v. v;
-  fill = λ v s vector. let c = v .sizes .capacity in with-slots v (at c (v .live) s true) (at c (v .vector) s vector) (at c (v .refs) s []);
-  write = λ v s ids. with-slots v (v .live) (v .vector) (at (v .sizes .capacity) (v .refs) s (filter (other-than blank) (take (v .sizes .degree) ids)));
-  kill = λ v s. with-slots v (at (v .sizes .capacity) (v .live) s false) (v .vector) (v .refs);
-  enter = λ v e. record { sizes = v .sizes; entry = e; live = v .live; vector = v .vector; refs = v .refs };
-  finish = λ v s. with-slots v (v .live) (v .vector) (strike v s);
+  fill = λ v s vector. let c = v .sizes .capacity in with-slots v (at c (v .live) s true) (at c (v .space .vector) s vector) (at c (v .refs) s []);
+  write = λ v s ids. with-slots v (v .live) (v .space .vector) (at (v .sizes .capacity) (v .refs) s (filter (other-than blank) (take (v .sizes .degree) ids)));
+  kill = λ v s. with-slots v (at (v .sizes .capacity) (v .live) s false) (v .space .vector) (v .refs);
+  enter = λ v e. record { sizes = v .sizes; entry = e; live = v .live; space = v .space; refs = v .refs };
+  finish = λ v s. with-slots v (v .live) (v .space .vector) (strike v s);
 }
 
 -- what making makes
@@ -44,6 +44,6 @@ new-plain z given vectors rows entry =
       sizes = z;
       entry = entry;
       live = λ s. ltb s given;
-      vector = λ s. part (z .dim) s (vectors ++ replicate (free * z .dim) 0);
+      space = record { vector = λ s. part (z .dim) s (vectors ++ replicate (free * z .dim) 0) };
       refs = λ s. filter (other-than blank) (part (z .degree) s (rows ++ replicate (free * z .degree) blank));
     }

@@ -13,7 +13,7 @@ use Rattle.slots.specs.declared.rows.Ref.the-variants.{At, Dead}
 -- the slices, one by one
 abbrev pub arrays : ℕ → ℕ → List ℕ → List ℕ → List ℕ → List ℕ → List ℕ → Arrays
 arrays dim degree vectors targets edges versions marks =
-    record { dim = dim; degree = degree; vectors = vectors; targets = targets; edge-versions = edges; versions = versions; marks = marks }
+    record { dim = dim; degree = degree; vectors = vectors; targets = targets; edges = edges; versions = versions; marks = marks }
 
 -- slices of rows, versions and marks that belong together; a blank target is outside
 pub record RowShape (degree : ℕ) (targets edges versions marks : List ℕ) : Type 0 where
@@ -32,11 +32,11 @@ ref-of false t = Dead
 unfoldable pub ref-at : Arrays → ℕ → ℕ → Ref
 ref-at a s place =
     let t = getD (a .targets) (s * a .degree + place) 0 in
-    ref-of (is-valid (a .marks) t && eqb (getD (a .edge-versions) (s * a .degree + place) 0) (getD (a .versions) t 0)) t
+    ref-of (is-valid (a .marks) t && eqb (getD (a .edges) (s * a .degree + place) 0) (getD (a .versions) t 0)) t
 
 -- `refs-of` from a place on
 unfoldable pub refs-from : Arrays → ℕ → ℕ → List ℕ
-refs-from a s place = current (a .versions) (drop place (part (a .degree) s (a .targets))) (drop place (part (a .degree) s (a .edge-versions)))
+refs-from a s place = current (a .versions) (drop place (part (a .degree) s (a .targets))) (drop place (part (a .degree) s (a .edges)))
 
 -- the live ones of them
 unfoldable pub live-from : Arrays → ℕ → ℕ → List ℕ

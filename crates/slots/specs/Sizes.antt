@@ -1,8 +1,10 @@
--- Sizes of an index, their limits, and the lengths of its six slices: document 01, rows 1, 2, 3 and 7 of "Turned-back calls". Assumes nothing.
+-- Sizes of an index, their limits, its six slices and their lengths: document 01, rows 1, 2, 3 and 7 of "Turned-back calls". Assumes nothing.
 use Prim.Native.Nat.{ℕ, _*_}
 use mathlib.Core.Bool.{Bool, _&&_}
+use mathlib.Core.List.{List}
 use lib.Dec.{eqb, leb}
 use lib.Ieee.{Float, le}
+use lib.ListN.{length}
 use Rattle.vectors.specs.Distance.{f32}
 
 pub record Sizes : Type 0 where
@@ -50,16 +52,41 @@ sizes-ok l z = within 1 (l .dim) (z .dim) && within 1 (l .capacity) (z .capacity
 unfoldable pub alpha-ok : Float → Bool
 alpha-ok alpha = le (f32 1) alpha && le alpha (f32 2)
 
--- the lengths of an index's six slices
+-- what an index's six slices hold: dim bytes, degree targets and as many edge versions, a version and a mark for each slot; words of the landmark pool
+pub record Slices : Type 0 where
+  pub vectors : List ℕ
+  pub targets : List ℕ
+  pub edges : List ℕ
+  pub versions : List ℕ
+  pub marks : List ℕ
+  pub pool : List ℕ
+
+-- one by one
+abbrev pub slices : List ℕ → List ℕ → List ℕ → List ℕ → List ℕ → List ℕ → Slices
+slices vectors targets edges versions marks pool =
+    record { vectors = vectors; targets = targets; edges = edges; versions = versions; marks = marks; pool = pool }
+
+-- their lengths
 pub record Lengths : Type 0 where
   pub vectors : ℕ
   pub targets : ℕ
-  pub edge-versions : ℕ
+  pub edges : ℕ
   pub versions : ℕ
   pub marks : ℕ
   pub pool : ℕ
 
+abbrev pub lengths-of : Slices → Lengths
+lengths-of s =
+    record {
+      vectors = length (s .vectors);
+      targets = length (s .targets);
+      edges = length (s .edges);
+      versions = length (s .versions);
+      marks = length (s .marks);
+      pool = length (s .pool);
+    }
+
 unfoldable pub lengths-ok : Limits → Sizes → Lengths → Bool
 lengths-ok l z n =
-    eqb (n .vectors) (z .capacity * z .dim) && eqb (n .targets) (z .capacity * z .degree) && eqb (n .edge-versions) (z .capacity * z .degree)
+    eqb (n .vectors) (z .capacity * z .dim) && eqb (n .targets) (z .capacity * z .degree) && eqb (n .edges) (z .capacity * z .degree)
     && eqb (n .versions) (z .capacity) && eqb (n .marks) (z .capacity) && eqb (n .pool) (l .pool)

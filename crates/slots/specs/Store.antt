@@ -22,7 +22,7 @@ pub record Arrays : Type 0 where
   pub degree : ℕ
   pub vectors : List ℕ
   pub targets : List ℕ
-  pub edge-versions : List ℕ
+  pub edges : List ℕ
   pub versions : List ℕ
   pub marks : List ℕ
 
@@ -30,7 +30,7 @@ pub record Arrays : Type 0 where
 pub record Shaped (n : ℕ) (a : Arrays) : Type 0 where
   pub vectors-long : length (a .vectors) ≡ n * a .dim
   pub targets-long : length (a .targets) ≡ n * a .degree
-  pub edges-long : length (a .edge-versions) ≡ n * a .degree
+  pub edges-long : length (a .edges) ≡ n * a .degree
   pub versions-long : length (a .versions) ≡ n
   pub marks-long : length (a .marks) ≡ n
 
@@ -63,7 +63,7 @@ unfoldable pub vector-of : Arrays → ℕ → List ℕ
 vector-of a s = part (a .dim) s (a .vectors)
 
 unfoldable pub refs-of : Arrays → ℕ → List ℕ
-refs-of a s = current (a .versions) (part (a .degree) s (a .targets)) (part (a .degree) s (a .edge-versions))
+refs-of a s = current (a .versions) (part (a .degree) s (a .targets)) (part (a .degree) s (a .edges))
 
 unfoldable pub store-view : Store → View
 store-view b =
@@ -72,7 +72,7 @@ store-view b =
       sizes = record { dim = a .dim; capacity = b .capacity; degree = a .degree; alpha = b .alpha };
       entry = b .entry;
       live = is-valid (a .marks);
-      vector = vector-of a;
+      space = record { vector = vector-of a };
       refs = refs-of a;
     }
 
@@ -95,7 +95,7 @@ write-neighbors a s ids =
       degree = a .degree;
       vectors = a .vectors;
       targets = put-part (a .degree) s row (a .targets);
-      edge-versions = put-part (a .degree) s (map (edge-version (a .versions)) row) (a .edge-versions);
+      edges = put-part (a .degree) s (map (edge-version (a .versions)) row) (a .edges);
       versions = a .versions;
       marks = a .marks;
     }
@@ -108,7 +108,7 @@ write-vector a s vector =
       degree = a .degree;
       vectors = put-part (a .dim) s vector (a .vectors);
       targets = a .targets;
-      edge-versions = a .edge-versions;
+      edges = a .edges;
       versions = a .versions;
       marks = a .marks;
     }
@@ -121,7 +121,7 @@ set-mark a s mark =
       degree = a .degree;
       vectors = a .vectors;
       targets = a .targets;
-      edge-versions = a .edge-versions;
+      edges = a .edges;
       versions = a .versions;
       marks = set (a .marks) s mark;
     }
@@ -134,7 +134,7 @@ next-version a s =
       degree = a .degree;
       vectors = a .vectors;
       targets = a .targets;
-      edge-versions = a .edge-versions;
+      edges = a .edges;
       versions = set (a .versions) s (suc (getD (a .versions) s 0) % 65536);
       marks = a .marks;
     }
@@ -167,7 +167,7 @@ new-arrays z given vectors rows =
       degree = z .degree;
       vectors = vectors ++ replicate (free * z .dim) 0;
       targets = rows ++ replicate (free * z .degree) blank;
-      edge-versions = replicate (z .capacity * z .degree) 0;
+      edges = replicate (z .capacity * z .degree) 0;
       versions = replicate (z .capacity) 0;
       marks = replicate given 1 ++ replicate free 0;
     }

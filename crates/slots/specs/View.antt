@@ -2,8 +2,8 @@
 use Prim.Native.Nat.{ℕ}
 use mathlib.Core.Bool.{Bool, not}
 use mathlib.Core.List.{List}
-use Rattle.lists.specs.Lists.{filter, range}
-use Rattle.vectors.specs.Distance.{distance}
+use Rattle.lists.specs.Lists.{filter, range, sorted-set}
+use Rattle.vectors.specs.Space.{Space}
 use Rattle.slots.specs.Sizes.{Sizes}
 
 pub record View : Type 0 where
@@ -12,8 +12,8 @@ pub record View : Type 0 where
   pub entry : ℕ
   -- `is_valid`; false of a slot outside
   pub live : ℕ → Bool
-  -- the stored bytes of a slot, a dead one's too; empty of a slot outside
-  pub vector : ℕ → List ℕ
+  -- the vectors
+  pub space : Space
   -- the targets, in row order, of the references whose edge version is their target's version, the target live or dead
   pub refs : ℕ → List ℕ
 
@@ -28,9 +28,6 @@ live-slots v = filter (v .live) (range 0 (v .sizes .capacity))
 abbrev pub free-slots : View → List ℕ
 free-slots v = filter (λ s. not (v .live s)) (range 0 (v .sizes .capacity))
 
--- the distance of two slots, and of a query and a slot: no algorithm reads distances otherwise
-unfoldable pub slot-distance : View → ℕ → ℕ → ℕ
-slot-distance v a b = distance (v .vector a) (v .vector b)
-
-unfoldable pub query-distance : View → List ℕ → ℕ → ℕ
-query-distance v query s = distance query (v .vector s)
+-- the slots that a delete empties: the live ones of the ids, rising, each once
+unfoldable pub emptied : View → List ℕ → List ℕ
+emptied v ids = sorted-set (filter (v .live) ids)

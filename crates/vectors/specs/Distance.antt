@@ -1,8 +1,7 @@
 -- The distance of two vectors: document 01, "Grey values and distance"; the `D` given to the Rust. A vector is the list of its bytes
 -- (document 01: grey values). Assumes nothing.
-use Prim.Native.Nat.{ℕ, _+_, _-_, _*_, _≤_}
+use Prim.Native.Nat.{ℕ, _+_, _-_, _*_}
 use mathlib.Core.List.{List, [], _∷_}
-use mathlib.Core.Path.{_≡_}
 use lib.IntN.{pos}
 use lib.Ieee.{Float, binary32, ofInt}
 
@@ -19,8 +18,3 @@ distance (x ∷ xs) (y ∷ ys) = squared-difference x y + distance xs ys
 -- a whole number as an f32; exact up to 2 ^ 24
 unfoldable pub f32 : ℕ → Float
 f32 n = ofInt binary32 (pos n)
-
--- what `distance` promises: the distance, which an f32 holds exactly
-pub record Distance (a b : List ℕ) (r : ℕ) : Type 0 where
-  pub equals : r ≡ distance a b
-  pub bound : r ≤ 16646400

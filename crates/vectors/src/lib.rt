@@ -3,7 +3,8 @@ ghost use mathlib.Core.Path.{_≡_};
 ghost use Prim.Native.Nat.{_+_, _*_, _<_, _≤_};
 ghost use lib.ListN.{length};
 ghost use Rattle.lists.specs.Lists.{part};
-ghost use Rattle.vectors.specs.Distance.{squared-difference, Distance};
+ghost use Rattle.vectors.specs.Distance.{squared-difference, distance};
+ghost use Rattle.vectors.specs.Space.{slot-distance, query-distance, space, Measured};
 ghost use Rattle.vectors.specs.Vector.{Bytes, live-vector};
 
 // The squared difference of two bytes.
@@ -21,7 +22,7 @@ fn squared_difference(x: u8, y: u8) -> u32
 // The sum of the squared differences of two vectors of one length.
 pub fn distance(a: &[u8], b: &[u8]) -> u32
     requires { ⌜ (length (now a) ≡ length (now b)) × (length (now a) ≤ 256) ⌝ }
-    ensures { λ r. ⌜ Distance (now (a .entry)) (now (b .entry)) r ⌝ }
+    ensures { λ r. ⌜ Measured (distance (now (a .entry)) (now (b .entry))) r ⌝ }
 {
     let mut sum: u32 = 0;
     let mut i: usize = 0;
@@ -59,7 +60,7 @@ pub fn live_vector<'a>(dim: usize, vectors: &'a [u8], marks: &[u8], s: usize) ->
 // The distance of the vectors of two slots.
 pub fn slot_distance(dim: usize, vectors: &[u8], s: usize, t: usize) -> u32
     requires { ⌜ (s * dim + dim ≤ length (now vectors)) × (t * dim + dim ≤ length (now vectors)) × (dim ≤ 256) ⌝ }
-    ensures { λ r. ⌜ Distance (part dim s (now (vectors .entry))) (part dim t (now (vectors .entry))) r ⌝ }
+    ensures { λ r. ⌜ Measured (slot-distance (space dim (now (vectors .entry))) s t) r ⌝ }
 {
     distance(vector(dim, vectors, s), vector(dim, vectors, t))
 }
@@ -67,7 +68,7 @@ pub fn slot_distance(dim: usize, vectors: &[u8], s: usize, t: usize) -> u32
 // The distance of a query and the vector of a slot.
 pub fn query_distance(dim: usize, vectors: &[u8], query: &[u8], s: usize) -> u32
     requires { ⌜ (s * dim + dim ≤ length (now vectors)) × (length (now query) ≡ dim) × (dim ≤ 256) ⌝ }
-    ensures { λ r. ⌜ Distance (now (query .entry)) (part dim s (now (vectors .entry))) r ⌝ }
+    ensures { λ r. ⌜ Measured (query-distance (space dim (now (vectors .entry))) (now (query .entry)) s) r ⌝ }
 {
     distance(query, vector(dim, vectors, s))
 }

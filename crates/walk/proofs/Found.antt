@@ -8,10 +8,11 @@ use lib.ListN.{length}
 use Rattle.lists.specs.Lists.{All, elem}
 use Rattle.candidates.specs.Words.{cands}
 use Rattle.candidates.proofs.Words.{cands-none, outside-none, outside-then}
+use Rattle.vectors.specs.Space.{query-distance, space}
 use Rattle.slots.specs.Store.{Arrays, Store, is-valid, store-view}
 use Rattle.slots.proofs.Places.{live-inside}
 use Rattle.walk.specs.Walk.{State, turns, graph-search, search-pool}
-use Rattle.walk.specs.Scratch.{dist-to, near-of, near-but, state-of, first-state, Walkable, Begun, Stepped, Ready, Found, Pool}
+use Rattle.walk.specs.Scratch.{near-of, near-but, state-of, first-state, Walkable, Begun, Stepped, Ready, Found, Pool}
 use Rattle.walk.proofs.Ordered as Ordered
 use Rattle.walk.proofs.Ordered.{graph-search-inside, graph-search-found}
 use Rattle.walk.proofs.Seen.{near-inside, near-all, walk-view}
@@ -24,13 +25,13 @@ begun-goes r e b = b .goes _ (omega arith) (omega (arith, r .beam-most))
 
 -- from the start to the last turn
 pub found-by : (a : Arrays) {query : List ℕ} {start beam width d s : ℕ} {ids w v w′ : List ℕ} {r : ℕ} → Ready a query start beam w → elem start ids ≡ false
-    → width ≡ max 1 beam → s ≡ start → d ≡ dist-to (a .dim) (a .vectors) query s → Begun (length (a .marks)) ids d start w v
-    → Stepped (length (a .marks)) width v (turns width (dist-to (a .dim) (a .vectors) query) (near-of a) (length (a .marks)) (state-of (length (a .marks)) v 1)) w′ r 0
+    → width ≡ max 1 beam → s ≡ start → d ≡ query-distance (space (a .dim) (a .vectors)) query s → Begun (length (a .marks)) ids d start w v
+    → Stepped (length (a .marks)) width v (turns width (query-distance (space (a .dim) (a .vectors)) query) (near-of a) (length (a .marks)) (state-of (length (a .marks)) v 1)) w′ r 0
     → Found a query (near-but ids) start beam w w′ r
 unfolding near-but
 found-by a {query} {start} {beam} {width} {d} {s} {ids} {w} {v} {w′} {r} f m e q p b g =
     let capacity : ℕ = length (a .marks) in
-    let dist : ℕ → ℕ = dist-to (a .dim) (a .vectors) query in
+    let dist : ℕ → ℕ = query-distance (space (a .dim) (a .vectors)) query in
     let own : d ≡ dist start = p ∙ ap dist q in
     let from : state-of capacity v 1 ≡ first-state capacity ids (dist start) start = b .holds ∙ ap (λ (x : ℕ). first-state capacity ids x start) own in
     record {
@@ -58,16 +59,16 @@ found-all {a} {query} {start} {beam} f g =
 -- ---- what the list is like: in order, each slot once, with its own distance, and all slots are inside; or live, where the start is
 module _ {a : Arrays} {query : List ℕ} {near : Arrays → ℕ → List ℕ} {start beam : ℕ} {w w′ : List ℕ} {r : ℕ} (f : Found a query near start beam w w′ r) where
   pub found-inside : start < length (a .marks) → ((s : ℕ) → All (λ t. t < length (a .marks)) (near a s))
-      → Ordered.Found (λ s. s < length (a .marks)) (max 1 beam) (dist-to (a .dim) (a .vectors) query) (cands w′ 0 r)
+      → Ordered.Found (λ s. s < length (a .marks)) (max 1 beam) (query-distance (space (a .dim) (a .vectors)) query) (cands w′ 0 r)
   found-inside h k = rw (f .list) (graph-search-inside (length (a .marks)) start beam _ (near a) h (λ s _. k s))
 
   pub found-live : is-valid (a .marks) start ≡ true → ((s : ℕ) → All (λ t. is-valid (a .marks) t ≡ true) (near a s))
-      → Ordered.Found (λ s. is-valid (a .marks) s ≡ true) (max 1 beam) (dist-to (a .dim) (a .vectors) query) (cands w′ 0 r)
+      → Ordered.Found (λ s. is-valid (a .marks) s ≡ true) (max 1 beam) (query-distance (space (a .dim) (a .vectors)) query) (cands w′ 0 r)
   found-live h k = rw (f .list) (graph-search-found (length (a .marks)) start beam _ (near a) _ (live-inside (a .marks)) (λ s _. k s) h)
 
 -- ---- from the entry
 search-live : (b : Store) (query : List ℕ) (beam : ℕ) → is-valid (b .arrays .marks) (b .entry) ≡ true
-    → graph-search (b .capacity) (b .entry) beam (dist-to (b .arrays .dim) (b .arrays .vectors) query) (near-of (b .arrays)) ≡ search-pool (store-view b) query beam
+    → graph-search (b .capacity) (b .entry) beam (query-distance (space (b .arrays .dim) (b .arrays .vectors)) query) (near-of (b .arrays)) ≡ search-pool (store-view b) query beam
 unfolding search-pool store-view
 search-live b query beam h = walk-view b query (b .entry) beam ∙ rw h
 

@@ -13,7 +13,8 @@ use Rattle.lists.specs.Lists.{All, Ordered, filter, elem, foldl, sort-by}
 use Rattle.lists.proofs.All.{by-cases, all-map, all-both, all-append, all-take, all-filter, filter-test, all-sort, foldl-keeps}
 use Rattle.lists.proofs.Ordered.{sort-ordered}
 use Rattle.candidates.specs.Candidates.{Candidate, before, nearer}
-use Rattle.slots.specs.View.{View, live-neighbors, query-distance}
+use Rattle.slots.specs.View.{View, live-neighbors}
+use Rattle.vectors.specs.Space.{query-distance}
 use Rattle.walk.specs.Walk.{State, unexpanded, enter, ends, meet, expand, graph-search, search-pool}
 use Rattle.walk.specs.Walk as Walk
 use Rattle.walk.specs.GreedySearch.{Rules, Search, nearest, join, visit, turn, unvisited, turns, greedy-search, paper, amended}
@@ -222,9 +223,9 @@ graph-search-greedy capacity start k beam dist neighbors h near =
 module _ (v : View) (inside : (s : ℕ) → v .live s ≡ true → s < v .sizes .capacity) where
   pub search-pool-greedy : (query : List ℕ) (k beam : ℕ) → v .live (v .entry) ≡ true
       → take k (search-pool v query beam)
-      ≡ greedy-search amended (v .sizes .capacity) (v .entry) k beam (query-distance v query) (live-neighbors v) .0
+      ≡ greedy-search amended (v .sizes .capacity) (v .entry) k beam (query-distance (v .space) query) (live-neighbors v) .0
   unfolding search-pool
   search-pool-greedy query k beam h =
       rw h
-      (graph-search-greedy (v .sizes .capacity) (v .entry) k beam (query-distance v query) (live-neighbors v) (inside (v .entry) h)
+      (graph-search-greedy (v .sizes .capacity) (v .entry) k beam (query-distance (v .space) query) (live-neighbors v) (inside (v .entry) h)
       (λ s l. all-map _ _ inside (live-neighbors v s) (filter-test (v .live) (v .refs s))))

@@ -13,7 +13,8 @@ use Rattle.lists.specs.Lists.{All, Pairwise, Ordered, insert-by, init}
 use Rattle.lists.proofs.All.{by-cases, all-map, all-init, all-insert, filter-test, foldl-keeps}
 use Rattle.lists.proofs.Ordered.{length-insert, length-init, pairwise-init, ordered-insert}
 use Rattle.candidates.specs.Candidates.{Candidate, before}
-use Rattle.slots.specs.View.{View, live-neighbors, query-distance}
+use Rattle.slots.specs.View.{View, live-neighbors}
+use Rattle.vectors.specs.Space.{query-distance}
 use Rattle.walk.specs.Walk.{State, unexpanded, worst, enter, ends, meet, expand, turn, turns, graph-search, search-pool}
 -- no name of it is used: the examples are checked first, so that they are the first to refuse a wrong definition
 use Rattle.walk.proofs.Cases
@@ -171,10 +172,10 @@ found-once {dist = dist} {list} f = go list (f .order) (f .dists)
 
 -- `search-pool` gives live slots
 pub search-pool-found : (v : View) (query : List ℕ) (beam : ℕ) → ((s : ℕ) → v .live s ≡ true → s < v .sizes .capacity)
-    → Found (λ s. v .live s ≡ true) (max 1 beam) (query-distance v query) (search-pool v query beam)
+    → Found (λ s. v .live s ≡ true) (max 1 beam) (query-distance (v .space) query) (search-pool v query beam)
 unfolding search-pool
 search-pool-found v query beam inside =
-    by-cases (Found (λ s. v .live s ≡ true) (max 1 beam) (query-distance v query)) (v .live (v .entry))
-    (graph-search-found (v .sizes .capacity) (v .entry) beam (query-distance v query) (live-neighbors v) (λ s. v .live s ≡ true) inside
+    by-cases (Found (λ s. v .live s ≡ true) (max 1 beam) (query-distance (v .space) query)) (v .live (v .entry))
+    (graph-search-found (v .sizes .capacity) (v .entry) beam (query-distance (v .space) query) (live-neighbors v) (λ s. v .live s ≡ true) inside
     (λ s h. filter-test (v .live) (v .refs s)))
     (λ e. record { order = tt; holds = tt; dists = tt; short = omega arith })

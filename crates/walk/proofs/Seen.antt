@@ -5,39 +5,35 @@ use mathlib.Core.Path.{_≡_, refl, sym}
 use mathlib.Core.List.{List, [], _∷_}
 use native.Mathlib.Omega.{arith}
 use lib.ListN.{length}
-use Rattle.lists.specs.Lists.{All, filter, elem, sorted-set, part}
+use Rattle.lists.specs.Lists.{All, filter, elem, sorted-set}
 use Rattle.lists.proofs.All.{all-map, all-filter, filter-test}
 use Rattle.lists.proofs.Parts.{fits-in}
 use Rattle.lists.proofs.Filter.{filter-every}
 use Rattle.lists.proofs.Members.{elem-sorted}
-use Rattle.vectors.specs.Distance.{Distance}
-use Rattle.slots.specs.View.{live-neighbors, query-distance}
+use Rattle.slots.specs.View.{live-neighbors}
+use Rattle.vectors.specs.Space.{query-distance, space, Measured}
 use Rattle.slots.specs.Store.{Arrays, Store, is-valid, vector-of, store-view, refs-of}
 use Rattle.slots.specs.Rows.{live-from}
 use Rattle.slots.proofs.Places.{live-inside, live-from-whole}
 use Rattle.walk.specs.Walk.{graph-search}
-use Rattle.walk.specs.Scratch.{dist-to, near-of, near-but, Vectors}
+use Rattle.walk.specs.Scratch.{near-of, near-but, Vectors}
 
 -- a walk over the slices is a walk over the view of them
 pub walk-view : (b : Store) (query : List ℕ) (start beam : ℕ)
-    → graph-search (b .capacity) start beam (dist-to (b .arrays .dim) (b .arrays .vectors) query) (near-of (b .arrays))
-    ≡ graph-search (b .capacity) start beam (query-distance (store-view b) query) (live-neighbors (store-view b))
-unfolding dist-to near-of query-distance store-view vector-of
+    → graph-search (b .capacity) start beam (query-distance (space (b .arrays .dim) (b .arrays .vectors)) query) (near-of (b .arrays))
+    ≡ graph-search (b .capacity) start beam (query-distance (store-view b .space) query) (live-neighbors (store-view b))
+unfolding near-of query-distance space store-view vector-of
 walk-view b query start beam = refl
 
 -- and so it is with slots left out
 pub walk-view-but : (ids : List ℕ) (b : Store) (query : List ℕ) (start beam : ℕ)
-    → graph-search (b .capacity) start beam (dist-to (b .arrays .dim) (b .arrays .vectors) query) (near-but ids (b .arrays))
-    ≡ graph-search (b .capacity) start beam (query-distance (store-view b) query) (λ s. filter (λ t. not (elem t ids)) (live-neighbors (store-view b) s))
-unfolding dist-to near-of near-but query-distance store-view vector-of
+    → graph-search (b .capacity) start beam (query-distance (space (b .arrays .dim) (b .arrays .vectors)) query) (near-but ids (b .arrays))
+    ≡ graph-search (b .capacity) start beam (query-distance (store-view b .space) query) (λ s. filter (λ t. not (elem t ids)) (live-neighbors (store-view b) s))
+unfolding near-of near-but query-distance space store-view vector-of
 walk-view-but ids b query start beam = refl
 
 -- ---- distances
-pub dist-by : (dim : ℕ) (vectors : List ℕ) (s : ℕ) {query : List ℕ} {r : ℕ} → Distance query (part dim s vectors) r → r ≡ dist-to dim vectors query s
-unfolding dist-to
-dist-by dim vectors s f = f .equals
-
-pub dist-small : {a b : List ℕ} {r : ℕ} → Distance a b r → r ≤ 16777216
+pub dist-small : {d r : ℕ} → Measured d r → r ≤ 16777216
 dist-small f = omega (arith, f .bound)
 
 -- what the distance of a slot inside asks

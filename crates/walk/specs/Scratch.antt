@@ -5,8 +5,8 @@ use mathlib.Core.Bool.{true, false, not}
 use mathlib.Core.List.{List, [], _∷_}
 use mathlib.Core.Path.{_≡_}
 use lib.ListN.{length, take, drop, getD, set, replicate}
-use Rattle.lists.specs.Lists.{All, Ordered, filter, elem, foldl, part}
-use Rattle.vectors.specs.Distance.{distance}
+use Rattle.lists.specs.Lists.{All, Ordered, filter, elem, foldl}
+use Rattle.vectors.specs.Space.{query-distance, space}
 use Rattle.candidates.specs.Candidates.{Candidate, before}
 use Rattle.candidates.specs.Words.{pair, cand, cands, Small, Outside}
 use Rattle.slots.specs.Store.{Arrays, Store, is-valid, refs-of, store-view}
@@ -14,10 +14,7 @@ use Rattle.slots.specs.Rows.{RowShape}
 use Rattle.walk.specs.Walk.{State, enter, ends, graph-search, search-pool}
 use Rattle.walk.specs.Walk as Walk
 
--- ---- what the walk sees of the lent slices: `query-distance` and `live-neighbors` of a view (`walk-view`)
-unfoldable pub dist-to : ℕ → List ℕ → List ℕ → ℕ → ℕ
-dist-to dim vectors query s = distance query (part dim s vectors)
-
+-- ---- what the walk sees of the lent slices: the `live-neighbors` of a view (`walk-view`)
 unfoldable pub near-of : Arrays → ℕ → List ℕ
 near-of a s = filter (is-valid (a .marks)) (refs-of a s)
 
@@ -44,13 +41,13 @@ mark-all marks ids = foldl (λ m s. set m s 1) marks ids
 
 -- what the definition makes of the state in the words: slot t is met, the candidate at place i is expanded, and all turns are taken
 abbrev pub meets : ℕ → List ℕ → List ℕ → ℕ → ℕ → List ℕ → ℕ → ℕ → State
-meets dim vectors query capacity beam w n t = Walk.meet beam (dist-to dim vectors query) (λ _. []) (state-of capacity w n) t
+meets dim vectors query capacity beam w n t = Walk.meet beam (query-distance (space dim vectors) query) (λ _. []) (state-of capacity w n) t
 
 abbrev pub expands : Arrays → List ℕ → ℕ → List ℕ → ℕ → ℕ → State
-expands a query beam w n i = Walk.expand beam (dist-to (a .dim) (a .vectors) query) (near-of a) (state-of (length (a .marks)) w n) (cand w (2 * i))
+expands a query beam w n i = Walk.expand beam (query-distance (space (a .dim) (a .vectors)) query) (near-of a) (state-of (length (a .marks)) w n) (cand w (2 * i))
 
 abbrev pub takes-turns : Arrays → List ℕ → ℕ → List ℕ → ℕ → State
-takes-turns a query beam w n = Walk.turns beam (dist-to (a .dim) (a .vectors) query) (near-of a) (length (a .marks)) (state-of (length (a .marks)) w n)
+takes-turns a query beam w n = Walk.turns beam (query-distance (space (a .dim) (a .vectors)) query) (near-of a) (length (a .marks)) (state-of (length (a .marks)) w n)
 
 -- the first state: the start is in the list, and it and the slots to be left out are met
 abbrev pub first-state : ℕ → List ℕ → ℕ → ℕ → State
@@ -141,7 +138,7 @@ pub record Vectors (dim capacity : ℕ) (vectors query : List ℕ) : Type 0 wher
 -- slices that belong together
 pub record Lent (a : Arrays) (query : List ℕ) : Type 0 where
   pub vectors : Vectors (a .dim) (length (a .marks)) (a .vectors) query
-  pub rows : RowShape (a .degree) (a .targets) (a .edge-versions) (a .versions) (a .marks)
+  pub rows : RowShape (a .degree) (a .targets) (a .edges) (a .versions) (a .marks)
 
 -- what a walk asks
 pub record Ready (a : Arrays) (query : List ℕ) (start beam : ℕ) (w : List ℕ) : Type 0 where
@@ -152,7 +149,7 @@ pub record Ready (a : Arrays) (query : List ℕ) (start beam : ℕ) (w : List �
 
 -- what a walk leaves: r candidates, those of `graph-search`; `near` is `near-of`, or `near-but` some slots
 pub record Found (a : Arrays) (query : List ℕ) (near : Arrays → ℕ → List ℕ) (start beam : ℕ) (w w′ : List ℕ) (r : ℕ) : Type 0 where
-  pub list : cands w′ 0 r ≡ graph-search (length (a .marks)) start beam (dist-to (a .dim) (a .vectors) query) (near a)
+  pub list : cands w′ 0 r ≡ graph-search (length (a .marks)) start beam (query-distance (space (a .dim) (a .vectors)) query) (near a)
   pub few : r ≤ max 1 beam
   pub small : Small (cands w′ 0 r)
   pub size : length w′ ≡ length w

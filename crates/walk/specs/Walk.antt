@@ -6,7 +6,8 @@ use lib.ListN.{length, getD, set, replicate}
 use lib.Dec.{eqb, ltb, leb}
 use Rattle.lists.specs.Lists.{foldl, insert-by, last, init}
 use Rattle.candidates.specs.Candidates.{Candidate, before}
-use Rattle.slots.specs.View.{View, live-neighbors, query-distance}
+use Rattle.slots.specs.View.{View, live-neighbors}
+use Rattle.vectors.specs.Space.{query-distance}
 
 -- the list, in the order of candidates, and a mark for each slot: 0 not met, 1 met, 2 expanded
 pub record State : Type 0 where
@@ -57,4 +58,4 @@ graph-search capacity start beam dist neighbors =
 -- `search_pool`
 unfoldable pub search-pool : View → List ℕ → ℕ → List Candidate
 search-pool v query beam =
-    cond (v .live (v .entry)) (graph-search (v .sizes .capacity) (v .entry) beam (query-distance v query) (live-neighbors v)) []
+    cond (v .live (v .entry)) (graph-search (v .sizes .capacity) (v .entry) beam (query-distance (v .space) query) (live-neighbors v)) []

@@ -2,21 +2,21 @@
 use Prim.Native.Nat.{_-_}
 use mathlib.Core.Path.{refl}
 use borrow.Author.Needs.{needs}
-use Rattle.prune.specs.Selecting.{between}
+use Rattle.vectors.specs.Space.{slot-distance, space}
 use Rattle.prune.proofs.Selecting.{first-threshold, Scanning, scanning-none, scanning-more, Passing, passing-none, passing-more, passing-full, passing-last, passing-done, passing-given}
 use Rattle.prune.proofs.select.Statement.{statement}
 use Rattle.prune.proofs.select.Tie as tie
 
 abbrev Inv-loop : tie.InvT-loop
 Inv-loop degree alpha dim vectors factors₀ words₀ a to n m₀ threshold pass i₀ factors words m i =
-    Scanning degree alpha (between dim vectors) a n to threshold pass factors₀ words₀ m₀ factors words m i
+    Scanning degree alpha (slot-distance (space dim vectors)) a n to threshold pass factors₀ words₀ m₀ factors words m i
 
 abbrev μ-loop : tie.MeasureT-loop
 μ-loop degree alpha dim vectors factors₀ words₀ a to n m₀ threshold pass i₀ factors words m i = n - i
 
 abbrev Inv-passes : tie.InvT-passes
 Inv-passes degree alpha dim vectors factors₀ words₀ a to n m₀ threshold₀ pass₀ factors words m threshold pass =
-    Passing degree alpha (between dim vectors) a n to factors₀ words₀ factors words m threshold pass
+    Passing degree alpha (slot-distance (space dim vectors)) a n to factors₀ words₀ factors words m threshold pass
 
 abbrev μ-passes : tie.MeasureT-passes
 μ-passes degree alpha dim vectors factors₀ words₀ a to n m₀ threshold₀ pass₀ factors words m threshold pass =

@@ -5,13 +5,13 @@ use native.Mathlib.Omega.{arith}
 use lib.ListN.{length-set}
 use borrow.Author.Needs.{needs}
 use Rattle.candidates.specs.Words.{cand}
-use Rattle.prune.specs.Selecting.{between}
+use Rattle.vectors.specs.Space.{slot-distance, space}
 use Rattle.prune.proofs.Settling.{Raising, raising-none, raising-more, raising-done, given-small, given-stored}
 use Rattle.prune.proofs.settle.Statement.{statement}
 use Rattle.prune.proofs.settle.Tie as tie
 
 abbrev Inv-loop : tie.InvT-loop
-Inv-loop alpha dim vectors factors₀ words a i n y j₀ factors j = Raising alpha (between dim vectors) words a n (cand words (a + 2 * i)) factors₀ j₀ factors j
+Inv-loop alpha dim vectors factors₀ words a i n y j₀ factors j = Raising alpha (slot-distance (space dim vectors)) words a n (cand words (a + 2 * i)) factors₀ j₀ factors j
 
 abbrev μ-loop : tie.MeasureT-loop
 μ-loop alpha dim vectors factors₀ words a i n y j₀ factors j = n - j

@@ -9,7 +9,8 @@ use Rattle.lists.specs.Lists.{foldl}
 use Rattle.slots.specs.Rows.{arrays, live-from}
 use Rattle.slots.proofs.Places.{live-from-end, live-from-at, live-from-dead, ref-inside}
 use Rattle.walk.specs.Walk.{meet}
-use Rattle.walk.specs.Scratch.{dist-to, near-of, state-of}
+use Rattle.vectors.specs.Space.{query-distance, space}
+use Rattle.walk.specs.Scratch.{near-of, state-of}
 use Rattle.walk.proofs.Seen.{near-from}
 use Rattle.walk.proofs.Walking.{Meeting, meeting-none, meeting-live, meeting-dead, meeting-done, expands-inside, expands-goes, expanded-by}
 use Rattle.walk.proofs.expand.Statement.{statement}
@@ -18,8 +19,8 @@ use Rattle.walk.proofs.expand.Tie as tie
 abbrev Inv-loop : tie.InvT-loop
 Inv-loop dim degree vectors targets edges versions marks query beam scratch₀ i s now₀ place₀ scratch now place =
     (place ≤ degree)
-    × Meeting (length marks) beam (dist-to dim vectors query) (near-of (arrays dim degree vectors targets edges versions marks)) scratch₀
-    (foldl (meet beam (dist-to dim vectors query) (near-of (arrays dim degree vectors targets edges versions marks))) (state-of (length marks) scratch₀ (now₀ .count)) (near-of (arrays dim degree vectors targets edges versions marks) s))
+    × Meeting (length marks) beam (query-distance (space dim vectors) query) (near-of (arrays dim degree vectors targets edges versions marks)) scratch₀
+    (foldl (meet beam (query-distance (space dim vectors) query) (near-of (arrays dim degree vectors targets edges versions marks))) (state-of (length marks) scratch₀ (now₀ .count)) (near-of (arrays dim degree vectors targets edges versions marks) s))
     (live-from (arrays dim degree vectors targets edges versions marks) s place) scratch (now .count) (now .next)
 
 abbrev μ-loop : tie.MeasureT-loop

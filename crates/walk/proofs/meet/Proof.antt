@@ -1,5 +1,5 @@
 use Rattle.walk.proofs.Walking.{met-goes, met-old, met-new}
-use Rattle.walk.proofs.Seen.{dist-by, dist-small, dist-ready}
+use Rattle.walk.proofs.Seen.{dist-small, dist-ready}
 use borrow.Author.Needs.{needs}
 use Rattle.walk.proofs.meet.Statement.{statement}
 use Rattle.walk.proofs.meet.Tie as tie
@@ -36,10 +36,9 @@ enter-requires c κs =
 
 returns-2 : tie.Need-returns-2
 returns-2 c =
-    let a = c .before .before .before .before .before .before .before .before .before .before .before .args in
     let p = c .before .before .before .before .before .before .before .before .before .before .before .pre in
     let d = c .before .before .before .before .query-distance .ensures in
-    met-new _ _ (p .1) (p .2) (c .before .before .before .before .before .before .before .wide .ensures) (c .before .before .before .before .before .if1 .left) (dist-by (a .dim) (a .vectors .now) _ d) (dist-small d) (c .before .before .enter .ensures)
+    met-new _ _ (p .1) (p .2) (c .before .before .before .before .before .before .before .wide .ensures) (c .before .before .before .before .before .if1 .left) (d .equals) (dist-small d) (c .before .before .enter .ensures)
 
 same-length : tie.Need-same-length
 same-length c = returns-2 c .size

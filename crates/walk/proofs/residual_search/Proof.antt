@@ -1,4 +1,4 @@
-use Rattle.walk.proofs.Seen.{dist-by, dist-ready}
+use Rattle.walk.proofs.Seen.{dist-ready}
 use Rattle.walk.proofs.Found.{begun-goes, found-by}
 use borrow.Author.Needs.{needs}
 use Rattle.walk.proofs.residual_search.Statement.{statement}
@@ -25,8 +25,7 @@ same-length c = search needs
 returns : tie.Need-returns
 returns c =
     let p = c .before .before .before .before .before .before .before .before .before .before .before .before .before .before .before .before .before .before .before .pre in
-    let a = c .before .before .before .before .before .before .before .before .before .before .before .before .before .before .before .before .before .before .before .args in
-    found-by _ (p .0) (p .1) (c .before .before .before .before .before .before .before .before .before .before .at-least-one .ensures) (c .before .before .before .before .before .before .before .before .before .wide .ensures) (dist-by (a .dim) (a .vectors .now) _ (c .before .before .before .before .before .before .before .before .query-distance .ensures)) (c .before .before .before .before .before .before .begin .ensures) (c .before .before .take-turns .ensures)
+    found-by _ (p .0) (p .1) (c .before .before .before .before .before .before .before .before .before .before .at-least-one .ensures) (c .before .before .before .before .before .before .before .before .before .wide .ensures) (c .before .before .before .before .before .before .before .before .query-distance .ensures .equals) (c .before .before .before .before .before .before .begin .ensures) (c .before .before .take-turns .ensures)
 
 pub residual-search-spec : {M : Type 1} → statement M
 residual-search-spec =

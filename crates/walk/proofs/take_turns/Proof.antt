@@ -3,14 +3,15 @@ use Prim.Native.Nat.{_-_}
 use lib.ListN.{length}
 use native.Mathlib.Omega.{arith}
 use Rattle.slots.specs.Rows.{arrays}
-use Rattle.walk.specs.Scratch.{dist-to, near-of, takes-turns}
+use Rattle.vectors.specs.Space.{query-distance, space}
+use Rattle.walk.specs.Scratch.{near-of, takes-turns}
 use Rattle.walk.proofs.Walking.{Walking, walking-none, walking-out, walking-over, walking-more, below, moved-up, next-ready}
 use Rattle.walk.proofs.take_turns.Statement.{statement}
 use Rattle.walk.proofs.take_turns.Tie as tie
 
 abbrev Inv-loop : tie.InvT-loop
 Inv-loop dim degree vectors targets edges versions marks query beam scratch₀ held₀ counter₀ end scratch held counter =
-    Walking (length marks) beam (dist-to dim vectors query) (near-of (arrays dim degree vectors targets edges versions marks)) scratch₀
+    Walking (length marks) beam (query-distance (space dim vectors) query) (near-of (arrays dim degree vectors targets edges versions marks)) scratch₀
     (takes-turns (arrays dim degree vectors targets edges versions marks) query beam scratch₀ 1) (length marks - counter) scratch (held .count) (held .next)
 
 abbrev μ-loop : tie.MeasureT-loop

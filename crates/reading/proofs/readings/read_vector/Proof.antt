@@ -1,0 +1,48 @@
+use mathlib.Core.Path.{refl}
+use Rattle.index.proofs.Decide.{passed, passed-bytes}
+use Rattle.reading.proofs.Shown.{vector-back, vector-on}
+use Rattle.slots.specs.Sizes.{Slices, slices}
+use borrow.Author.Needs.{needs}
+use Rattle.reading.proofs.readings.read_vector.Statement.{statement}
+use Rattle.reading.proofs.readings.read_vector.Tie as tie
+
+-- the slices as they are lent
+abbrev lent : tie.Start → Slices
+lent s = let a = s .args in slices (a .vectors .now) (a .targets .now) (a .edges .now) (a .versions .now) (a .marks .now) (a .pool .now)
+
+index-refusal-requires : tie.Need-index-refusal-requires
+index-refusal-requires c κs = search needs
+
+sub-result : tie.Need-sub-result
+sub-result c = search needs
+
+part-result-start : tie.Need-part-result-start
+part-result-start c = search needs
+
+part-result-end : tie.Need-part-result-end
+part-result-end c = search needs
+
+returns : tie.Need-returns
+returns c = let s = c .before .before .before .before .before .before .before .before .before in vector-back (s .args .index) (lent s) (c .before .before .index-refusal .ensures) (c .before .if1 .taken) refl
+
+cast-dim : tie.Need-cast-dim
+cast-dim c = search needs
+
+live-vector-requires : tie.Need-live-vector-requires
+live-vector-requires c κs = let s = c .before .before .before .before .before .before .before .before .before in passed-bytes (passed (s .args .index) (lent s) tt (c .before .before .index-refusal .ensures) (c .before .if1 .left))
+
+returns-2 : tie.Need-returns-2
+returns-2 c = let s = c .before .before .before .before .before .before .before .before .before .before in vector-on (s .args .index) (lent s) (c .before .before .before .index-refusal .ensures) (c .before .before .if1 .left) (c .live-vector .ensures)
+
+pub read-vector-spec : {M : Type 1} → statement M
+read-vector-spec =
+    tie.close
+    (tie.spec
+    index-refusal-requires
+    sub-result
+    part-result-start
+    part-result-end
+    returns
+    cast-dim
+    live-vector-requires
+    returns-2)

@@ -1,0 +1,52 @@
+-- What a reading gives. Assumes nothing.
+use Prim.Native.Nat.{ℕ}
+use mathlib.Core.List.{List}
+use mathlib.Core.Path.{_≡_}
+use Rattle.slots.specs.Sizes.{Slices, slices}
+use Rattle.index.specs.declared.Index.{Index}
+use Rattle.reading.specs.declared.Reading.{Reading}
+use Rattle.reading.specs.declared.Reading.the-variants.{Dim, Capacity, Degree, Alpha, Entry, Live, Mark, Version, Target}
+use Rattle.reading.specs.declared.Value.{Value}
+use Rattle.reading.specs.declared.Value.the-variants.{Refused, Number, Alpha as Factor, Version as Stamp}
+use Rattle.calls.specs.Calls.{read-dim, read-capacity, read-degree, read-alpha, read-entry, read-live, read-mark, read-version, read-target, read, read-vector, Answer, refused, number, alpha, version, vector}
+use Rattle.calls.specs.Calls as Calls
+use Rattle.calls.specs.State.{stored}
+use Rattle.calls.specs.Step.{reading}
+use Rattle.calls.specs.Runs.{Run, Meets}
+use Rattle.index.specs.Index.{state-of}
+use Rattle.index.specs.Run as Run
+
+unfoldable pub reading-of : Reading → Calls.Reading
+reading-of Dim = read-dim
+reading-of Capacity = read-capacity
+reading-of Degree = read-degree
+reading-of Alpha = read-alpha
+reading-of Entry = read-entry
+reading-of Live = read-live
+reading-of (Mark s) = read-mark s
+reading-of (Version s) = read-version s
+reading-of (Target s place) = read-target s place
+
+unfoldable pub answer-of : Value → Answer
+answer-of (Refused n) = refused n
+answer-of (Number n) = number n
+answer-of (Factor a) = alpha a
+answer-of (Stamp n) = version n
+
+-- where no test holds, the rows, versions and marks decide
+pub record Answers (index : Index) (targets edges versions marks : List ℕ) (q : Reading) (r : Value) : Type 0 where
+  pub does : (vectors pool : List ℕ) → answer-of r ≡ reading stored (state-of index (slices vectors targets edges versions marks pool)) (reading-of q)
+
+-- ---- the runs, and what the calls promise
+
+abbrev pub read-run : Index → Slices → Reading → Value → Run
+read-run index s q r = Run.reading index s (read (reading-of q)) (answer-of r)
+
+pub record Reads (index : Index) (s : Slices) (q : Reading) (r : Value) : Type 0 where
+  pub meets : Meets (read-run index s q r)
+
+abbrev pub read-vector-run : Index → Slices → ℕ → List ℕ → Run
+read-vector-run index s slot part = Run.reading index s (read-vector slot) (vector part)
+
+pub record Reads-vector (index : Index) (s : Slices) (slot : ℕ) (part : List ℕ) : Type 0 where
+  pub meets : Meets (read-vector-run index s slot part)
