@@ -52,6 +52,11 @@ extern "C" {
 /* The largest beam; 0 acts as 1. */
 #define FINDER_MAX_BEAM 1024
 
+/* The six slices, as every function takes them that only reads them. */
+#define FINDER_LENT \
+    const uint8_t *vectors, size_t vectors_len, const uint32_t *targets, size_t targets_len, const uint16_t *edges, size_t edges_len, \
+    const uint16_t *versions, size_t versions_len, const uint8_t *marks, size_t marks_len, const uint32_t *pool, size_t pool_len
+
 /* The refusals. */
 #define FINDER_OK 0
 #define FINDER_BAD_SIZES 1      /* dim, capacity or degree is outside its range */
@@ -64,10 +69,10 @@ extern "C" {
 #define FINDER_SHORT_SCRATCH 8  /* the scratch is shorter than finder_scratch_words says */
 
 /*
- * How many words of scratch the calls on an index of these sizes ask for, at most 8,388,608. Written to *words.
+ * How many words of scratch the calls on an index of these sizes ask for, at most 8,388,608. Written to *size.
  * Refusals: 1.
  */
-uint32_t finder_scratch_words(uint32_t dim, uint32_t capacity, uint32_t degree, uint32_t *words);
+uint32_t finder_scratch_words(uint32_t dim, uint32_t capacity, uint32_t degree, uint32_t *size);
 
 /*
  * Makes an index of which the first count slots are given: bytes has the vectors (count * dim), rows the references (count * degree, each FINDER_BLANK or
@@ -78,7 +83,7 @@ uint32_t finder_create(uint32_t dim, uint32_t capacity, uint32_t degree, float a
     const uint8_t *bytes, size_t bytes_len, const uint32_t *rows, size_t rows_len,
     uint8_t *vectors, size_t vectors_len, uint32_t *targets, size_t targets_len, uint16_t *edges, size_t edges_len,
     uint16_t *versions, size_t versions_len, uint8_t *marks, size_t marks_len, uint32_t *pool, size_t pool_len,
-    uint32_t index[FINDER_INDEX_WORDS]);
+    uint32_t words[FINDER_INDEX_WORDS]);
 
 /*
  * Readings. Each writes what it read to *value.
@@ -86,67 +91,37 @@ uint32_t finder_create(uint32_t dim, uint32_t capacity, uint32_t degree, float a
  */
 
 /* The dim. */
-uint32_t finder_dim(const uint32_t index[FINDER_INDEX_WORDS],
-    const uint8_t *vectors, size_t vectors_len, const uint32_t *targets, size_t targets_len, const uint16_t *edges, size_t edges_len,
-    const uint16_t *versions, size_t versions_len, const uint8_t *marks, size_t marks_len, const uint32_t *pool, size_t pool_len,
-    uint32_t *value);
+uint32_t finder_dim(const uint32_t words[FINDER_INDEX_WORDS], FINDER_LENT, uint32_t *value);
 
 /* The capacity. */
-uint32_t finder_capacity(const uint32_t index[FINDER_INDEX_WORDS],
-    const uint8_t *vectors, size_t vectors_len, const uint32_t *targets, size_t targets_len, const uint16_t *edges, size_t edges_len,
-    const uint16_t *versions, size_t versions_len, const uint8_t *marks, size_t marks_len, const uint32_t *pool, size_t pool_len,
-    uint32_t *value);
+uint32_t finder_capacity(const uint32_t words[FINDER_INDEX_WORDS], FINDER_LENT, uint32_t *value);
 
 /* The degree. */
-uint32_t finder_degree(const uint32_t index[FINDER_INDEX_WORDS],
-    const uint8_t *vectors, size_t vectors_len, const uint32_t *targets, size_t targets_len, const uint16_t *edges, size_t edges_len,
-    const uint16_t *versions, size_t versions_len, const uint8_t *marks, size_t marks_len, const uint32_t *pool, size_t pool_len,
-    uint32_t *value);
+uint32_t finder_degree(const uint32_t words[FINDER_INDEX_WORDS], FINDER_LENT, uint32_t *value);
 
 /* Alpha. */
-uint32_t finder_alpha(const uint32_t index[FINDER_INDEX_WORDS],
-    const uint8_t *vectors, size_t vectors_len, const uint32_t *targets, size_t targets_len, const uint16_t *edges, size_t edges_len,
-    const uint16_t *versions, size_t versions_len, const uint8_t *marks, size_t marks_len, const uint32_t *pool, size_t pool_len,
-    float *value);
+uint32_t finder_alpha(const uint32_t words[FINDER_INDEX_WORDS], FINDER_LENT, float *value);
 
 /* The slot at which a search starts. */
-uint32_t finder_entry(const uint32_t index[FINDER_INDEX_WORDS],
-    const uint8_t *vectors, size_t vectors_len, const uint32_t *targets, size_t targets_len, const uint16_t *edges, size_t edges_len,
-    const uint16_t *versions, size_t versions_len, const uint8_t *marks, size_t marks_len, const uint32_t *pool, size_t pool_len,
-    uint32_t *value);
+uint32_t finder_entry(const uint32_t words[FINDER_INDEX_WORDS], FINDER_LENT, uint32_t *value);
 
 /* How many slots are live. */
-uint32_t finder_live(const uint32_t index[FINDER_INDEX_WORDS],
-    const uint8_t *vectors, size_t vectors_len, const uint32_t *targets, size_t targets_len, const uint16_t *edges, size_t edges_len,
-    const uint16_t *versions, size_t versions_len, const uint8_t *marks, size_t marks_len, const uint32_t *pool, size_t pool_len,
-    uint32_t *value);
+uint32_t finder_live(const uint32_t words[FINDER_INDEX_WORDS], FINDER_LENT, uint32_t *value);
 
 /* The mark of a slot: 1 where it is live, 0 where it is dead or outside. */
-uint32_t finder_mark(const uint32_t index[FINDER_INDEX_WORDS],
-    const uint8_t *vectors, size_t vectors_len, const uint32_t *targets, size_t targets_len, const uint16_t *edges, size_t edges_len,
-    const uint16_t *versions, size_t versions_len, const uint8_t *marks, size_t marks_len, const uint32_t *pool, size_t pool_len,
-    uint32_t slot, uint32_t *value);
+uint32_t finder_mark(const uint32_t words[FINDER_INDEX_WORDS], FINDER_LENT, uint32_t slot, uint32_t *value);
 
 /* The version of a slot, 0 to 65,535; 0 for a slot outside. */
-uint32_t finder_version(const uint32_t index[FINDER_INDEX_WORDS],
-    const uint8_t *vectors, size_t vectors_len, const uint32_t *targets, size_t targets_len, const uint16_t *edges, size_t edges_len,
-    const uint16_t *versions, size_t versions_len, const uint8_t *marks, size_t marks_len, const uint32_t *pool, size_t pool_len,
-    uint32_t slot, uint32_t *value);
+uint32_t finder_slot_version(const uint32_t words[FINDER_INDEX_WORDS], FINDER_LENT, uint32_t slot, uint32_t *value);
 
 /* The target at a place, from 0, among the live ones of a slot's row; FINDER_BLANK past the last and for a slot outside. */
-uint32_t finder_target(const uint32_t index[FINDER_INDEX_WORDS],
-    const uint8_t *vectors, size_t vectors_len, const uint32_t *targets, size_t targets_len, const uint16_t *edges, size_t edges_len,
-    const uint16_t *versions, size_t versions_len, const uint8_t *marks, size_t marks_len, const uint32_t *pool, size_t pool_len,
-    uint32_t slot, uint32_t place, uint32_t *value);
+uint32_t finder_target(const uint32_t words[FINDER_INDEX_WORDS], FINDER_LENT, uint32_t slot, uint32_t place, uint32_t *value);
 
 /*
  * How many bytes the vector of a slot has: dim where the slot is live, and they begin at vectors + (size_t)slot * dim; 0 where it is dead or outside, and
  * where the call is refused, with 1, 2, 3 or 6, which is not told.
  */
-size_t finder_vector(const uint32_t index[FINDER_INDEX_WORDS],
-    const uint8_t *vectors, size_t vectors_len, const uint32_t *targets, size_t targets_len, const uint16_t *edges, size_t edges_len,
-    const uint16_t *versions, size_t versions_len, const uint8_t *marks, size_t marks_len, const uint32_t *pool, size_t pool_len,
-    uint32_t slot);
+size_t finder_vector(const uint32_t words[FINDER_INDEX_WORDS], FINDER_LENT, uint32_t slot);
 
 /*
  * Walks the graph from the entry with a list of at most beam slots (0 acts as 1) and gives the k nearest to the query that it finds, nearest first, of
@@ -155,11 +130,9 @@ size_t finder_vector(const uint32_t index[FINDER_INDEX_WORDS],
  * overwritten.
  * Refusals, in order: 1, 2, 3 (one of the six slices, or a query that is not dim long), 6, 7, 8.
  */
-uint32_t finder_search(const uint32_t index[FINDER_INDEX_WORDS],
-    const uint8_t *vectors, size_t vectors_len, const uint32_t *targets, size_t targets_len, const uint16_t *edges, size_t edges_len,
-    const uint16_t *versions, size_t versions_len, const uint8_t *marks, size_t marks_len, const uint32_t *pool, size_t pool_len,
+uint32_t finder_search(const uint32_t words[FINDER_INDEX_WORDS], FINDER_LENT,
     const uint8_t *query, size_t query_len, uint32_t k, uint32_t beam,
-    uint32_t *out_slots, size_t out_slots_len, float *out_dists, size_t out_dists_len, uint32_t *scratch, size_t scratch_len,
+    uint32_t *slots, size_t slots_len, float *dists, size_t dists_len, uint32_t *scratch, size_t scratch_len,
     uint32_t *found);
 
 #ifdef __cplusplus

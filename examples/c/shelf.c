@@ -7,7 +7,7 @@
 enum { DIM = 1, CAPACITY = 4, DEGREE = 2, COUNT = 3 };
 
 /* Each slice is a block of its own of exactly its length, and not written before making, so that valgrind sees a read or a write that is out of place. */
-static uint32_t *index_words;
+static uint32_t *words;
 static uint8_t *vectors;
 static uint32_t *targets;
 static uint16_t *edges;
@@ -29,7 +29,7 @@ static void *block(size_t bytes)
 
 static void lend(void)
 {
-    index_words = block(FINDER_INDEX_WORDS * sizeof *index_words);
+    words = block(FINDER_INDEX_WORDS * sizeof *words);
     vectors = block(CAPACITY * DIM);
     targets = block(CAPACITY * DEGREE * sizeof *targets);
     edges = block(CAPACITY * DEGREE * sizeof *edges);
@@ -40,7 +40,7 @@ static void lend(void)
 
 static void take_back(void)
 {
-    free(index_words);
+    free(words);
     free(vectors);
     free(targets);
     free(edges);
@@ -61,42 +61,42 @@ static uint32_t make(float alpha)
 {
     static const uint8_t bytes[COUNT * DIM] = { 0, 3, 10 };
     static const uint32_t rows[COUNT * DEGREE] = { 1, FINDER_BLANK, 0, 2, 1, FINDER_BLANK };
-    return finder_create(DIM, CAPACITY, DEGREE, alpha, 1, COUNT, bytes, sizeof bytes, rows, COUNT * DEGREE, SLICES, index_words);
+    return finder_create(DIM, CAPACITY, DEGREE, alpha, 1, COUNT, bytes, sizeof bytes, rows, COUNT * DEGREE, SLICES, words);
 }
 
 static int read_all(void)
 {
     uint32_t n = 77;
     float alpha = 0;
-    CHECK(finder_dim(index_words, SLICES, &n) == 0 && n == DIM);
-    CHECK(finder_capacity(index_words, SLICES, &n) == 0 && n == CAPACITY);
-    CHECK(finder_degree(index_words, SLICES, &n) == 0 && n == DEGREE);
-    CHECK(finder_alpha(index_words, SLICES, &alpha) == 0 && alpha == 1.0f);
-    CHECK(finder_entry(index_words, SLICES, &n) == 0 && n == 1);
-    CHECK(finder_live(index_words, SLICES, &n) == 0 && n == COUNT);
-    CHECK(finder_mark(index_words, SLICES, 2, &n) == 0 && n == 1);
-    CHECK(finder_mark(index_words, SLICES, 3, &n) == 0 && n == 0);
-    CHECK(finder_version(index_words, SLICES, 2, &n) == 0 && n == 0);
-    CHECK(finder_target(index_words, SLICES, 1, 0, &n) == 0 && n == 0);
-    CHECK(finder_target(index_words, SLICES, 1, 1, &n) == 0 && n == 2);
-    CHECK(finder_target(index_words, SLICES, 1, 2, &n) == 0 && n == FINDER_BLANK);
-    CHECK(finder_vector(index_words, SLICES, 2) == DIM && vectors[2 * DIM] == 10);
-    CHECK(finder_vector(index_words, SLICES, 3) == 0);
+    CHECK(finder_dim(words, SLICES, &n) == 0 && n == DIM);
+    CHECK(finder_capacity(words, SLICES, &n) == 0 && n == CAPACITY);
+    CHECK(finder_degree(words, SLICES, &n) == 0 && n == DEGREE);
+    CHECK(finder_alpha(words, SLICES, &alpha) == 0 && alpha == 1.0f);
+    CHECK(finder_entry(words, SLICES, &n) == 0 && n == 1);
+    CHECK(finder_live(words, SLICES, &n) == 0 && n == COUNT);
+    CHECK(finder_mark(words, SLICES, 2, &n) == 0 && n == 1);
+    CHECK(finder_mark(words, SLICES, 3, &n) == 0 && n == 0);
+    CHECK(finder_slot_version(words, SLICES, 2, &n) == 0 && n == 0);
+    CHECK(finder_target(words, SLICES, 1, 0, &n) == 0 && n == 0);
+    CHECK(finder_target(words, SLICES, 1, 1, &n) == 0 && n == 2);
+    CHECK(finder_target(words, SLICES, 1, 2, &n) == 0 && n == FINDER_BLANK);
+    CHECK(finder_vector(words, SLICES, 2) == DIM && vectors[2 * DIM] == 10);
+    CHECK(finder_vector(words, SLICES, 3) == 0);
     return 0;
 }
 
 static int search(void)
 {
-    uint32_t words = 0;
+    uint32_t size = 0;
     uint32_t found = 77;
-    CHECK(finder_scratch_words(DIM, CAPACITY, DEGREE, &words) == 0 && words > 0);
+    CHECK(finder_scratch_words(DIM, CAPACITY, DEGREE, &size) == 0 && size > 0);
     uint8_t *query = block(DIM);
     uint32_t *slots = block(2 * sizeof *slots);
     float *dists = block(2 * sizeof *dists);
-    uint32_t *scratch = block(words * sizeof *scratch);
+    uint32_t *scratch = block(size * sizeof *scratch);
     *query = 2;
-    CHECK(finder_search(index_words, SLICES, query, DIM, 2, 2, slots, 1, dists, 2, scratch, words, &found) == FINDER_OVER_LIMIT && found == 77);
-    CHECK(finder_search(index_words, SLICES, query, DIM, 2, 2, slots, 2, dists, 2, scratch, words, &found) == 0 && found == 2);
+    CHECK(finder_search(words, SLICES, query, DIM, 2, 2, slots, 1, dists, 2, scratch, size, &found) == FINDER_OVER_LIMIT && found == 77);
+    CHECK(finder_search(words, SLICES, query, DIM, 2, 2, slots, 2, dists, 2, scratch, size, &found) == 0 && found == 2);
     CHECK(slots[0] == 1 && dists[0] == 1.0f && slots[1] == 0 && dists[1] == 4.0f);
     printf("nearest to 2: slot %u at %g, slot %u at %g\n", (unsigned)slots[0], dists[0], (unsigned)slots[1], dists[1]);
     free(query);
@@ -110,13 +110,13 @@ static int refuse(void)
 {
     uint32_t n = 77;
     CHECK(finder_scratch_words(257, CAPACITY, DEGREE, &n) == FINDER_BAD_SIZES && n == 77);
-    CHECK(make(0.5f) == FINDER_BAD_ALPHA && index_words[0] == DIM);
-    index_words[5] = 2;
-    CHECK(finder_dim(index_words, SLICES, &n) == FINDER_BAD_INDEX && n == 77);
-    CHECK(finder_vector(index_words, SLICES, 2) == 0);
+    CHECK(make(0.5f) == FINDER_BAD_ALPHA && words[0] == DIM);
+    words[5] = 2;
+    CHECK(finder_dim(words, SLICES, &n) == FINDER_BAD_INDEX && n == 77);
+    CHECK(finder_vector(words, SLICES, 2) == 0);
     printf("an index with a live count of 2 and three marks: refused with %d\n", FINDER_BAD_INDEX);
-    index_words[3] = 0x7fc00000u;
-    CHECK(finder_dim(index_words, SLICES, &n) == FINDER_BAD_ALPHA && n == 77);
+    words[3] = 0x7fc00000u;
+    CHECK(finder_dim(words, SLICES, &n) == FINDER_BAD_ALPHA && n == 77);
     return 0;
 }
 

@@ -15,7 +15,7 @@ use Rattle.index.specs.declared.Index.{Index}
 use Rattle.index.specs.declared.Guard.{Guard}
 use Rattle.index.specs.declared.Settings.{Settings}
 use Rattle.index.specs.declared.Guard.the-variants.{Off, On}
-use Rattle.finder.specs.Words.{alpha-of, guard-of, index-of, guard-words, words-of}
+use Rattle.finder.specs.IndexWords.{alpha-of, guard-of, index-of, guard-words, words-of}
 
 -- ---- alpha
 

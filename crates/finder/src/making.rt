@@ -1,11 +1,12 @@
 // The size answer, and making an index.
-use super::words::words_from;
+use super::index_words::words_from;
 use index::Created;
-use index::Words;
+use index::ScratchWords;
 ghost use mathlib.Core.Bool.{not};
 ghost use mathlib.Core.Path.{_≡_};
 ghost use lib.Dec.{T};
 ghost use lib.Ieee.{isNan};
+ghost use Rattle.slots.specs.Sizes.{slices};
 ghost use Rattle.index.specs.declared.Index.{Index};
 ghost use Rattle.index.specs.declared.Created.the-variants.{Done};
 ghost use Rattle.index.specs.Create.{making};
@@ -18,8 +19,8 @@ pub extern "C" fn finder_scratch_words(dim: u32, capacity: u32, degree: u32, siz
 {
     let answer = index::scratch_words(dim, capacity, degree);
     match answer {
-        Words::Refused(n) => n,
-        Words::Words(n) => {
+        ScratchWords::Refused(n) => n,
+        ScratchWords::Words(n) => {
             *size = n;
             0
         }
@@ -59,7 +60,7 @@ pub extern "C" fn finder_create(
     pool: &mut [u32],
     words: &mut [u32; 12],
 ) -> u32
-    ensures { λ r. ⌜ Creates-words (making dim capacity degree alpha entry count (now (bytes .entry)) (now (rows .entry))) (now (vectors .entry)) (now (targets .entry)) (now (edges .entry)) (now (versions .entry)) (now (marks .entry)) (now (pool .entry)) (now (vectors .exit)) (now (targets .exit)) (now (edges .exit)) (now (versions .exit)) (now (marks .exit)) (now (pool .exit)) (now (words .entry)) (now (words .exit)) r ⌝ }
+    ensures { λ r. ⌜ Creates-words (making dim capacity degree alpha entry count (now (bytes .entry)) (now (rows .entry))) (slices (now (vectors .entry)) (now (targets .entry)) (now (edges .entry)) (now (versions .entry)) (now (marks .entry)) (now (pool .entry))) (slices (now (vectors .exit)) (now (targets .exit)) (now (edges .exit)) (now (versions .exit)) (now (marks .exit)) (now (pool .exit))) (now (words .entry)) (now (words .exit)) r ⌝ }
 {
     let made = index::create(
         dim,

@@ -1,12 +1,13 @@
 // Readings of an index that words hold.
-use super::words::index_from;
-use index::Reading;
-use index::Value;
+use super::index_words::index_from;
+use reading::Reading;
+use reading::Value;
 ghost use mathlib.Core.Bool.{true};
 ghost use mathlib.Core.Path.{_≡_};
-ghost use Rattle.index.specs.declared.Reading.the-variants.{Dim, Capacity, Degree, Alpha, Entry, Live, Mark, Version, Target};
-ghost use Rattle.index.specs.Read.{Reads};
-ghost use Rattle.finder.specs.Words.{index-of};
+ghost use Rattle.slots.specs.Sizes.{slices};
+ghost use Rattle.reading.specs.declared.Reading.the-variants.{Dim, Capacity, Degree, Alpha, Entry, Live, Mark, Version, Target};
+ghost use Rattle.reading.specs.Read.{Reads};
+ghost use Rattle.finder.specs.IndexWords.{index-of};
 ghost use Rattle.finder.specs.Given.{gives-number, number-put, alpha-put, Reads-number, Reads-alpha, Reads-length};
 
 // What is read, or the number of a refusal.
@@ -20,10 +21,10 @@ fn read_value(
     pool: &[u32],
     reading: Reading,
 ) -> Value
-    ensures { λ r. ⌜ Reads (index-of (now (words .entry))) (now (vectors .entry)) (now (targets .entry)) (now (edges .entry)) (now (versions .entry)) (now (marks .entry)) (now (pool .entry)) reading r ⌝ }
+    ensures { λ r. ⌜ Reads (index-of (now (words .entry))) (slices (now (vectors .entry)) (now (targets .entry)) (now (edges .entry)) (now (versions .entry)) (now (marks .entry)) (now (pool .entry))) reading r ⌝ }
 {
     let held = index_from(words);
-    index::read(
+    reading::read(
         held,
         vectors,
         targets,
@@ -81,7 +82,7 @@ fn read_number(
     value: &mut u32,
 ) -> u32
     requires { ⌜ gives-number reading ≡ true ⌝ }
-    ensures { λ r. ⌜ Reads-number (now (words .entry)) (now (vectors .entry)) (now (targets .entry)) (now (edges .entry)) (now (versions .entry)) (now (marks .entry)) (now (pool .entry)) reading (now (value .entry)) (now (value .exit)) r ⌝ }
+    ensures { λ r. ⌜ Reads-number (now (words .entry)) (slices (now (vectors .entry)) (now (targets .entry)) (now (edges .entry)) (now (versions .entry)) (now (marks .entry)) (now (pool .entry))) reading (now (value .entry)) (now (value .exit)) r ⌝ }
 {
     let read = read_value(
         words,
@@ -108,7 +109,7 @@ pub extern "C" fn finder_dim(
     pool: &[u32],
     value: &mut u32,
 ) -> u32
-    ensures { λ r. ⌜ Reads-number (now (words .entry)) (now (vectors .entry)) (now (targets .entry)) (now (edges .entry)) (now (versions .entry)) (now (marks .entry)) (now (pool .entry)) Dim (now (value .entry)) (now (value .exit)) r ⌝ }
+    ensures { λ r. ⌜ Reads-number (now (words .entry)) (slices (now (vectors .entry)) (now (targets .entry)) (now (edges .entry)) (now (versions .entry)) (now (marks .entry)) (now (pool .entry))) Dim (now (value .entry)) (now (value .exit)) r ⌝ }
 {
     read_number(
         words,
@@ -135,7 +136,7 @@ pub extern "C" fn finder_capacity(
     pool: &[u32],
     value: &mut u32,
 ) -> u32
-    ensures { λ r. ⌜ Reads-number (now (words .entry)) (now (vectors .entry)) (now (targets .entry)) (now (edges .entry)) (now (versions .entry)) (now (marks .entry)) (now (pool .entry)) Capacity (now (value .entry)) (now (value .exit)) r ⌝ }
+    ensures { λ r. ⌜ Reads-number (now (words .entry)) (slices (now (vectors .entry)) (now (targets .entry)) (now (edges .entry)) (now (versions .entry)) (now (marks .entry)) (now (pool .entry))) Capacity (now (value .entry)) (now (value .exit)) r ⌝ }
 {
     read_number(
         words,
@@ -162,7 +163,7 @@ pub extern "C" fn finder_degree(
     pool: &[u32],
     value: &mut u32,
 ) -> u32
-    ensures { λ r. ⌜ Reads-number (now (words .entry)) (now (vectors .entry)) (now (targets .entry)) (now (edges .entry)) (now (versions .entry)) (now (marks .entry)) (now (pool .entry)) Degree (now (value .entry)) (now (value .exit)) r ⌝ }
+    ensures { λ r. ⌜ Reads-number (now (words .entry)) (slices (now (vectors .entry)) (now (targets .entry)) (now (edges .entry)) (now (versions .entry)) (now (marks .entry)) (now (pool .entry))) Degree (now (value .entry)) (now (value .exit)) r ⌝ }
 {
     read_number(
         words,
@@ -189,7 +190,7 @@ pub extern "C" fn finder_entry(
     pool: &[u32],
     value: &mut u32,
 ) -> u32
-    ensures { λ r. ⌜ Reads-number (now (words .entry)) (now (vectors .entry)) (now (targets .entry)) (now (edges .entry)) (now (versions .entry)) (now (marks .entry)) (now (pool .entry)) Entry (now (value .entry)) (now (value .exit)) r ⌝ }
+    ensures { λ r. ⌜ Reads-number (now (words .entry)) (slices (now (vectors .entry)) (now (targets .entry)) (now (edges .entry)) (now (versions .entry)) (now (marks .entry)) (now (pool .entry))) Entry (now (value .entry)) (now (value .exit)) r ⌝ }
 {
     read_number(
         words,
@@ -216,7 +217,7 @@ pub extern "C" fn finder_live(
     pool: &[u32],
     value: &mut u32,
 ) -> u32
-    ensures { λ r. ⌜ Reads-number (now (words .entry)) (now (vectors .entry)) (now (targets .entry)) (now (edges .entry)) (now (versions .entry)) (now (marks .entry)) (now (pool .entry)) Live (now (value .entry)) (now (value .exit)) r ⌝ }
+    ensures { λ r. ⌜ Reads-number (now (words .entry)) (slices (now (vectors .entry)) (now (targets .entry)) (now (edges .entry)) (now (versions .entry)) (now (marks .entry)) (now (pool .entry))) Live (now (value .entry)) (now (value .exit)) r ⌝ }
 {
     read_number(
         words,
@@ -244,7 +245,7 @@ pub extern "C" fn finder_mark(
     slot: u32,
     value: &mut u32,
 ) -> u32
-    ensures { λ r. ⌜ Reads-number (now (words .entry)) (now (vectors .entry)) (now (targets .entry)) (now (edges .entry)) (now (versions .entry)) (now (marks .entry)) (now (pool .entry)) (Mark slot) (now (value .entry)) (now (value .exit)) r ⌝ }
+    ensures { λ r. ⌜ Reads-number (now (words .entry)) (slices (now (vectors .entry)) (now (targets .entry)) (now (edges .entry)) (now (versions .entry)) (now (marks .entry)) (now (pool .entry))) (Mark slot) (now (value .entry)) (now (value .exit)) r ⌝ }
 {
     read_number(
         words,
@@ -261,7 +262,7 @@ pub extern "C" fn finder_mark(
 
 // The version of a slot.
 #[no_mangle]
-pub extern "C" fn finder_version(
+pub extern "C" fn finder_slot_version(
     words: &[u32; 12],
     vectors: &[u8],
     targets: &[u32],
@@ -272,7 +273,7 @@ pub extern "C" fn finder_version(
     slot: u32,
     value: &mut u32,
 ) -> u32
-    ensures { λ r. ⌜ Reads-number (now (words .entry)) (now (vectors .entry)) (now (targets .entry)) (now (edges .entry)) (now (versions .entry)) (now (marks .entry)) (now (pool .entry)) (Version slot) (now (value .entry)) (now (value .exit)) r ⌝ }
+    ensures { λ r. ⌜ Reads-number (now (words .entry)) (slices (now (vectors .entry)) (now (targets .entry)) (now (edges .entry)) (now (versions .entry)) (now (marks .entry)) (now (pool .entry))) (Version slot) (now (value .entry)) (now (value .exit)) r ⌝ }
 {
     read_number(
         words,
@@ -301,7 +302,7 @@ pub extern "C" fn finder_target(
     place: u32,
     value: &mut u32,
 ) -> u32
-    ensures { λ r. ⌜ Reads-number (now (words .entry)) (now (vectors .entry)) (now (targets .entry)) (now (edges .entry)) (now (versions .entry)) (now (marks .entry)) (now (pool .entry)) (Target slot place) (now (value .entry)) (now (value .exit)) r ⌝ }
+    ensures { λ r. ⌜ Reads-number (now (words .entry)) (slices (now (vectors .entry)) (now (targets .entry)) (now (edges .entry)) (now (versions .entry)) (now (marks .entry)) (now (pool .entry))) (Target slot place) (now (value .entry)) (now (value .exit)) r ⌝ }
 {
     read_number(
         words,
@@ -328,7 +329,7 @@ pub extern "C" fn finder_alpha(
     pool: &[u32],
     value: &mut f32,
 ) -> u32
-    ensures { λ r. ⌜ Reads-alpha (now (words .entry)) (now (vectors .entry)) (now (targets .entry)) (now (edges .entry)) (now (versions .entry)) (now (marks .entry)) (now (pool .entry)) (now (value .entry)) (now (value .exit)) r ⌝ }
+    ensures { λ r. ⌜ Reads-alpha (now (words .entry)) (slices (now (vectors .entry)) (now (targets .entry)) (now (edges .entry)) (now (versions .entry)) (now (marks .entry)) (now (pool .entry))) (now (value .entry)) (now (value .exit)) r ⌝ }
 {
     let read = read_value(
         words,
@@ -355,9 +356,9 @@ pub extern "C" fn finder_vector(
     pool: &[u32],
     slot: u32,
 ) -> usize
-    ensures { λ r. ⌜ Reads-length (now (words .entry)) (now (vectors .entry)) (now (targets .entry)) (now (edges .entry)) (now (versions .entry)) (now (marks .entry)) (now (pool .entry)) slot r ⌝ }
+    ensures { λ r. ⌜ Reads-length (now (words .entry)) (slices (now (vectors .entry)) (now (targets .entry)) (now (edges .entry)) (now (versions .entry)) (now (marks .entry)) (now (pool .entry))) slot r ⌝ }
 {
     let held = index_from(words);
-    let part = index::read_vector(held, vectors, targets, edges, versions, marks, pool, slot);
+    let part = reading::read_vector(held, vectors, targets, edges, versions, marks, pool, slot);
     part.len()
 }

@@ -1,7 +1,9 @@
 // Search.
-use super::words::index_from;
-use index::Found;
+use super::index_words::index_from;
+use reading::Found;
 ghost use mathlib.Core.Path.{_≡_};
+ghost use Rattle.slots.specs.Sizes.{slices};
+ghost use Rattle.reading.specs.Search.{searching, search-outputs};
 ghost use Rattle.finder.specs.Given.{found-put, Searches-words};
 
 // Writes how many were found.
@@ -30,15 +32,15 @@ pub extern "C" fn finder_search(
     query: &[u8],
     k: u32,
     beam: u32,
-    ids: &mut [u32],
+    slots: &mut [u32],
     dists: &mut [f32],
     scratch: &mut [u32],
     found: &mut u32,
 ) -> u32
-    ensures { λ r. ⌜ Searches-words (now (words .entry)) (now (vectors .entry)) (now (targets .entry)) (now (edges .entry)) (now (versions .entry)) (now (marks .entry)) (now (pool .entry)) (now (query .entry)) k beam (now (ids .entry)) (now (dists .entry)) (now (scratch .entry)) (now (ids .exit)) (now (dists .exit)) (now (scratch .exit)) (now (found .entry)) (now (found .exit)) r ⌝ }
+    ensures { λ r. ⌜ Searches-words (now (words .entry)) (slices (now (vectors .entry)) (now (targets .entry)) (now (edges .entry)) (now (versions .entry)) (now (marks .entry)) (now (pool .entry))) (searching (now (query .entry)) k beam) (search-outputs (now (slots .entry)) (now (dists .entry))) (now (scratch .entry)) (search-outputs (now (slots .exit)) (now (dists .exit))) (now (scratch .exit)) (now (found .entry)) (now (found .exit)) r ⌝ }
 {
     let held = index_from(words);
-    let answer = index::search(
+    let answer = reading::search(
         held,
         vectors,
         targets,
@@ -49,7 +51,7 @@ pub extern "C" fn finder_search(
         query,
         k,
         beam,
-        ids,
+        slots,
         dists,
         scratch,
     );

@@ -56,7 +56,7 @@ impl std::error::Error for Error {}
 
 /// An index and its memory.
 pub struct Finder {
-    index: [u32; raw::INDEX_WORDS],
+    words: [u32; raw::INDEX_WORDS],
     vectors: Vec<u8>,
     targets: Vec<u32>,
     edges: Vec<u16>,
@@ -72,7 +72,7 @@ macro_rules! with_slices {
         // SAFETY: each pointer is that of a whole vector with its length, and what is written is borrowed by this call alone.
         unsafe {
             raw::$function(
-                &$self.index,
+                &$self.words,
                 $self.vectors.as_ptr(),
                 $self.vectors.len(),
                 $self.targets.as_ptr(),
@@ -95,19 +95,19 @@ impl Finder {
     /// An index whose first `count` slots have the given vectors and rows.
     #[allow(clippy::too_many_arguments)]
     pub fn create(dim: u32, capacity: u32, degree: u32, alpha: f32, entry: u32, count: u32, bytes: &[u8], rows: &[u32]) -> Result<Finder, Error> {
-        let mut words = 0;
-        // SAFETY: `words` is borrowed by this call alone.
-        Error::of(unsafe { raw::finder_scratch_words(dim, capacity, degree, &mut words) })?;
+        let mut size = 0;
+        // SAFETY: `size` is borrowed by this call alone.
+        Error::of(unsafe { raw::finder_scratch_words(dim, capacity, degree, &mut size) })?;
         let slots = capacity as usize;
         let mut made = Finder {
-            index: [0; raw::INDEX_WORDS],
+            words: [0; raw::INDEX_WORDS],
             vectors: vec![0; slots * dim as usize],
             targets: vec![0; slots * degree as usize],
             edges: vec![0; slots * degree as usize],
             versions: vec![0; slots],
             marks: vec![0; slots],
             pool: vec![0; raw::POOL],
-            scratch: vec![0; words as usize],
+            scratch: vec![0; size as usize],
         };
         // SAFETY: each pointer is that of a whole slice with its length, and what is written is borrowed by this call alone.
         let status = unsafe {
@@ -134,7 +134,7 @@ impl Finder {
                 made.marks.len(),
                 made.pool.as_mut_ptr(),
                 made.pool.len(),
-                &mut made.index,
+                &mut made.words,
             )
         };
         Error::of(status)?;
@@ -187,9 +187,9 @@ impl Finder {
     }
 
     /// The version of a slot; 0 for one outside.
-    pub fn version(&self, slot: u32) -> Result<u16, Error> {
+    pub fn slot_version(&self, slot: u32) -> Result<u16, Error> {
         let mut value = 0;
-        Error::of(with_slices!(self, finder_version, slot, &mut value))?;
+        Error::of(with_slices!(self, finder_slot_version, slot, &mut value))?;
         Ok(value as u16)
     }
 
@@ -251,7 +251,7 @@ mod tests {
         assert_eq!((f.dim(), f.capacity(), f.degree(), f.alpha()), (Ok(1), Ok(4), Ok(2), Ok(1.0)));
         assert_eq!((f.entry(), f.live()), (Ok(1), Ok(3)));
         assert_eq!((f.mark(2), f.mark(3), f.mark(9)), (Ok(true), Ok(false), Ok(false)));
-        assert_eq!((f.version(0), f.version(9)), (Ok(0), Ok(0)));
+        assert_eq!((f.slot_version(0), f.slot_version(9)), (Ok(0), Ok(0)));
         assert_eq!((f.target(1, 0), f.target(1, 1), f.target(1, 2)), (Ok(Some(0)), Ok(Some(2)), Ok(None)));
         assert_eq!((f.vector(2), f.vector(3), f.vector(9)), (&[10][..], &[][..], &[][..]));
     }
@@ -273,7 +273,7 @@ mod tests {
         let mut f = shelf();
         assert_eq!(f.search(&[2, 2], 2, 2), Err(Error::Length));
         assert_eq!(f.search(&[2], 2, 1025), Err(Error::Limit));
-        f.index[5] = 2;
+        f.words[5] = 2;
         assert_eq!(f.entry(), Err(Error::Index));
         assert_eq!(f.vector(2), &[]);
         assert_eq!(Error::Index as u32, 6);

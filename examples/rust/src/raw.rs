@@ -4,10 +4,10 @@ pub const INDEX_WORDS: usize = 12;
 pub const POOL: usize = 1024;
 pub const MAX_BEAM: u32 = 1024;
 
-type Words = [u32; INDEX_WORDS];
+type IndexWords = [u32; INDEX_WORDS];
 
 extern "C" {
-    pub fn finder_scratch_words(dim: u32, capacity: u32, degree: u32, words: *mut u32) -> u32;
+    pub fn finder_scratch_words(dim: u32, capacity: u32, degree: u32, size: *mut u32) -> u32;
 
     pub fn finder_create(
         dim: u32,
@@ -32,7 +32,7 @@ extern "C" {
         marks_len: usize,
         pool: *mut u32,
         pool_len: usize,
-        index: *mut Words,
+        words: *mut IndexWords,
     ) -> u32;
 }
 
@@ -41,7 +41,7 @@ macro_rules! on_an_index {
     ($(fn $function:ident($($name:ident: $type:ty),*) -> $answer:ty;)*) => {
         extern "C" {
             $(pub fn $function(
-                index: *const Words,
+                words: *const IndexWords,
                 vectors: *const u8,
                 vectors_len: usize,
                 targets: *const u32,
@@ -68,7 +68,7 @@ on_an_index! {
     fn finder_entry(value: *mut u32) -> u32;
     fn finder_live(value: *mut u32) -> u32;
     fn finder_mark(slot: u32, value: *mut u32) -> u32;
-    fn finder_version(slot: u32, value: *mut u32) -> u32;
+    fn finder_slot_version(slot: u32, value: *mut u32) -> u32;
     fn finder_target(slot: u32, place: u32, value: *mut u32) -> u32;
     fn finder_vector(slot: u32) -> usize;
     fn finder_search(
@@ -76,10 +76,10 @@ on_an_index! {
         query_len: usize,
         k: u32,
         beam: u32,
-        out_slots: *mut u32,
-        out_slots_len: usize,
-        out_dists: *mut f32,
-        out_dists_len: usize,
+        slots: *mut u32,
+        slots_len: usize,
+        dists: *mut f32,
+        dists_len: usize,
         scratch: *mut u32,
         scratch_len: usize,
         found: *mut u32

@@ -1,5 +1,5 @@
 use mathlib.Core.Path.{ap, sym}
-use Rattle.index.specs.declared.Value.{Value}
+use Rattle.reading.specs.declared.Value.{Value}
 use Rattle.finder.specs.Given.{alpha-put}
 use borrow.Author.Needs.{needs}
 use Rattle.finder.proofs.readings.put_alpha.Statement.{statement}

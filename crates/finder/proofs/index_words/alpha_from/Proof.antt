@@ -1,6 +1,6 @@
 use Rattle.finder.proofs.Held.{bits-nan, bits-number, alpha-nan, alpha-number, number-bits}
-use Rattle.finder.proofs.words.alpha_from.Statement.{statement}
-use Rattle.finder.proofs.words.alpha_from.Tie as tie
+use Rattle.finder.proofs.index_words.alpha_from.Statement.{statement}
+use Rattle.finder.proofs.index_words.alpha_from.Tie as tie
 
 returns : tie.Need-returns
 returns c = let n = c .before .args .bits in alpha-nan n (bits-nan n (c .if1 .taken))

@@ -1,7 +1,7 @@
-use Rattle.finder.specs.Words.{index-of}
+use Rattle.finder.specs.IndexWords.{index-of}
 use borrow.Author.Needs.{needs}
-use Rattle.finder.proofs.words.index_from.Statement.{statement}
-use Rattle.finder.proofs.words.index_from.Tie as tie
+use Rattle.finder.proofs.index_words.index_from.Statement.{statement}
+use Rattle.finder.proofs.index_words.index_from.Tie as tie
 
 element-copy-out-alpha-from : tie.Need-element-copy-out-alpha-from
 element-copy-out-alpha-from c = search needs

@@ -1,7 +1,7 @@
 use Rattle.finder.proofs.Held.{words-off, words-on}
 use borrow.Author.Needs.{needs}
-use Rattle.finder.proofs.words.words_from.Statement.{statement}
-use Rattle.finder.proofs.words.words_from.Tie as tie
+use Rattle.finder.proofs.index_words.words_from.Statement.{statement}
+use Rattle.finder.proofs.index_words.words_from.Tie as tie
 
 float-to-bits-bits : tie.Need-float-to-bits-bits
 float-to-bits-bits c = search needs

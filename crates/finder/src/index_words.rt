@@ -6,7 +6,7 @@ ghost use mathlib.Core.Bool.{not};
 ghost use mathlib.Core.Path.{_≡_};
 ghost use lib.Dec.{T};
 ghost use lib.Ieee.{isNan};
-ghost use Rattle.finder.specs.Words.{alpha-of, guard-of, index-of, words-of};
+ghost use Rattle.finder.specs.IndexWords.{alpha-of, guard-of, index-of, words-of};
 
 // The alpha of its bits; a NaN's bits are read as 0.0.
 fn alpha_from(bits: u32) -> f32

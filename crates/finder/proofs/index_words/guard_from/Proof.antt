@@ -1,8 +1,8 @@
 use borrow.Author.Tests.{eq-eqb, ne-eqb}
-use Rattle.finder.specs.Words.{guard-of}
+use Rattle.finder.specs.IndexWords.{guard-of}
 use borrow.Author.Needs.{needs}
-use Rattle.finder.proofs.words.guard_from.Statement.{statement}
-use Rattle.finder.proofs.words.guard_from.Tie as tie
+use Rattle.finder.proofs.index_words.guard_from.Statement.{statement}
+use Rattle.finder.proofs.index_words.guard_from.Tie as tie
 
 element-copy-out-if1 : tie.Need-element-copy-out-if1
 element-copy-out-if1 c = search needs
