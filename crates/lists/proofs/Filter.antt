@@ -1,7 +1,7 @@
 -- Filters: lengths, a filter that leaves all, and two filters in one. Assumes nothing.
 use Prim.Native.Nat.{suc, _≤_}
 use mathlib.Core.Path.{_≡_, refl, ap}
-use mathlib.Core.Bool.{Bool, true, false, not, _||_, cond}
+use mathlib.Core.Bool.{Bool, true, false, not, _&&_, _||_, cond}
 use mathlib.Core.List.{List, [], _∷_}
 use native.Mathlib.Omega.{arith}
 use lib.ListN.{length}
@@ -34,3 +34,19 @@ module _ {A : Type 0} where
       go true b e r = r
       go false true e r = rw e r
       go false false e r = rw e (ap (λ (m : List A). x ∷ m) r)
+
+  pub filter-and : (p q : A → Bool) (l : List A) → filter (λ x. p x && q x) l ≡ filter p (filter q l)
+  filter-and p q [] = refl
+  filter-and p q (x ∷ l) = go (p x) (q x) refl (filter-and p q l)
+    where
+      one : List A
+      one = filter q l
+
+      both : List A
+      both = filter (λ x. p x && q x) l
+
+      go : (a b : Bool) → p x ≡ a → both ≡ filter p one → cond (a && b) (x ∷ both) both ≡ filter p (cond b (x ∷ one) one)
+      go true true e r = rw e (ap (λ (m : List A). x ∷ m) r)
+      go false true e r = rw e r
+      go true false e r = r
+      go false false e r = r

@@ -9,7 +9,7 @@ use Rattle.candidates.specs.Candidates.{scored, ids}
 use Rattle.vectors.specs.Distance.{f32}
 use Rattle.candidates.specs.Quotient.{largest, quotient}
 use Rattle.prune.specs.Prune.{growth, thresholds-from, thresholds, raise, select, consider, pass, passes, considered, prune-scored}
-use Rattle.prune.specs.RobustPrune.{Rules, stays, choose, remaining, run, robust-prune, paper, amended}
+use Rattle.prune.specs.RobustPrune.{Rules, stays, choose, remaining, run, robust-prune, paper, most-growth, grown, amended}
 
 -- squared distances: of two slots as places on a line, and as points in a plane with their two digits as coordinates
 abbrev line : ℕ → ℕ → ℕ
@@ -26,7 +26,7 @@ unfolding prune-scored considered passes pass consider select raise thresholds t
 selection degree alpha d slots = ids (prune-scored degree alpha live d 50 (scored (d 50) slots))
 
 robust : {T : Type 0} → Rules T → ℕ → (ℕ → ℕ → ℕ) → List ℕ → List ℕ
-unfolding robust-prune run remaining choose stays paper amended considered thresholds thresholds-from growth quotient f32 largest lt le div mul ofInt ofBits
+unfolding robust-prune run remaining choose stays paper amended most-growth grown quotient f32 largest lt le div mul ofInt ofBits
 robust rules R d slots = ids (robust-prune rules R d 50 (scored (d 50) slots))
 
 -- ---- what is selected from
@@ -123,6 +123,15 @@ paper-degree = refl
 paper-source : robust (paper 1 1) 4 line (51 ∷ 50 ∷ []) ≡ 51 ∷ []
 unfolding robust
 paper-source = refl
+
+-- ours: neither the source nor a dead slot
+amended-source-and-dead : robust (amended live (f32 1)) 4 line (50 ∷ 59 ∷ 60 ∷ []) ≡ 60 ∷ []
+unfolding robust
+amended-source-and-dead = refl
+
+amended-capped : robust (amended live (f32 2)) 4 line (53 ∷ 60 ∷ []) ≡ 53 ∷ []
+unfolding robust
+amended-capped = refl
 
 amended-equal : robust (amended live (f32 1)) 4 plane (70 ∷ 65 ∷ []) ≡ 70 ∷ 65 ∷ []
 unfolding robust

@@ -1,3 +1,4 @@
+pub mod Amended
 pub mod Cases
 pub mod Chosen
 pub mod Loop

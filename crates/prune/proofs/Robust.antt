@@ -25,6 +25,7 @@ use Rattle.prune.specs.RobustPrune.{stays, choose, remaining, run, robus
 use Rattle.prune.proofs.Passes.{onto, raised-to, raised, scan, scan-again, scan-frame, start, passes-scan, elem-more, elem-other}
 use Rattle.prune.proofs.Thresholds.{Accepted, Threshold, all-thresholds, threshold-plain, threshold-largest, threshold-at-most, alpha-plain}
 use Rattle.prune.proofs.Chosen.{all-of-given, considered-unique}
+use Rattle.prune.proofs.Amended.{candidates-considered, alphas-thresholds}
 use Rattle.prune.proofs.Loop.{choose-none}
 
 or-assoc : (a b c : Bool) → (a || (b || c)) ≡ (a || b || c)
@@ -321,9 +322,11 @@ considered-sorted live source cs =
 pub prune-scored-robust : (degree : ℕ) (alpha : Float) (live : ℕ → Bool) (d : ℕ → ℕ → ℕ) (source : ℕ) (cs : List Candidate)
     → Accepted alpha → ((s : ℕ) → d s s ≡ 0) → ((x y : ℕ) → d x y < 16777216) → All (λ c. c .dist < 16777216) cs
     → prune-scored degree alpha live d source cs ≡ robust-prune (amended live alpha) degree d source cs
-unfolding prune-scored robust-prune amended
+unfolding prune-scored robust-prune
 prune-scored-robust degree alpha live d source cs a own small near =
     let c = considered live source cs in
     passes-scan degree alpha d c
     ∙ runs degree alpha a live d small own c (considered-unique live source cs) (all-of-given (λ x. x .dist < 16777216) live source cs near) (considered-sorted live source cs)
     (thresholds alpha) (all-thresholds alpha a) (start c) (start-factors alpha d a c)
+    ∙ ap (foldl (run (amended live alpha) degree d c) []) (sym (alphas-thresholds live alpha))
+    ∙ ap (λ (C : List Candidate). foldl (run (amended live alpha) degree d C) [] (amended live alpha .alphas)) (sym (candidates-considered live alpha source cs))

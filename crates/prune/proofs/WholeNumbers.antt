@@ -12,8 +12,9 @@ use Rattle.lists.proofs.All.{all-filter}
 use Rattle.candidates.specs.Candidates.{Candidate}
 use Rattle.vectors.specs.Distance.{f32}
 use Rattle.candidates.proofs.Floats.{quotient-above-one}
-use Rattle.prune.specs.Prune.{considered, prune-scored}
+use Rattle.prune.specs.Prune.{prune-scored}
 use Rattle.prune.specs.RobustPrune.{Rules, stays, choose, robust-prune, amended}
+use Rattle.prune.proofs.Amended.{candidates-considered, alphas-thresholds}
 use Rattle.prune.proofs.Chosen.{all-of-given}
 use Rattle.prune.proofs.Loop.{one-run}
 use Rattle.prune.proofs.Robust.{prune-scored-robust}
@@ -21,7 +22,7 @@ use Rattle.prune.proofs.Thresholds.{one-pass, Accepted}
 
 -- our rules at alpha 1.0, in whole numbers
 abbrev pub whole-numbers : (ℕ → Bool) → Rules Float
-whole-numbers live = record { candidates = considered live; alphas = f32 1 ∷ []; drops = λ t own pair. eqb pair 0 || ltb pair own }
+whole-numbers live = record { candidates = amended live (f32 1) .candidates; alphas = f32 1 ∷ []; drops = λ t own pair. eqb pair 0 || ltb pair own }
 
 module _ (live : ℕ → Bool) (R : ℕ) (d : ℕ → ℕ → ℕ) (small : (x y : ℕ) → d x y < 16777216) where
   abbrev Near : Candidate → Type 0
@@ -46,11 +47,10 @@ module _ (live : ℕ → Bool) (R : ℕ) (d : ℕ → ℕ → ℕ) (small : (x y
       ∙ ap (λ (l : List Candidate). cond (leb R (length N₁)) N₁ l) (same-choose k N₁ rest (all-filter Near (λ p′. not (eqb (d (p′ .id) (p .id)) 0 || ltb (d (p′ .id) (p .id)) (p′ .dist))) (c ∷ C) a))
 
   pub amended-at-one : (p : ℕ) (C : List Candidate) → 1 ≤ R → All Near C → robust-prune (amended live (f32 1)) R d p C ≡ robust-prune (whole-numbers live) R d p C
-  unfolding amended
   amended-at-one p C h a =
-      let c = considered live p C in
-      one-run (amended live (f32 1)) R d (f32 1) p C one-pass h
-      ∙ same-choose (length c) [] c (all-of-given Near live p C a)
+      let c = amended live (f32 1) .candidates p C in
+      one-run (amended live (f32 1)) R d (f32 1) p C (alphas-thresholds live (f32 1) ∙ one-pass) h
+      ∙ same-choose (length c) [] c (rw (candidates-considered live (f32 1) p C) (all-of-given Near live p C a))
       ∙ sym (one-run (whole-numbers live) R d (f32 1) p C refl h)
 
   accepted-one : Accepted (f32 1)

@@ -3,14 +3,14 @@
 -- The paper's V is C here, since V is a word of antt. Assumes nothing.
 use Prim.Native.Nat.{ℕ, zero, suc, _*_}
 use mathlib.Core.Bool.{Bool, not, cond}
-use mathlib.Core.List.{List, [], _∷_, _++_}
-use lib.ListN.{length}
+use mathlib.Core.List.{List, [], _∷_, _++_, map}
+use lib.ListN.{length, take}
 use lib.Dec.{eqb, leb}
-use lib.Ieee.{Float, lt}
-use Rattle.lists.specs.Lists.{filter, elem, foldl, distinct-by, least-from}
-use Rattle.candidates.specs.Candidates.{Candidate, ids}
-use Rattle.candidates.specs.Quotient.{quotient}
-use Rattle.prune.specs.Prune.{thresholds, considered}
+use lib.Ieee.{Float, binary32, mul, lt, le, ofBits}
+use Rattle.lists.specs.Lists.{filter, elem, foldl, range, sort-by, distinct-by, least-from}
+use Rattle.vectors.specs.Distance.{f32}
+use Rattle.candidates.specs.Candidates.{Candidate, nearer, ids}
+use Rattle.candidates.specs.Quotient.{fmin, quotient}
 
 -- T is the type of α
 pub record Rules (T : Type 0) : Type 0 where
@@ -50,18 +50,36 @@ module _ {T : Type 0} (rules : Rules T) (R : ℕ) (d : ℕ → ℕ → ℕ) wher
   unfoldable pub robust-prune : ℕ → List Candidate → List Candidate
   robust-prune p C = foldl (run (rules .candidates p C)) [] (rules .alphas)
 
+-- the candidates as a set without p: of each node the first
+abbrev pub set-without : ℕ → List Candidate → List Candidate
+set-without p C = distinct-by (λ c. c .id) (filter (λ c. not (eqb (c .id) p)) C)
+
 -- the paper's rules, for α = m / n: a set without p, one α, and p′ leaves where α · d(p*, p′) ≤ d(p, p′)
 unfoldable pub paper : ℕ → ℕ → Rules (ℕ × ℕ)
 paper m n = record {
-  candidates = λ p C. distinct-by (λ c. c .id) (filter (λ c. not (eqb (c .id) p)) C);
+  candidates = set-without;
   alphas = (m, n) ∷ [];
   drops = λ α own pair. leb (α .0 * pair) (α .1 * own);
 }
 
--- ours: DIFFERENCES, P-6 to P-8
+-- 1.2 as an f32
+unfoldable pub most-growth : Float
+most-growth = ofBits binary32 0x3f99_999a
+
+-- α after k steps: 1 at first, at each step times min(alpha, 1.2), and never above alpha
+unfoldable pub grown : Float → ℕ → Float
+grown alpha zero = f32 1
+grown alpha (suc k) = fmin (mul binary32 (grown alpha k) (fmin alpha most-growth)) alpha
+
+-- the elements of a list up to the first that passes a test
+abbrev pub up-to : (Float → Bool) → List Float → List Float
+up-to test [] = []
+up-to test (t ∷ ts) = let rest = up-to test ts in t ∷ cond (test t) [] rest
+
+-- ours: DIFFERENCES, P-6 to P-8. The 750 nearest of the live candidates; α grows until it reaches alpha, with five values at most.
 unfoldable pub amended : (ℕ → Bool) → Float → Rules Float
 amended live alpha = record {
-  candidates = considered live;
-  alphas = thresholds alpha;
+  candidates = λ p C. take 750 (set-without p (sort-by nearer (filter (λ c. live (c .id)) C)));
+  alphas = up-to (le alpha) (map (grown alpha) (range 0 5));
   drops = λ t own pair. lt t (quotient own pair);
 }

@@ -5,7 +5,7 @@ use mathlib.Core.List.{List, [], _∷_}
 use lib.ListN.{length, getD}
 use Rattle.candidates.specs.Candidates.{Candidate}
 use Rattle.walk.specs.Walk.{unexpanded, enter, ends, meet, expand, turn, turns, graph-search}
-use Rattle.walk.specs.GreedySearch.{Rules, join, visit, unvisited, greedy-search, paper, amended}
+use Rattle.walk.specs.GreedySearch.{Rules, join, visit, unvisited, greedy-search, paper, too-far, amended}
 use Rattle.walk.specs.GreedySearch as GreedySearch
 
 -- a candidate: its distance and its slot
@@ -46,7 +46,7 @@ not-expanded = refl
 
 -- so it is with our amendments, and with the paper's rules it is found
 not-visited : greedy-over amended (1 ∷ 4 ∷ 4 ∷ 0 ∷ []) ((1 ∷ 2 ∷ []) ∷ (3 ∷ []) ∷ []) 0 3 ≡ at 1 0 ∷ at 4 1 ∷ at 4 2 ∷ []
-unfolding greedy-search GreedySearch.turns GreedySearch.turn unvisited visit join amended enter ends
+unfolding greedy-search GreedySearch.turns GreedySearch.turn unvisited visit join amended too-far
 not-visited = refl
 
 visited-in-paper : greedy-over paper (1 ∷ 4 ∷ 4 ∷ 0 ∷ []) ((1 ∷ 2 ∷ []) ∷ (3 ∷ []) ∷ []) 0 3 ≡ at 0 3 ∷ at 1 0 ∷ at 4 1 ∷ []
@@ -57,6 +57,10 @@ visited-in-paper = refl
 not-entered : over (5 ∷ 5 ∷ 1 ∷ []) ([] ∷ [] ∷ (1 ∷ 0 ∷ []) ∷ []) 2 2 ≡ at 1 2 ∷ at 5 1 ∷ []
 unfolding graph-search turns turn expand meet enter ends unexpanded
 not-entered = refl
+
+not-joined : greedy-over amended (5 ∷ 5 ∷ 1 ∷ []) ([] ∷ [] ∷ (1 ∷ 0 ∷ []) ∷ []) 2 2 ≡ at 1 2 ∷ at 5 1 ∷ []
+unfolding greedy-search GreedySearch.turns GreedySearch.turn unvisited visit join amended too-far
+not-joined = refl
 
 -- where there is room it does; of equal distances the lower slot comes first, whichever was met first
 lower-last : over (5 ∷ 5 ∷ 1 ∷ []) ([] ∷ [] ∷ (1 ∷ 0 ∷ []) ∷ []) 2 3 ≡ at 1 2 ∷ at 5 0 ∷ at 5 1 ∷ []
@@ -73,7 +77,7 @@ unfolding graph-search turns turn expand meet enter ends unexpanded
 met-twice = refl
 
 considered-twice : greedy-over amended (1 ∷ 2 ∷ []) ((1 ∷ 1 ∷ []) ∷ []) 0 3 ≡ at 1 0 ∷ at 2 1 ∷ []
-unfolding greedy-search GreedySearch.turns GreedySearch.turn unvisited visit join amended enter ends
+unfolding greedy-search GreedySearch.turns GreedySearch.turn unvisited visit join amended too-far
 considered-twice = refl
 
 -- a full list: slot 2 enters, and slot 1 leaves

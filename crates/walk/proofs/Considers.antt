@@ -1,21 +1,22 @@
 -- To consider a neighbour by all that was considered, as we do, or by the list, as the paper does, is the same under our other rules: what has left the
 -- list, or did not enter it, never enters again. Assumes nothing.
 use Prim.Native.Nat.{ℕ, zero, suc, max, _≤_, _<_}
-use mathlib.Core.Bool.{Bool, true, false, not, _&&_, _||_, cond, or-true, true≢false}
+use mathlib.Core.Bool.{Bool, true, false, not, _||_, cond, or-true, true≢false}
 use mathlib.Core.Path.{_≡_, refl, ap, sym, _∙_, subst}
 use mathlib.Core.Logic.{_⊎_, inl, inr}
 use mathlib.Core.List.{List, [], _∷_}
 use native.Mathlib.Omega.{arith}
 use lib.ListN.{length, take}
 use lib.Dec.{eqb, ltb}
-use borrow.Author.Tests.{eqb-true, eq-eqb, ltb-true, ltb-false, le-ltb}
+use borrow.Author.Tests.{eqb-true, eq-eqb, ltb-true, ltb-false, le-leb}
 use Rattle.lists.specs.Lists.{All, Ordered, filter, elem, foldl, insert-by, init, last, sort-by}
 use Rattle.lists.proofs.All.{by-cases, all-map, all-init, all-insert}
 use Rattle.lists.proofs.Ordered.{length-insert, length-init}
 use Rattle.candidates.specs.Candidates.{Candidate, before, ids}
 use Rattle.walk.specs.Walk.{worst, enter, ends}
-use Rattle.walk.specs.GreedySearch.{Rules, Search, nearest, join, visit, turn, unvisited, turns, greedy-search, paper, amended}
-use Rattle.walk.proofs.Ordered.{all-enter, enter-ordered}
+use Rattle.walk.specs.GreedySearch.{Rules, Search, nearest, join, visit, turn, unvisited, turns, greedy-search, paper, too-far, amended}
+use Rattle.walk.proofs.Ordered.{all-enter, enter-ordered, enter-short}
+use Rattle.walk.proofs.Amended.{before-near, too-far-ends, joins-enter}
 
 -- ours, but for the paper's `considers`
 unfoldable pub by-list : Rules
@@ -49,14 +50,6 @@ all-ids P (c ∷ cs) h = (h .0, all-ids P cs (h .1))
 last-all : (P : Candidate → Type 0) (a : Candidate) (cs : List Candidate) → P a → All P cs → P (last a cs)
 last-all P a [] h k = h
 last-all P a (c ∷ cs) h k = last-all P c cs (k .0) (k .1)
-
-before-near : (a b : Candidate) → before a b ≡ true → a .dist ≤ b .dist
-before-near a b = go (ltb (a .dist) (b .dist)) (eqb (a .dist) (b .dist)) refl refl
-  where
-    go : (p q : Bool) → ltb (a .dist) (b .dist) ≡ p → eqb (a .dist) (b .dist) ≡ q → (p || q && ltb (a .id) (b .id)) ≡ true → a .dist ≤ b .dist
-    go true q e f h = omega (arith, ltb-true (a .dist) (b .dist) e)
-    go false true e f h = omega (arith, eqb-true (a .dist) (b .dist) f)
-    go false false e f h = absurd (true≢false (sym h))
 
 -- none is farther than the worst
 none-worse : (cs : List Candidate) → Ordered before cs → All (λ a. a .dist ≤ worst cs) cs
@@ -126,22 +119,25 @@ module _ (L : ℕ) (d : ℕ → ℕ) where
         by-cases (λ l. Known l (c .id)) (ltb (length cs) L) (λ e. here cs)
         (λ e. by-cases (λ l. Known l (c .id)) (ltb (c .dist) (worst cs)) (λ f. here (init cs)) (λ f. inr (ltb-false _ _ e, rw own at (ltb-false (c .dist) (worst cs) f))))
 
-    not-entered : (L ≤ length cs) × (worst cs ≤ d (c .id)) → enter L cs c ≡ cs
-    unfolding enter
-    not-entered g = let h : worst cs ≤ c .dist = omega (arith, g .1) in rw (le-ltb (length cs) L (g .0), le-ltb (c .dist) (worst cs) h)
+    not-joined : (L ≤ length cs) × (worst cs ≤ d (c .id)) → amended .joins L cs c ≡ cs
+    unfolding amended ends
+    not-joined g =
+        let h : worst cs ≤ c .dist = omega (arith, g .1) in
+        rw (too-far-ends L cs c order, le-leb L (length cs) (g .0), le-leb (worst cs) (c .dist) h)
 
   -- what our rules keep
   record Kept (s : Search) : Type 0 where
     within : All (λ c. elem (c .id) (s .considered) ≡ true) (s .list)
     dists : All (λ c. c .dist ≡ d (c .id)) (s .list)
     order : Ordered before (s .list)
+    short : length (s .list) ≤ L
     known : All (Known (s .list)) (s .considered)
 
   record Alike (a b : Search) : Type 0 where
     list : a .list ≡ b .list
     visited : a .visited ≡ b .visited
 
-  module _ (N : ℕ → List ℕ) where
+  module _ (some : 1 ≤ L) (N : ℕ → List ℕ) where
     join-alike : (a b : Search) (t : ℕ) → Kept a → Alike a b → Kept (join amended L d N a t) × Alike (join amended L d N a t) (join by-list L d N b t)
     unfolding join amended by-list paper
     join-alike a b t f r = go (elem t (a .considered)) (elem t (ids (b .list))) refl (ap (λ l. elem t (ids l)) (r .list))
@@ -150,28 +146,30 @@ module _ (L : ℕ) (d : ℕ → ℕ) where
         c = record { dist = d t; id = t }
 
         joined : Search → Search
-        joined s = record { list = enter L (s .list) c; visited = s .visited; considered = t ∷ s .considered }
+        joined s = record { list = amended .joins L (s .list) c; visited = s .visited; considered = t ∷ s .considered }
 
         kept : elem t (a .considered) ≡ false → Kept (joined a)
         kept e =
-            record {
+            let other : All (λ x. x .id ≡ t → ⊥) (a .list) = all-map _ _ (λ x g i. true≢false (sym (rw i at g) ∙ e)) (a .list) (f .within) in
+            rw (joins-enter L (a .list) c (f .order) other (f .short)) (record {
               within = all-enter _ L (a .list) c (all-map _ _ (λ x i. rw i (or-true (eqb (x .id) t))) (a .list) (f .within)) (rw (eq-eqb t t refl));
               dists = all-enter _ L (a .list) c (f .dists) refl;
-              order = enter-ordered L (a .list) c (all-map _ _ (λ x g i. true≢false (sym (rw i at g) ∙ e)) (a .list) (f .within)) (f .order);
+              order = enter-ordered L (a .list) c other (f .order);
+              short = enter-short L (a .list) c some (f .short);
               known = (now-known (a .list) c refl (f .dists) (f .order), all-map _ _ (still-known (a .list) c refl (f .dists) (f .order)) (a .considered) (f .known));
-            }
+            })
 
-        out : Known (a .list) t → elem t (ids (a .list)) ≡ false → enter L (a .list) c ≡ a .list
+        out : Known (a .list) t → elem t (ids (a .list)) ≡ false → amended .joins L (a .list) c ≡ a .list
         out (inl i) e = absurd (true≢false (sym i ∙ e))
-        out (inr g) e = not-entered (a .list) c refl (f .dists) (f .order) g
+        out (inr g) e = not-joined (a .list) c refl (f .dists) (f .order) g
 
         go : (p q : Bool) → elem t (a .considered) ≡ p → elem t (ids (a .list)) ≡ q
             → Kept (cond (not p) (joined a) a) × Alike (cond (not p) (joined a) a) (cond (not q) (joined b) b)
         go true true e g = (f, r)
         go true false e g =
-            (f, record { list = sym (out (all-elem _ t (a .considered) (f .known) e) g) ∙ ap (λ l. enter L l c) (r .list); visited = r .visited })
+            (f, record { list = sym (out (all-elem _ t (a .considered) (f .known) e) g) ∙ ap (λ l. amended .joins L l c) (r .list); visited = r .visited })
         go false true e g = absurd (true≢false (sym (all-elem _ t (ids (a .list)) (all-ids _ (a .list) (f .within)) g) ∙ e))
-        go false false e g = (kept e, record { list = ap (λ l. enter L l c) (r .list); visited = r .visited })
+        go false false e g = (kept e, record { list = ap (λ l. amended .joins L l c) (r .list); visited = r .visited })
 
     joins-alike : (ts : List ℕ) (a b : Search) → Kept a → Alike a b
         → Kept (foldl (join amended L d N) a ts) × Alike (foldl (join amended L d N) a ts) (foldl (join by-list L d N) b ts)
@@ -182,7 +180,7 @@ module _ (L : ℕ) (d : ℕ → ℕ) where
         → Kept (turn amended L d N a us) × Alike (turn amended L d N a us) (turn by-list L d N b us)
     unfolding turn visit amended by-list
     turn-alike [] a b f r = (f, r)
-    turn-alike (u ∷ us) a b f r = go (ends L (a .list) p) (ends L (b .list) p) (ap (λ l. ends L l p) (r .list))
+    turn-alike (u ∷ us) a b f r = go (too-far L (a .list) p) (too-far L (b .list) p) (ap (λ l. too-far L l p) (r .list))
       where
         p : Candidate
         p = nearest before u us
@@ -192,7 +190,7 @@ module _ (L : ℕ) (d : ℕ → ℕ) where
         go true false e = absurd (true≢false e)
         go false true e = absurd (true≢false (sym e))
         go false false e =
-            joins-alike (N (p .id)) _ _ (record { within = f .within; dists = f .dists; order = f .order; known = f .known })
+            joins-alike (N (p .id)) _ _ (record { within = f .within; dists = f .dists; order = f .order; short = f .short; known = f .known })
             (record { list = r .list; visited = ap (λ v. p .id ∷ v) (r .visited) })
 
     turns-alike : (n : ℕ) (a b : Search) → Kept a → Alike a b → Alike (turns amended L d N n a) (turns by-list L d N n b)
@@ -203,11 +201,11 @@ module _ (L : ℕ) (d : ℕ → ℕ) where
         let same : unvisited amended L d N a ≡ unvisited by-list L d N b = λ i. filter (λ c. not (elem (c .id) (r .visited i))) (r .list i) in
         turns-alike n _ _ (next .0) (subst (λ us. Alike (turn amended L d N a (unvisited amended L d N a)) (turn by-list L d N b us)) same (next .1))
 
-  start-kept : (s : ℕ) → Kept (record { list = record { dist = d s; id = s } ∷ []; visited = []; considered = s ∷ [] })
-  start-kept s = let e : (eqb s s || false) ≡ true = rw (eq-eqb s s refl) in record { within = (e, tt); dists = (refl, tt); order = (tt, tt); known = (inl e, tt) }
+  start-kept : 1 ≤ L → (s : ℕ) → Kept (record { list = record { dist = d s; id = s } ∷ []; visited = []; considered = s ∷ [] })
+  start-kept some s = let e : (eqb s s || false) ≡ true = rw (eq-eqb s s refl) in record { within = (e, tt); dists = (refl, tt); order = (tt, tt); short = some; known = (inl e, tt) }
 
 pub considers-by-list : (n s k L : ℕ) (d : ℕ → ℕ) (N : ℕ → List ℕ) → greedy-search amended n s k L d N ≡ greedy-search by-list n s k L d N
 unfolding greedy-search amended by-list
 considers-by-list n s k L d N =
-    let end = turns-alike (max 1 L) d N n _ _ (start-kept (max 1 L) d s) (record { list = refl; visited = refl }) in
+    let end = turns-alike (max 1 L) d (omega arith) N n _ _ (start-kept (max 1 L) d (omega arith) s) (record { list = refl; visited = refl }) in
     λ i. (take k (sort-by before (end .list i)), end .visited i)

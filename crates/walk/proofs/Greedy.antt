@@ -15,11 +15,12 @@ use Rattle.lists.proofs.Ordered.{sort-ordered}
 use Rattle.candidates.specs.Candidates.{Candidate, before, nearer}
 use Rattle.slots.specs.View.{View, live-neighbors}
 use Rattle.vectors.specs.Space.{query-distance}
-use Rattle.walk.specs.Walk.{State, unexpanded, enter, ends, meet, expand, graph-search, search-pool}
+use Rattle.walk.specs.Walk.{State, unexpanded, ends, meet, expand, graph-search, search-pool}
 use Rattle.walk.specs.Walk as Walk
-use Rattle.walk.specs.GreedySearch.{Rules, Search, nearest, join, visit, turn, unvisited, turns, greedy-search, paper, amended}
+use Rattle.walk.specs.GreedySearch.{Rules, Search, nearest, join, visit, turn, unvisited, turns, greedy-search, paper, too-far, amended}
 use Rattle.candidates.proofs.Before.{before-once}
-use Rattle.walk.proofs.Ordered.{First, Inside, expanded, all-enter, mark-set, unexpanded-first, meet-sound, marked-sound, turn-sound, start-sound}
+use Rattle.walk.proofs.Ordered.{First, Inside, expanded, mark-set, unexpanded-first, meet-sound, marked-sound, turn-sound, start-sound}
+use Rattle.walk.proofs.Amended.{all-joins, too-far-ends, joins-enter}
 use Rattle.walk.proofs.Turns.{enough, undone, undone-most, undone-fewer}
 
 -- ---- the turns of GreedySearch
@@ -100,7 +101,7 @@ paper-enough =
 
 pub amended-enough : Enough amended
 unfolding amended
-amended-enough = greedy-enough amended (record { joins = all-enter; stays = λ P L list h. h })
+amended-enough = greedy-enough amended (record { joins = all-joins; stays = λ P L list h. h })
 
 -- ---- the walk and GreedySearch, turn by turn
 
@@ -148,9 +149,11 @@ module _ (capacity beam : ℕ) (dist : ℕ → ℕ) (neighbors : ℕ → List �
   meet-same st s t h f r =
       let k : t < length (st .marks) = omega (arith, f .size) in
       let c = sym (r .considered t h) in
+      let new : Candidate = record { dist = dist t; id = t } in
       by-cases (λ x. Same capacity x (join amended beam dist neighbors s t)) (eqb (getD (st .marks) t 0) 0)
       (λ e. rw (c ∙ e) (record {
-        list = ap (λ l. enter beam l (record { dist = dist t; id = t })) (r .list);
+        list = sym (joins-enter beam (st .list) new (f .found .order) (all-map _ _ (λ a n i. n (rw i (eqb-true _ _ e))) (st .list) (f .met)) (f .found .short))
+            ∙ ap (λ l. amended .joins beam l new) (r .list);
         visited = λ u l. rw (mark-set (st .marks) t 1 u k) (by-cases (λ m. eqb m 2 ≡ elem u (s .visited)) (eqb u t)
             (λ i. rw (ap (λ x. getD (st .marks) x 0) (eqb-true u t i) ∙ eqb-true (getD (st .marks) t 0) 0 e) at (r .visited u l)) (λ i. r .visited u l));
         considered = λ u l. rw (mark-set (st .marks) t 1 u k) (marks-one (eqb u t) _ _ (r .considered u l));
@@ -183,9 +186,9 @@ module _ (capacity beam : ℕ) (dist : ℕ → ℕ) (neighbors : ℕ → List �
   turn-same st s [] (v ∷ vs) h g f r = absurd g
   turn-same st s (u ∷ us) [] h g f r = absurd g
   turn-same st s (u ∷ us) (v ∷ vs) h g f r =
-      let c : ends beam (s .list) u ≡ ends beam (st .list) u = ap (λ l. ends beam l u) (sym (r .list)) in
+      let c : too-far beam (s .list) u ≡ ends beam (st .list) u = ap (λ l. too-far beam l u) (sym (r .list)) ∙ too-far-ends beam (st .list) u (f .found .order) in
       rw (nearest-first v vs (g .1), ← g .0)
-      (by-cases (λ x. Same capacity x (cond (ends beam (s .list) u) s (visit amended beam dist neighbors s u))) (ends beam (st .list) u)
+      (by-cases (λ x. Same capacity x (cond (too-far beam (s .list) u) s (visit amended beam dist neighbors s u))) (ends beam (st .list) u)
       (λ e. rw (c ∙ e) r) (λ e. rw (c ∙ e) (expand-same st s u (h .0 .0) (h .0 .1) f r)))
 
   turns-same : (n : ℕ) (st : State) (s : Search) → Inside capacity beam dist st → Same capacity st s

@@ -1,5 +1,6 @@
 pub mod Ordered
 pub mod Turns
+pub mod Amended
 pub mod Greedy
 pub mod Considers
 pub mod Cases

@@ -1,13 +1,12 @@
 -- GreedySearch, Algorithm 1 of the DiskANN paper (NeurIPS 2019), in the paper's terms; each place where the walk departs from it is a field of
 -- `Rules`, with a line of its own in docs/DIFFERENCES.md. Assumes nothing.
 use Prim.Native.Nat.{ℕ, zero, suc, max}
-use mathlib.Core.Bool.{Bool, false, not, cond}
+use mathlib.Core.Bool.{Bool, false, not, _&&_, cond}
 use mathlib.Core.List.{List, [], _∷_, _++_}
 use lib.ListN.{length, take}
-use lib.Dec.{eqb, ltb, leb}
+use lib.Dec.{ltb, leb}
 use Rattle.lists.specs.Lists.{filter, elem, foldl, sort-by}
 use Rattle.candidates.specs.Candidates.{Candidate, before, nearer, ids}
-use Rattle.walk.specs.Walk as Walk
 
 pub record Rules : Type 0 where
   -- the size of the list, by the L that is asked for
@@ -77,13 +76,22 @@ paper = record {
   stays = λ L list. cond (ltb L (length list)) (take L (sort-by nearer list)) list;
 }
 
--- ours: DIFFERENCES, P-1 to P-5
+-- the greatest distance in a list; 0 of an empty one
+abbrev pub greatest : List Candidate → ℕ
+greatest [] = 0
+greatest (c ∷ cs) = max (c .dist) (greatest cs)
+
+-- whether a list has L nodes and c is no nearer than the farthest of them
+unfoldable pub too-far : ℕ → List Candidate → Candidate → Bool
+too-far L list c = leb L (length list) && leb (greatest list) (c .dist)
+
+-- ours: DIFFERENCES, P-1 to P-5. A neighbour joins unless it is too far, and then the L nearest stay.
 unfoldable pub amended : Rules
 amended = record {
   size = max 1;
   closer = before;
-  ends = Walk.ends;
+  ends = too-far;
   considers = λ list considered n. not (elem n considered);
-  joins = Walk.enter;
+  joins = λ L list c. cond (too-far L list c) list (take L (sort-by before (list ++ (c ∷ []))));
   stays = λ L list. list;
 }
