@@ -12,8 +12,6 @@ use Rattle.lists.proofs.Sorted.{filter-sort}
 use Rattle.candidates.specs.Candidates.{Candidate, nearer}
 use Rattle.prune.specs.Prune.{growth, thresholds-from, thresholds, considered}
 use Rattle.prune.specs.RobustPrune.{most-growth, grown, up-to, amended}
--- so that the examples are checked first
-use Rattle.prune.proofs.Cases
 
 pub candidates-considered : (live : ℕ → Bool) (alpha : Float) (p : ℕ) (C : List Candidate) → amended live alpha .candidates p C ≡ considered live p C
 unfolding amended considered
