@@ -2,3 +2,4 @@ pub mod Table
 pub mod Tests
 pub mod History
 pub mod Runs
+pub mod Instances

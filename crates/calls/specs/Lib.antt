@@ -5,4 +5,5 @@ pub mod Step
 pub mod Outputs
 pub mod History
 pub mod Runs
+pub mod Instances
 pub mod Table

@@ -3,7 +3,7 @@ use Prim.Native.Nat.{ℕ, zero, suc}
 use mathlib.Core.Bool.{Bool, true, false, cond}
 use mathlib.Core.Path.{_≡_, refl}
 use mathlib.Core.List.{List, [], _∷_, _++_}
-use lib.ListN.{take}
+use lib.ListN.{take, drop}
 use Rattle.lists.specs.Lists.{All, filter, init, insert-by, sort-by, foldl}
 
 -- what holds in both cases of a test
@@ -26,6 +26,10 @@ module _ {A : Type 0} where
   filter-test p (x ∷ xs) = let rest = filter-test p xs in by-cases (All (λ y. p y ≡ true)) (p x) (λ e. (e, rest)) (λ e. rest)
 
 module _ {A : Type 0} (P : A → Type 0) where
+  pub all-of : ((x : A) → P x) → (xs : List A) → All P xs
+  all-of f [] = tt
+  all-of f (x ∷ xs) = (f x, all-of f xs)
+
   pub all-append : (xs ys : List A) → All P xs → All P ys → All P (xs ++ ys)
   all-append [] ys h k = k
   all-append (x ∷ xs) ys h k = (h .0, all-append xs ys (h .1) k)
@@ -34,6 +38,11 @@ module _ {A : Type 0} (P : A → Type 0) where
   all-take zero xs h = tt
   all-take (suc n) [] h = tt
   all-take (suc n) (x ∷ xs) h = (h .0, all-take n xs (h .1))
+
+  pub all-drop : (n : ℕ) (xs : List A) → All P xs → All P (drop n xs)
+  all-drop zero xs h = h
+  all-drop (suc n) [] h = tt
+  all-drop (suc n) (x ∷ xs) h = all-drop n xs (h .1)
 
   pub all-init : (xs : List A) → All P xs → All P (init xs)
   all-init [] h = tt
