@@ -14,7 +14,7 @@ use Rattle.calls.specs.Calls.{Making, Operation, create, read, read-vect
 use Rattle.calls.specs.Refusals.{Test, first-of, making-tests, index-tests, tests}
 use Rattle.calls.specs.State.{State, stored, plain, shown, made}
 use Rattle.calls.specs.Step.{perform, refusal, settle, step}
-use Rattle.calls.specs.History.{Seen, seen, log-after, Within, trace}
+use Rattle.calls.specs.History.{Seen, seen, Few, log-after, Within, trace}
 use Rattle.calls.specs.Runs.{Run, slices-of, slices-lent, call-of, Value, value-of, Lends, the-index, other-slices, a-new-one, run-refusal, Meets, after-run, next, Chain, observed, History-of-runs}
 use Rattle.calls.proofs.Tests.{exact, passed-lengths}
 use Rattle.calls.proofs.History.{Same, Both, step-both, same-seen, made-both, made-step}
@@ -60,18 +60,26 @@ module _ (lent : Lent) where
   alike-create m u u′ = record { refusals = refl; outcomes = λ e. refl }
 
   -- every call but making is refused with 3
-  alike-misfit : (o : Operation) (u u′ : State Store) → Misfit (lent .slices) u → Misfit (lent .slices) u′ → Alike lent o u u′
+  data Turned-back (o : Operation) (u u′ : State Store) : Type 0 where
+    making : (m : Making) → o ≡ create m → Turned-back o u u′
+    with-three : refusal stored u (record { lent = lent; operation = o }) ≡ some 3 → refusal stored u′ (record { lent = lent; operation = o }) ≡ some 3 → Turned-back o u u′
+
+  turned-back : (o : Operation) (u u′ : State Store) → Misfit (lent .slices) u → Misfit (lent .slices) u′ → Turned-back o u u′
   unfolding refusal tests
-  alike-misfit (create m) u u′ f g = alike-create m u u′
-  alike-misfit (read r) u u′ f g = both-three (read r) u u′ (three u f _ _) (three u′ g _ _)
-  alike-misfit (read-vector s) u u′ f g = both-three (read-vector s) u u′ (three u f _ _) (three u′ g _ _)
-  alike-misfit (search a) u u′ f g = both-three (search a) u u′ (three u f _ _) (three u′ g _ _)
-  alike-misfit (insert a) u u′ f g = both-three (insert a) u u′ (three u f _ _) (three u′ g _ _)
-  alike-misfit (delete a) u u′ f g = both-three (delete a) u u′ (three u f _ _) (three u′ g _ _)
-  alike-misfit (enable config) u u′ f g = both-three (enable config) u u′ (three u f _ _) (three u′ g _ _)
-  alike-misfit status u u′ f g = both-three status u u′ (three u f _ _) (three u′ g _ _)
-  alike-misfit (assess ids) u u′ f g = both-three (assess ids) u u′ (three u f _ _) (three u′ g _ _)
-  alike-misfit (guarded-delete a) u u′ f g = both-three (guarded-delete a) u u′ (three u f _ _) (three u′ g _ _)
+  turned-back (create m) u u′ f g = making m refl
+  turned-back (read r) u u′ f g = with-three (three u f _ _) (three u′ g _ _)
+  turned-back (read-vector s) u u′ f g = with-three (three u f _ _) (three u′ g _ _)
+  turned-back (search a) u u′ f g = with-three (three u f _ _) (three u′ g _ _)
+  turned-back (insert a) u u′ f g = with-three (three u f _ _) (three u′ g _ _)
+  turned-back (delete a) u u′ f g = with-three (three u f _ _) (three u′ g _ _)
+  turned-back (enable config) u u′ f g = with-three (three u f _ _) (three u′ g _ _)
+  turned-back status u u′ f g = with-three (three u f _ _) (three u′ g _ _)
+  turned-back (assess ids) u u′ f g = with-three (three u f _ _) (three u′ g _ _)
+  turned-back (guarded-delete a) u u′ f g = with-three (three u f _ _) (three u′ g _ _)
+
+  alike-misfit : (o : Operation) (u u′ : State Store) → Turned-back o u u′ → Alike lent o u u′
+  alike-misfit o u u′ (making m q) = subst (λ o. Alike lent o u u′) (sym q) (alike-create m u u′)
+  alike-misfit o u u′ (with-three a b) = both-three o u u′ a b
 
 -- ---- one run is one call on what the app had
 
@@ -90,13 +98,27 @@ module _ (log : List ℕ) (w : State Store) (p : State View) (e : Same log w p) 
       go true t = absurd (n (passed-lengths (store-view (w .graph) .sizes) (slices-lent r) t ∙ sym (own-lengths log w p e)))
       go false t = refl
 
+  turned : value-of (r .before) ≡ value-of w → (slices-lent r ≡ lengths-of (slices-of w) → ⊥) → Turned-back (call-of r .lent) (r .operation) (r .before) w
+  unfolding call-of
+  turned v n = let f = misfits v n in turned-back (call-of r .lent) (r .operation) (r .before) w (f .0) (f .1)
+
+  -- slices of other lengths are refused with 3, where the run is no making
+  pub refused-slices : ((m : Making) → r .operation ≡ create m → ⊥) → value-of (r .before) ≡ value-of w → (slices-lent r ≡ lengths-of (slices-of w) → ⊥)
+      → run-refusal r ≡ some 3
+  unfolding run-refusal call-of
+  refused-slices other v n = go (turned v n)
+    where
+      go : Turned-back (call-of r .lent) (r .operation) (r .before) w → run-refusal r ≡ some 3
+      go (making m q) = absurd (other m q)
+      go (with-three a b) = a
+
   alike : Lends w r → Alike (call-of r .lent) (r .operation) (r .before) w
   unfolding call-of
   alike (the-index q) = record {
     refusals = ap (λ u. refusal stored u (call-of r)) q;
     outcomes = λ c. ap (λ u. perform stored u (r .operation)) q;
   }
-  alike (other-slices v n) = let f = misfits v n in alike-misfit (call-of r .lent) (r .operation) (r .before) w (f .0) (f .1)
+  alike (other-slices v n) = alike-misfit (call-of r .lent) (r .operation) (r .before) w (turned v n)
   alike (a-new-one m q) = subst (λ o. Alike (call-of r .lent) o (r .before) w) (sym q) (alike-create (call-of r .lent) m (r .before) w)
 
   -- the same number, or the same outcome
@@ -114,6 +136,20 @@ module _ (log : List ℕ) (w : State Store) (p : State View) (e : Same log w p) 
       go (some n) h = ap (λ (x : State Store × Answer). (w, x .1)) (did (some n) h) ∙ same (some n) h
       go none h = did none h ∙ alike l .outcomes h ∙ same none h
 
+  -- so the two indexes agree after it, and the answers
+  pub run-both : Lends w r → Meets r → Few (log-after log p (call-of r)) → Both (log-after log p (call-of r)) (next w r, r .answer) (step plain p (call-of r))
+  run-both l f few =
+      subst (λ (x : State Store × Answer). Both (log-after log p (call-of r)) x (step plain p (call-of r))) (sym (run-step l f)) (step-both log w p e (call-of r) few)
+
+-- where a run is lent what the app has, the app has what it leaves, also where it is turned back
+pub own-next : (r : Run) → Meets r → next (r .before) r ≡ r .after
+unfolding next run-refusal after-run step settle
+own-next r f = go (run-refusal r) refl
+  where
+    go : (q : Option ℕ) → run-refusal r ≡ q → after-run (r .before) r q ≡ r .after
+    go (some n) h = sym (ap (λ (x : State Store × Answer). x .0) (f .does ∙ ap (settle stored (r .before) (call-of r)) h))
+    go none h = refl
+
 -- ---- every chain of runs
 
 observed-trace : (log : List ℕ) (w : State Store) (p : State View) → Same log w p → (rs : List Run) → Chain w rs → Within log p (map call-of rs)
@@ -122,7 +158,7 @@ observed-trace log w p e [] c h = refl
 observed-trace log w p e (r ∷ rs) c h =
     let log′ = log-after log p (call-of r) in
     let q = step plain p (call-of r) in
-    let b = subst (λ (x : State Store × Answer). Both log′ x q) (sym (run-step log w p e r (c .0) (c .1))) (step-both log w p e (call-of r) (h .0)) in
+    let b = run-both log w p e r (c .0) (c .1) (h .0) in
     ap₂ (λ x y. x ∷ y) (same-seen log′ (next w r, r .answer) q b) (observed-trace log′ (next w r) (q .0) (b .same) rs (c .2) (h .1))
 
 -- the making with which the runs begin
@@ -143,13 +179,18 @@ made-run w m r q acc f =
     ∙ ap (step stored (r .before)) (call-making m r q)
     ∙ made-step stored (r .before) (call-of r .lent) m acc
 
+module _ (m : Making) (r : Run) (q : r .operation ≡ create m) (acc : first-of (making-tests limits (slices-lent r) m) ≡ none) where
+  pub made-run-both : (w : State Store) → Meets r → Both [] (next w r, r .answer) (made plain m, created)
+  made-run-both w f =
+      subst (λ (x : State Store × Answer). Both [] x (made plain m, created)) (sym (made-run w m r q acc f)) (made-both (slices-lent r) m acc)
+
+  pub made-plain : (p : State View) → step plain p (call-of r) ≡ (made plain m, created)
+  unfolding call-of
+  made-plain p = ap (step plain p) (call-making m r q) ∙ made-step plain p (call-of r .lent) m acc
+
 pub history-of-runs : History-of-runs
-unfolding call-of
 history-of-runs w p m r rs q acc c h =
-    let s = step plain p (call-of r) in
-    let s′ : s ≡ (made plain m, created) = ap (step plain p) (call-making m r q) ∙ made-step plain p (call-of r .lent) m acc in
-    let b : Both [] (next w r, r .answer) (made plain m, created) =
-    subst (λ (x : State Store × Answer). Both [] x (made plain m, created)) (sym (made-run w m r q acc (c .1))) (made-both (slices-lent r) m acc) in
+    let b = made-run-both m r q acc w (c .1) in
     ap₂ (λ x y. x ∷ y) (same-seen [] (next w r, r .answer) (made plain m, created) b)
     (observed-trace [] (next w r) (made plain m) (b .same) rs (c .2) h)
-    ∙ sym (ap (λ (x : State View × Answer). seen plain (x .0) (x .1) ∷ trace plain (x .0) (map call-of rs)) s′)
+    ∙ sym (ap (λ (x : State View × Answer). seen plain (x .0) (x .1) ∷ trace plain (x .0) (map call-of rs)) (made-plain m r q acc p))

@@ -1,0 +1,179 @@
+-- Demand 3 of the code: the proof of `Exported-history`. Assumes nothing.
+use Prim.Native.Nat.{ℕ}
+use mathlib.Core.Bool.{Bool, true, false, cond}
+use mathlib.Core.List.{List, [], _∷_, map}
+use mathlib.Core.Option.{Option, none, some}
+use mathlib.Core.Path.{_≡_, refl, sym, ap, ap₂, _∙_, subst}
+use native.Mathlib.Omega.{arith}
+use borrow.Author.Tests.{eqb-true, eq-eqb}
+use lib.Dec.{eqb}
+use lib.Ieee.{binary32, toBits}
+use Rattle.slots.specs.Sizes.{Slices, lengths-of, limits}
+use Rattle.slots.specs.View.{View}
+use Rattle.slots.specs.Store.{Store, store-view, store-ops}
+use Rattle.slots.specs.Plain.{plain-ops}
+use Rattle.calls.specs.Calls.{Making, create, Answer, refused, created, number, alpha, version, vector, found, inserted, deleted, standing, assessed, applied, deferred}
+use Rattle.calls.specs.Refusals.{first-of, making-tests}
+use Rattle.calls.specs.State.{State, stored, plain, shown, made}
+use Rattle.calls.specs.Step.{step}
+use Rattle.calls.specs.History.{hide, Few, log-after, Within}
+use Rattle.calls.specs.Runs.{slices-of, value-of, call-of, run-refusal, after-run, next}
+use Rattle.calls.specs.Runs as Runs
+use Rattle.calls.proofs.History.{Same, Both, same-shown, same-seen}
+use Rattle.calls.proofs.Runs.{refused-slices, own-next, run-both, made-run-both, made-plain}
+use Rattle.index.specs.declared.Index.{Index}
+use Rattle.index.specs.declared.Guard.{Guard}
+use Rattle.index.specs.declared.Guard.the-variants.{Off, On}
+use Rattle.index.specs.Index.{guard-of, state-of}
+use Rattle.finder.specs.IndexWords.{index-of, words-of}
+use Rattle.finder.specs.IndexWords as Finder
+use Rattle.exported.specs.Runs.{Memory, Places, Run, Exported}
+use Rattle.exported.specs.History.{Lends, own, other-slices, any-memory, Event, Chain, Hand, in-hand, Asked, asked, put, guard-words, words-in, plain-hand, plain-hands, Exported-history}
+use Rattle.exported.proofs.Known.{state-in, as-run, Right, Known, known}
+
+-- ---- the words
+
+guard-told : (g : Guard) → Finder.guard-words g ≡ guard-words (guard-of g)
+unfolding Finder.guard-words guard-words guard-of
+guard-told Off = refl
+guard-told (On s) = refl
+
+-- those that an index is written as are those that its state shows
+words-told : (i : Index) (s : Slices) → words-of i ≡ words-in (shown stored (state-of i s))
+unfolding words-of words-in shown stored store-ops store-view state-of
+words-told i s = ap (λ l. i .dim ∷ i .capacity ∷ i .degree ∷ toBits binary32 (i .alpha) ∷ i .entry ∷ i .live ∷ l) (guard-told (i .guard))
+
+plain-told : (p : State View) → words-in (shown plain p) ≡ words-in p
+unfolding words-in shown plain plain-ops
+plain-told p = refl
+
+-- ---- the answer
+
+-- a version is not looked at
+unseen : (a : Answer) (o : Places) → put (hide a) o ≡ put a o
+unfolding put hide
+unseen (refused n) o = refl
+unseen created o = refl
+unseen (number n) o = refl
+unseen (alpha a) o = refl
+unseen (version n) o = refl
+unseen (vector l) o = refl
+unseen (found cs) o = refl
+unseen (inserted ss) o = refl
+unseen (deleted ts) o = refl
+unseen (standing s) o = refl
+unseen (assessed r) o = refl
+unseen (applied ts r) o = refl
+unseen (deferred r) o = refl
+
+-- ---- where the app has its index
+
+abbrev run : {r : Run} → Known r → Runs.Run
+run {r} k = as-run r (k .answer) (k .scratch′)
+
+module _ (had : Memory) {r : Run} (k : Known r) where
+  lends : {has : Memory} → Lends had r has → Runs.Lends (state-in had) (run k)
+  unfolding value-of store-view state-of slices-of
+  lends (own q) = Runs.the-index (ap state-in q)
+  lends (other-slices other q n) = Runs.other-slices (ap (λ w. value-of (state-of (index-of w) (r .lent .slices))) q) n
+  lends (any-memory m q) = Runs.a-new-one m q
+
+  -- a making that is turned back leaves the app what it had
+  next-made : run-refusal (run k) ≡ cond (eqb (r .returned) 0) none (some (r .returned)) → next (state-in had) (run k) ≡ state-in (cond (eqb (r .returned) 0) (r .left) had)
+  unfolding next after-run
+  next-made e = ap (after-run (state-in had) (run k)) e ∙ go (eqb (r .returned) 0)
+    where
+      go : (b : Bool) → after-run (state-in had) (run k) (cond b none (some (r .returned))) ≡ state-in (cond b (r .left) had)
+      go true = refl
+      go false = refl
+
+  next-own : r .lent ≡ had → next (state-in had) (run k) ≡ state-in (r .left)
+  next-own q = ap (λ a. next (state-in a) (run k)) (sym q) ∙ own-next (run k) (k .meets)
+
+  right-made : Right had → (m : Making) → r .operation ≡ create m → (b : Bool) → eqb (r .returned) 0 ≡ b → Right (cond b (r .left) had)
+  right-made h m q true e = k .makes m q (eqb-true (r .returned) 0 e)
+  right-made h m q false e = h
+
+  module _ (log : List ℕ) (p : State View) (e : Same log (state-in had) p) where
+    other : ((m : Making) → r .operation ≡ create m → ⊥) → r .lent .words ≡ had .words → (lengths-of (r .lent .slices) ≡ lengths-of (had .slices) → ⊥)
+        → (run-refusal (run k) ≡ some 3) × (had .words ≡ r .left .words)
+    unfolding value-of store-view state-of slices-of
+    other o q n =
+        let f = refused-slices log (state-in had) p e (run k) o (ap (λ w. value-of (state-of (index-of w) (r .lent .slices))) q) n in
+        (f, sym (k .kept 3 f ∙ q))
+
+    has-next : {has : Memory} → Lends had r has → next (state-in had) (run k) ≡ state-in has
+    unfolding next after-run
+    has-next (own q) = next-own q
+    has-next (other-slices o q n) =
+        let f = other o q n in ap (after-run (state-in had) (run k)) (f .0) ∙ ap (λ w. state-of (index-of w) (had .slices)) (f .1)
+    has-next (any-memory m q) = next-made (k .judges m q)
+
+    has-right : {has : Memory} → Lends had r has → Right had → Right has
+    has-right (own q) h = k .right (subst Right (sym q) h)
+    has-right (other-slices o q n) h = subst (λ w. w ≡ words-of (index-of w)) (other o q n .1) h
+    has-right (any-memory m q) h = right-made h m q (eqb (r .returned) 0) refl
+
+-- ---- one run
+
+-- the returned number and what stands where the answer is written, where the two indexes agree
+told : {log : List ℕ} {w : State Store} {q : State View × Answer} (r : Run) (k : Known r) → Both log (w, k .answer) q → (r .returned, r .after) ≡ put (q .1) (r .before)
+told {q} r k b = k .tells ∙ sym (unseen (k .answer) (r .before)) ∙ ap (λ a. put a (r .before)) (b .answer) ∙ unseen (q .1) (r .before)
+
+module _ (e : Event) (k : Known (e .run)) where
+  -- so does what the caller has in hand
+  hand : (log : List ℕ) (q : State View × Answer) → Right (e .has) → Both log (state-in (e .has), k .answer) q → in-hand e ≡ plain-hand (asked e) q
+  unfolding in-hand plain-hand
+  hand log q h b =
+      let t = told (e .run) k b in
+      let w = h ∙ words-told (index-of (e .has .words)) (e .has .slices) ∙ ap words-in (same-shown (b .same)) ∙ plain-told (q .0) in
+      let s = same-seen log (state-in (e .has), created) (q .0, created) (record { same = b .same; answer = refl }) in
+      λ i. record { returned = t i .0; places = t i .1; words = w i; seen = s i }
+
+  both : (log : List ℕ) (had : Memory) (p : State View) → Same log (state-in had) p → Lends had (e .run) (e .has) → Few (log-after log p (asked e .call))
+      → Both (log-after log p (asked e .call)) (state-in (e .has), k .answer) (step plain p (asked e .call))
+  unfolding call-of slices-of state-of
+  both log had p s l few =
+      subst (λ w. Both (log-after log p (asked e .call)) (w, k .answer) (step plain p (asked e .call))) (has-next had k log p s l)
+      (run-both log (state-in had) p s (run k) (lends had k l) (k .meets) few)
+
+-- ---- every list of runs
+
+hands : (log : List ℕ) (had : Memory) (p : State View) → Same log (state-in had) p → Right had → (es : List Event) → Chain had es
+    → Within log p (map (λ e. asked e .call) es) → map in-hand es ≡ plain-hands p (map asked es)
+unfolding plain-hands
+hands log had p s h [] c f = refl
+hands log had p s h (e ∷ es) c f =
+    let k = known (c .0) in
+    let h′ = has-right had k log p s (c .1) h in
+    let b = both e k log had p s (c .1) (f .0) in
+    let q = step plain p (asked e .call) in
+    ap₂ (λ x y. x ∷ y) (hand e k _ q h′ b) (hands _ (e .has) (q .0) (b .same) h′ es (c .2) (f .1))
+
+-- ---- the making with which they begin
+
+module _ (had : Memory) (m : Making) (e : Event) (k : Known (e .run)) (q : e .run .operation ≡ create m) (acc : first-of (making-tests limits (lengths-of (e .run .lent .slices)) m) ≡ none) where
+  begun : Both [] (next (state-in had) (run k), k .answer) (made plain m, created)
+  unfolding slices-of state-of
+  begun = made-run-both m (run k) q acc (state-in had) (k .meets)
+
+  returns-0 : e .run .returned ≡ 0
+  unfolding put
+  returns-0 = ap (λ (x : ℕ × Places). x .0) (told (e .run) k begun)
+
+  first-next : {has : Memory} → Lends had (e .run) has → (next (state-in had) (run k) ≡ state-in has) × Right has
+  first-next (own l) = (next-own had k l, k .makes m q returns-0)
+  first-next (other-slices other l n) = absurd (other m q)
+  first-next (any-memory m′ l) = (
+    next-made had k (k .judges m q),
+    subst (λ b. Right (cond b (e .run .left) had)) (sym (eq-eqb (e .run .returned) 0 returns-0)) (k .makes m q returns-0),
+  )
+
+pub exported-history : Exported-history
+unfolding plain-hands call-of slices-of state-of
+exported-history had p m e es q acc c f =
+    let k = known (c .0) in
+    let n = first-next had m e k q acc (c .1) in
+    let b = subst (λ w. Both [] (w, k .answer) (made plain m, created)) (n .0) (begun had m e k q acc) in
+    ap₂ (λ x y. x ∷ y) (hand e k [] (made plain m, created) (n .1) b) (hands [] (e .has) (made plain m) (b .same) (n .1) es (c .2) f)
+    ∙ sym (ap (λ (x : State View × Answer). plain-hand (asked e) x ∷ plain-hands (x .0) (map asked es)) (made-plain m (run k) q acc p))

@@ -1,0 +1,123 @@
+-- Demand 3 of the code: whatever exported functions are run on one index, the caller has in hand what the plain index gives, fed the same calls.
+-- Assumes nothing.
+use Prim.Native.Nat.{ℕ}
+use mathlib.Core.Bool.{cond}
+use mathlib.Core.List.{List, [], _∷_, map}
+use mathlib.Core.Option.{none}
+use mathlib.Core.Path.{_≡_}
+use lib.Dec.{eqb}
+use lib.Ieee.{binary32, toBits}
+use lib.ListN.{length}
+use Rattle.slots.specs.Sizes.{lengths-of, limits}
+use Rattle.slots.specs.View.{View}
+use Rattle.slots.specs.Store.{Store}
+use Rattle.guard.specs.Guard.{Guard, off, on}
+use Rattle.calls.specs.Calls.{Making, create, Call, Answer, refused, created, number, alpha, version, vector, found, inserted, deleted, standing, assessed, applied, deferred}
+use Rattle.calls.specs.Outputs.{written}
+use Rattle.calls.specs.Refusals.{first-of, making-tests}
+use Rattle.calls.specs.State.{State, stored, plain, made}
+use Rattle.calls.specs.Step.{step}
+use Rattle.calls.specs.History.{Seen, seen, Within}
+use Rattle.calls.specs.Runs.{lent-of}
+use Rattle.index.specs.Index.{state-of}
+use Rattle.finder.specs.IndexWords.{index-of}
+use Rattle.exported.specs.Runs.{Memory, Places, places, Run, Exported}
+
+-- ---- runs on one index
+
+-- `Lends had r has`: what a run may be lent by an app whose index is `had`, and what the app's index is after it
+pub data Lends (had : Memory) (r : Run) : Memory → Type 0 where
+  -- the app's index
+  own : r .lent ≡ had → Lends had r (r .left)
+  -- its words with slices of which at least one has another length, where r is no making
+  other-slices : ((m : Making) → r .operation ≡ create m → ⊥) → r .lent .words ≡ had .words → (lengths-of (r .lent .slices) ≡ lengths-of (had .slices) → ⊥)
+      → Lends had r (record { words = r .left .words; slices = had .slices })
+  -- any memory, to make an index in; where that is turned back the app keeps its own
+  any-memory : (m : Making) → r .operation ≡ create m → Lends had r (cond (eqb (r .returned) 0) (r .left) had)
+
+-- a run, and the app's index after it
+pub record Event : Type 0 where
+  pub run : Run
+  pub has : Memory
+
+-- runs of exported functions on one index
+abbrev pub Chain : Memory → List Event → Type 0
+Chain had [] = Unit {0}
+Chain had (e ∷ es) = Exported (e .run) × Lends had (e .run) (e .has) × Chain (e .has) es
+
+-- ---- what the caller has in hand after a run
+
+pub record Hand : Type 0 where
+  pub returned : ℕ
+  pub places : Places
+  -- the twelve words
+  pub words : List ℕ
+  -- pool, live slots, their vectors and live targets; the answer stands above
+  pub seen : Seen
+
+unfoldable pub in-hand : Event → Hand
+in-hand e =
+    record {
+      returned = e .run .returned;
+      places = e .run .after;
+      words = e .has .words;
+      seen = seen stored (state-of (index-of (e .has .words)) (e .has .slices)) created;
+    }
+
+-- ---- the same of the plain index
+
+-- what it is fed: the call, with the lengths of all that is lent, and what stands where the answer is written
+pub record Asked : Type 0 where
+  pub call : Call
+  pub before : Places
+
+abbrev pub asked : Event → Asked
+asked e =
+    let r = e .run in
+    record { call = record { lent = lent-of (r .lent .slices) (r .before .outputs) (r .scratch); operation = r .operation }; before = r .before }
+
+-- the number that is returned with an answer, and what then stands where it is written; a version is not compared
+unfoldable pub put : Answer → Places → ℕ × Places
+put (refused n) o = (n, o)
+put created o = (0, o)
+put (number n) o = (0, places n (o .alpha) (o .bytes) (o .outputs))
+put (alpha a) o = (0, places (o .value) a (o .bytes) (o .outputs))
+put (version n) o = (0, o)
+put (vector l) o = (length l, places (o .value) (o .alpha) l (o .outputs))
+put (found cs) o = (0, places (length cs) (o .alpha) (o .bytes) (written (found cs) (o .outputs)))
+-- no exported function answers so yet
+put (inserted ss) o = (0, o)
+put (deleted ts) o = (0, o)
+put (standing s) o = (0, o)
+put (assessed r) o = (0, o)
+put (applied ts r) o = (0, o)
+put (deferred r) o = (0, o)
+
+unfoldable pub guard-words : Guard → List ℕ
+guard-words off = 0 ∷ 0 ∷ 0 ∷ 0 ∷ 0 ∷ 0 ∷ []
+guard-words (on c n) = 1 ∷ c .landmark-count ∷ c .multiplier ∷ c .sample-size ∷ c .beam ∷ n ∷ []
+
+-- the twelve words of an index, in the order of include/finder.h
+unfoldable pub words-in : State View → List ℕ
+words-in w =
+    let z = w .graph .sizes in
+    z .dim ∷ z .capacity ∷ z .degree ∷ toBits binary32 (z .alpha) ∷ w .graph .entry ∷ w .live ∷ guard-words (w .guard)
+
+unfoldable pub plain-hand : Asked → State View × Answer → Hand
+plain-hand a q = let o = put (q .1) (a .before) in record { returned = o .0; places = o .1; words = words-in (q .0); seen = seen plain (q .0) created }
+
+unfoldable pub plain-hands : State View → List Asked → List Hand
+plain-hands p [] = []
+plain-hands p (a ∷ rest) = let q = step plain p (a .call) in plain-hand a q ∷ plain-hands (q .0) rest
+
+-- ---- the claim
+
+-- whatever the memory held before the accepted making with which the runs begin, and whatever the scratch holds
+abbrev pub Exported-history : Type 0
+Exported-history =
+    (had : Memory) (p : State View) (m : Making) (e : Event) (es : List Event)
+    → e .run .operation ≡ create m
+    → first-of (making-tests limits (lengths-of (e .run .lent .slices)) m) ≡ none
+    → Chain had (e ∷ es)
+    → Within [] (made plain m) (map (λ e. asked e .call) es)
+    → map in-hand (e ∷ es) ≡ plain-hands p (map asked (e ∷ es))

@@ -1,0 +1,91 @@
+-- Runs of the exported functions that work on an index: all of include/finder.h but `finder_scratch_words`. Each has the contract that its function is
+-- proved to meet (finder/specs/Given.antt) and nothing else; what is left has a prime. Assumes nothing.
+use Prim.Native.Nat.{ℕ}
+use mathlib.Core.Bool.{cond}
+use mathlib.Core.List.{List, []}
+use lib.Dec.{eqb}
+use lib.Ieee.{Float}
+use Rattle.vectors.specs.Distance.{f32}
+use Rattle.slots.specs.Sizes.{Slices}
+use Rattle.calls.specs.Calls.{Making, read-dim, read-capacity, read-degree, read-alpha, read-entry, read-live, read-mark, read-version, read-target, Search, Operation, create, read, read-vector, search}
+use Rattle.calls.specs.Calls as Calls
+use Rattle.calls.specs.Outputs.{Outputs, no-outputs}
+use Rattle.reading.specs.declared.Reading.the-variants.{Dim, Capacity, Degree, Entry, Live, Mark, Version, Target}
+use Rattle.reading.specs.Search.{search-outputs}
+use Rattle.finder.specs.Given.{Creates-words, Reads-number, Reads-alpha, bytes-at, Reads-length, Searches-words}
+
+-- an index as the app holds it: its twelve words and its six slices
+pub record Memory : Type 0 where
+  pub words : List ℕ
+  pub slices : Slices
+
+-- where an answer is written: `*value` or `*found`; the `*value` of `finder_alpha`; a vector's bytes, which are read where they lie; the output lists
+pub record Places : Type 0 where
+  pub value : ℕ
+  pub alpha : Float
+  pub bytes : List ℕ
+  pub outputs : Outputs
+
+abbrev pub places : ℕ → Float → List ℕ → Outputs → Places
+places value alpha bytes outputs = record { value = value; alpha = alpha; bytes = bytes; outputs = outputs }
+
+-- a function has only some of them: the others count as 0 or empty
+abbrev pub nowhere : Places
+nowhere = places 0 (f32 0) [] no-outputs
+
+abbrev pub in-value : ℕ → Places
+in-value n = places n (f32 0) [] no-outputs
+
+abbrev pub in-alpha : Float → Places
+in-alpha a = places 0 a [] no-outputs
+
+-- one run: what is asked, the memory that is lent and left, the scratch that is lent, what stands before and after where the answer is written, and the
+-- number returned
+pub record Run : Type 0 where
+  pub operation : Operation
+  pub lent : Memory
+  pub left : Memory
+  pub scratch : List ℕ
+  pub before : Places
+  pub after : Places
+  pub returned : ℕ
+
+abbrev pub making : Making → Memory → Memory → ℕ → Run
+making m lent left status = record { operation = create m; lent = lent; left = left; scratch = []; before = nowhere; after = nowhere; returned = status }
+
+-- a run that leaves the memory
+abbrev pub looking : Operation → Memory → List ℕ → Places → Places → ℕ → Run
+looking o lent scratch before after returned =
+    record { operation = o; lent = lent; left = lent; scratch = scratch; before = before; after = after; returned = returned }
+
+abbrev pub number : Calls.Reading → Memory → ℕ → ℕ → ℕ → Run
+number q lent value value′ status = looking (read q) lent [] (in-value value) (in-value value′) status
+
+-- the runs of each function
+pub data Exported : Run → Type 0 where
+  finder-create : {m : Making} {lent left : Memory} {status : ℕ} → Creates-words m (lent .slices) (left .slices) (lent .words) (left .words) status
+      → Exported (making m lent left status)
+  finder-dim : {lent : Memory} {value value′ status : ℕ} → Reads-number (lent .words) (lent .slices) Dim value value′ status
+      → Exported (number read-dim lent value value′ status)
+  finder-capacity : {lent : Memory} {value value′ status : ℕ} → Reads-number (lent .words) (lent .slices) Capacity value value′ status
+      → Exported (number read-capacity lent value value′ status)
+  finder-degree : {lent : Memory} {value value′ status : ℕ} → Reads-number (lent .words) (lent .slices) Degree value value′ status
+      → Exported (number read-degree lent value value′ status)
+  finder-entry : {lent : Memory} {value value′ status : ℕ} → Reads-number (lent .words) (lent .slices) Entry value value′ status
+      → Exported (number read-entry lent value value′ status)
+  finder-live : {lent : Memory} {value value′ status : ℕ} → Reads-number (lent .words) (lent .slices) Live value value′ status
+      → Exported (number read-live lent value value′ status)
+  finder-mark : {lent : Memory} {slot value value′ status : ℕ} → Reads-number (lent .words) (lent .slices) (Mark slot) value value′ status
+      → Exported (number (read-mark slot) lent value value′ status)
+  -- a version that is read is not compared: what stood there before stands for it
+  finder-slot-version : {lent : Memory} {slot value value′ status : ℕ} → Reads-number (lent .words) (lent .slices) (Version slot) value value′ status
+      → Exported (number (read-version slot) lent value (cond (eqb status 0) value value′) status)
+  finder-target : {lent : Memory} {slot place value value′ status : ℕ} → Reads-number (lent .words) (lent .slices) (Target slot place) value value′ status
+      → Exported (number (read-target slot place) lent value value′ status)
+  finder-alpha : {lent : Memory} {value value′ : Float} {status : ℕ} → Reads-alpha (lent .words) (lent .slices) value value′ status
+      → Exported (looking (read read-alpha) lent [] (in-alpha value) (in-alpha value′) status)
+  finder-vector : {lent : Memory} {slot n : ℕ} → Reads-length (lent .words) (lent .slices) slot n
+      → Exported (looking (read-vector slot) lent [] nowhere (places 0 (f32 0) (bytes-at (lent .words) (lent .slices) slot n) no-outputs) n)
+  finder-search : {lent : Memory} {a : Search} {slots slots′ : List ℕ} {dists dists′ : List Float} {scratch scratch′ : List ℕ} {found found′ status : ℕ}
+      → Searches-words (lent .words) (lent .slices) a (search-outputs slots dists) scratch (search-outputs slots′ dists′) scratch′ found found′ status
+      → Exported (looking (search a) lent scratch (places found (f32 0) [] (search-outputs slots dists)) (places found′ (f32 0) [] (search-outputs slots′ dists′)) status)
