@@ -7,6 +7,7 @@ use mathlib.Core.List.{List, [], _∷_, _++_}
 use lib.ListN.{length, take, drop, getD, set}
 use lib.Dec.{eqb}
 use Rattle.lists.specs.Lists.{All, insert-by}
+use Rattle.slots.specs.Store.{is-valid}
 use Rattle.candidates.specs.Candidates.{Candidate, before, ids}
 
 abbrev pub pair : ℕ → ℕ → Candidate
@@ -67,9 +68,9 @@ pub record Inserted (w : List ℕ) (a n : ℕ) (x : Candidate) (r : ℕ) (w′ :
   pub holds : Holds w a (n + 1) (insert-by before x (cands w a n)) w′
 
 -- ---- other tests and copies
--- whether a slot is not the source and has a mark other than 0; one outside has none
+-- whether a slot is live and not the source
 unfoldable pub kept : List ℕ → ℕ → ℕ → Bool
-kept marks source s = not (eqb s source) && not (eqb (getD marks s 0) 0)
+kept marks source s = not (eqb s source) && is-valid marks s
 
 -- n words from `to` on overwrite no candidate of the n at a that is still to be read
 abbrev pub Clear : ℕ → ℕ → ℕ → Type 0
