@@ -1,5 +1,6 @@
 mod Cases
 pub mod Current
+pub mod Done
 pub mod Written
 pub mod Changes
 pub mod Places

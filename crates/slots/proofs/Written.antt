@@ -11,9 +11,10 @@ use lib.Seq.{getD-take, take-nil}
 use Rattle.lists.specs.Lists.{filter, part, put-part}
 use Rattle.lists.proofs.Parts.{fits-in, length-put, part-put, put-again, put-both}
 use Rattle.lists.proofs.Pasting.{Pasting, pasting-none, pasting-more, pasted-part}
-use Rattle.slots.specs.Store.{Arrays, Shaped, blank, current, refs-of, padded, edge-version, write-neighbors}
+use Rattle.slots.specs.Store.{Arrays, arrays, Shaped, blank, current, refs-of, padded, edge-version, write-neighbors}
 use Rattle.slots.specs.Plain.{other-than}
-use Rattle.slots.specs.Rows.{arrays, Wrote}
+use Rattle.slots.specs.Writing.{Wrote}
+use Rattle.slots.proofs.Done.{wrote-by}
 use Rattle.slots.proofs.Current.{current-written, padded-targets, length-padded}
 
 -- the edge versions of a row as it is written
@@ -73,10 +74,8 @@ pub writing-done : {d : ℕ} {targets edges versions : List ℕ} {s : ℕ} {ids 
 unfolding write-neighbors
 writing-done {d} {versions = versions} {s = s} {ids = ids} {place = place} h w =
     let e : place ≡ d = omega (arith, w .below) in
-    record {
-      does = λ dim vectors marks i.
-          arrays dim d vectors (pasted-part s (length-padded d ids) e (w .row) i) (pasted-part s (length-new-edges d versions ids) e (w .row-edges) i) versions marks;
-    }
+    wrote-by (λ dim vectors marks i.
+    arrays dim d vectors (pasted-part s (length-padded d ids) e (w .row) i) (pasted-part s (length-new-edges d versions ids) e (w .row-edges) i) versions marks)
 
 -- ---- a row replaced
 

@@ -5,4 +5,5 @@ pub mod Ops
 pub mod Store
 pub mod Plain
 pub mod Rows
+pub mod Writing
 pub mod Making

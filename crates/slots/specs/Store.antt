@@ -26,6 +26,11 @@ pub record Arrays : Type 0 where
   pub versions : List ℕ
   pub marks : List ℕ
 
+-- one by one
+abbrev pub arrays : ℕ → ℕ → List ℕ → List ℕ → List ℕ → List ℕ → List ℕ → Arrays
+arrays dim degree vectors targets edges versions marks =
+    record { dim = dim; degree = degree; vectors = vectors; targets = targets; edges = edges; versions = versions; marks = marks }
+
 -- arrays for n slots
 pub record Shaped (n : ℕ) (a : Arrays) : Type 0 where
   pub vectors-long : length (a .vectors) ≡ n * a .dim
@@ -90,54 +95,33 @@ edge-version versions t = cond (eqb t blank) 0 (getD versions t 0)
 unfoldable pub write-neighbors : Arrays → ℕ → List ℕ → Arrays
 write-neighbors a s ids =
     let row = padded (a .degree) ids in
-    record {
-      dim = a .dim;
-      degree = a .degree;
-      vectors = a .vectors;
-      targets = put-part (a .degree) s row (a .targets);
-      edges = put-part (a .degree) s (map (edge-version (a .versions)) row) (a .edges);
-      versions = a .versions;
-      marks = a .marks;
-    }
+    let targets = put-part (a .degree) s row (a .targets) in
+    let edges = put-part (a .degree) s (map (edge-version (a .versions)) row) (a .edges) in
+    arrays (a .dim) (a .degree) (a .vectors) targets edges (a .versions) (a .marks)
 
 -- `write_vector`
 unfoldable pub write-vector : Arrays → ℕ → List ℕ → Arrays
 write-vector a s vector =
-    record {
-      dim = a .dim;
-      degree = a .degree;
-      vectors = put-part (a .dim) s vector (a .vectors);
-      targets = a .targets;
-      edges = a .edges;
-      versions = a .versions;
-      marks = a .marks;
-    }
+    let vectors = put-part (a .dim) s vector (a .vectors) in
+    arrays (a .dim) (a .degree) vectors (a .targets) (a .edges) (a .versions) (a .marks)
 
 -- `set_valid`
 unfoldable pub set-mark : Arrays → ℕ → ℕ → Arrays
-set-mark a s mark =
-    record {
-      dim = a .dim;
-      degree = a .degree;
-      vectors = a .vectors;
-      targets = a .targets;
-      edges = a .edges;
-      versions = a .versions;
-      marks = set (a .marks) s mark;
-    }
+set-mark a s mark = arrays (a .dim) (a .degree) (a .vectors) (a .targets) (a .edges) (a .versions) (set (a .marks) s mark)
 
 -- the version goes up by one, 65,535 goes to 0
 unfoldable pub next-version : Arrays → ℕ → Arrays
 next-version a s =
-    record {
-      dim = a .dim;
-      degree = a .degree;
-      vectors = a .vectors;
-      targets = a .targets;
-      edges = a .edges;
-      versions = set (a .versions) s (suc (getD (a .versions) s 0) % 65536);
-      marks = a .marks;
-    }
+    let versions = set (a .versions) s (suc (getD (a .versions) s 0) % 65536) in
+    arrays (a .dim) (a .degree) (a .vectors) (a .targets) (a .edges) versions (a .marks)
+
+-- a vector into slot s, live, with an empty row
+abbrev pub filled : Arrays → ℕ → List ℕ → Arrays
+filled a s vector = set-mark (write-neighbors (write-vector a s vector) s []) s 1
+
+-- the next version of slot s, and an empty row
+abbrev pub finished : Arrays → ℕ → Arrays
+finished a s = write-neighbors (next-version a s) s []
 
 abbrev pub with-arrays : Store → Arrays → Store
 with-arrays b a = record { arrays = a; capacity = b .capacity; alpha = b .alpha; entry = b .entry }
@@ -149,11 +133,11 @@ at-slot b s a = cond (ltb s (b .capacity)) (with-arrays b a) b
 unfoldable pub store-ops : Ops Store
 store-ops = record {
   view = store-view;
-  fill = λ b s vector. at-slot b s (set-mark (write-neighbors (write-vector (b .arrays) s vector) s []) s 1);
+  fill = λ b s vector. at-slot b s (filled (b .arrays) s vector);
   write = λ b s ids. at-slot b s (write-neighbors (b .arrays) s ids);
   kill = λ b s. at-slot b s (set-mark (b .arrays) s 0);
   enter = λ b e. record { arrays = b .arrays; capacity = b .capacity; alpha = b .alpha; entry = e };
-  finish = λ b s. at-slot b s (write-neighbors (next-version (b .arrays) s) s []);
+  finish = λ b s. at-slot b s (finished (b .arrays) s);
 }
 
 -- ---- what making writes

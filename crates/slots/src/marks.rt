@@ -1,8 +1,7 @@
 // A mark and a version for each slot.
-ghost use mathlib.Core.Bool.{cond};
 ghost use mathlib.Core.Path.{_≡_};
-ghost use Prim.Native.Nat.{suc, _+_, _%_, _≤_, _<_};
-ghost use lib.ListN.{length, getD, set};
+ghost use Prim.Native.Nat.{_+_, _≤_, _<_};
+ghost use lib.ListN.{length, getD};
 ghost use Rattle.lists.specs.Lists.{filter, range};
 ghost use Rattle.slots.specs.Store.{is-valid, live-between};
 
@@ -72,34 +71,4 @@ pub fn node_version(versions: &[u16], s: usize) -> u16
         return versions[s];
     }
     0
-}
-
-// The mark of a live slot, and of a dead one.
-fn mark_of(valid: bool) -> u8
-    ensures { λ r. ⌜ r ≡ cond valid 1 0 ⌝ }
-{
-    if valid { 1 } else { 0 }
-}
-
-// Marks slot `s` live or dead.
-pub fn set_valid(marks: &mut [u8], s: usize, valid: bool)
-    requires { ⌜ s < length (now marks) ⌝ }
-    ensures { λ _. ⌜ now (marks .exit) ≡ set (now (marks .entry)) s (cond valid 1 0) ⌝ }
-{
-    marks[s] = mark_of(valid);
-}
-
-// The version after `v`; after 65,535 comes 0.
-fn version_after(v: u16) -> u16
-    ensures { λ r. ⌜ r ≡ suc v % 65536 ⌝ }
-{
-    std::num::wrapping_add_u16(v, 1)
-}
-
-// Gives slot `s` the next version.
-pub fn next_version(versions: &mut [u16], s: usize)
-    requires { ⌜ s < length (now versions) ⌝ }
-    ensures { λ _. ⌜ now (versions .exit) ≡ set (now (versions .entry)) s (suc (getD (now (versions .entry)) s 0) % 65536) ⌝ }
-{
-    versions[s] = version_after(versions[s]);
 }

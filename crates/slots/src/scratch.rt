@@ -1,7 +1,10 @@
 // The map of the scratch, in words: the walk's list, a mark for each slot, and what a call keeps beside a walk.
-pub const LIST_WORDS: usize = 2048;
+use super::limits::BEAM;
+
+// Two words for each candidate of the list.
+pub const LIST_WORDS: usize = 2 * BEAM as usize;
 
 // The marks begin behind the list.
-pub const MARKS: usize = 2048;
+pub const MARKS: usize = LIST_WORDS;
 
 pub const WORK_WORDS: usize = 167936;

@@ -1,8 +1,8 @@
 use borrow.Author.Tests.{ne-eqb}
 use Rattle.slots.specs.Store.{blank}
 use borrow.Author.Needs.{needs}
-use Rattle.slots.proofs.rows.edge_version.Statement.{statement}
-use Rattle.slots.proofs.rows.edge_version.Tie as tie
+use Rattle.slots.proofs.ops.edge_version.Statement.{statement}
+use Rattle.slots.proofs.ops.edge_version.Tie as tie
 
 returns : tie.Need-returns
 returns c = rw (c .if1 .taken)

@@ -3,8 +3,8 @@ use Prim.Native.Nat.{_-_}
 use native.Mathlib.Omega.{arith}
 use borrow.Author.Needs.{needs}
 use Rattle.slots.proofs.Written.{Writing, writing-none, writing-more, writing-done}
-use Rattle.slots.proofs.rows.write_neighbors.Statement.{statement}
-use Rattle.slots.proofs.rows.write_neighbors.Tie as tie
+use Rattle.slots.proofs.ops.write.Statement.{statement}
+use Rattle.slots.proofs.ops.write.Tie as tie
 
 abbrev Inv-loop : tie.InvT-loop
 Inv-loop degree targets₀ edges₀ versions s ids base place₀ targets edges place = Writing degree targets₀ edges₀ versions s ids place targets edges
@@ -59,8 +59,8 @@ same-length-2 c = c .before .loop .inv .row-edges .size
 returns : tie.Need-returns Inv-loop μ-loop
 returns c = writing-done (c .loop-test .left) (c .before .loop .inv)
 
-pub write-neighbors-spec : {M : Type 1} → statement M
-write-neighbors-spec =
+pub write-spec : {M : Type 1} → statement M
+write-spec =
     tie.close
     (tie.spec
     Inv-loop

@@ -3,8 +3,8 @@ use Rattle.slots.proofs.Written.{any-default}
 use mathlib.Core.Path.{sym}
 use lib.ListN.{List·getD-eq-default}
 use borrow.Author.Needs.{needs}
-use Rattle.slots.proofs.rows.id_at.Statement.{statement}
-use Rattle.slots.proofs.rows.id_at.Tie as tie
+use Rattle.slots.proofs.ops.id_at.Statement.{statement}
+use Rattle.slots.proofs.ops.id_at.Tie as tie
 
 mul-result : tie.Need-mul-result
 mul-result c = search needs

@@ -1,6 +1,6 @@
 use borrow.Author.Needs.{needs}
-use Rattle.slots.proofs.marks.next_version.Statement.{statement}
-use Rattle.slots.proofs.marks.next_version.Tie as tie
+use Rattle.slots.proofs.ops.next_version.Statement.{statement}
+use Rattle.slots.proofs.ops.next_version.Tie as tie
 
 mul-version-after : tie.Need-mul-version-after
 mul-version-after c = search needs
