@@ -1,20 +1,19 @@
 -- Readings: what the code shows is what the definitions show. Assumes nothing.
 use Prim.Native.Nat.{ℕ, zero, suc, _+_, _-_, _*_, _≤_, _<_}
-use mathlib.Core.Bool.{Bool, true, false, not, cond}
+use mathlib.Core.Bool.{Bool, true, false, cond}
 use mathlib.Core.Path.{_≡_, refl, sym, ap, _∙_}
 use mathlib.Core.List.{List, [], _∷_}
 use native.Mathlib.Nat.{mul-le-mul-right}
 use native.Mathlib.Omega.{arith}
-use lib.Dec.{eqb}
+use denote.Ref.{RefT}
 use lib.ListN.{length, getD, drop-of-length-le}
 use lib.Seq.{take-nil}
-use Rattle.lists.specs.Lists.{filter, part}
+use Rattle.lists.specs.Lists.{filter, part as part-of}
 use Rattle.slots.specs.Store.{blank, is-valid, current, refs-of, vector-of, store-view, store-ops}
-use Rattle.slots.specs.Rows.{arrays, RowShape, ref-at, live-from}
+use Rattle.slots.specs.Rows.{arrays, RowShape, ref-at, live-from, LiveVector}
 use Rattle.slots.specs.declared.rows.Ref.{Ref}
 use Rattle.slots.specs.declared.rows.Ref.the-variants.{At, Dead}
 use Rattle.slots.proofs.Places.{live-from-whole, live-from-end, live-from-at, live-from-dead}
-use Rattle.vectors.specs.Vector.{live-vector}
 use Rattle.index.specs.declared.Index.{Index}
 use Rattle.reading.specs.declared.Reading.{Reading}
 use Rattle.reading.specs.declared.Reading.the-variants.{Dim, Capacity, Degree, Alpha, Entry, Live, Mark, Version, Target}
@@ -30,7 +29,7 @@ use Rattle.calls.specs.Runs.{lent-of, slices-of, call-of, Meets}
 use Rattle.index.specs.Index.{state-of}
 use Rattle.index.specs.Run as Run
 use Rattle.index.specs.Deciding.{Decided}
-use Rattle.reading.specs.Read.{reading-of, answer-of, Answers, Reads, Reads-vector}
+use Rattle.reading.specs.Read.{reading-of, answer-of, Answers, Reads, Reads-vector, Gives-vector}
 use Rattle.index.proofs.Decide.{turned-back, let-through, step-back, step-on}
 
 -- ---- a target by its place among the live ones
@@ -161,30 +160,34 @@ module _ (index : Index) (s : Slices) {r : ℕ} (d : Decided index (lengths-of s
         };
       }
 
-  -- a vector that is not given is the empty part
-  pub vector-back : {slot : ℕ} {part : List ℕ} → (r ≡ 0 → ⊥) → part ≡ [] → Reads-vector index s slot part
-  unfolding tests refused-as call-of slices-of state-of written
-  vector-back {slot} n e =
-      record {
+  module _ {slot : ℕ} {vectors part : RefT (List ℕ)} where
+    -- a vector that is not given is the empty part
+    pub vector-back : (r ≡ 0 → ⊥) → part .now ≡ [] → Gives-vector index s slot vectors part
+    unfolding tests refused-as call-of slices-of state-of written
+    vector-back n e = record {
+      reads = record {
         meets = record {
           does = ap (λ l. (state-of index s, vector l)) e ∙ sym (step-back (state-of index s) (call (read-vector slot)) r (turned-back index s tt d n));
           writes = refl;
           keeps = λ k e. refl;
         };
-      }
+      };
+      part = λ h. absurd (let z : length (part .now) ≡ 0 = ap length e in omega arith);
+    }
 
-  pub vector-on : {slot : ℕ} {part : List ℕ} → r ≡ 0 → part ≡ live-vector (index .dim) (s .vectors) (s .marks) slot → Reads-vector index s slot part
-  unfolding tests perform stored store-ops store-view state-of live-vector is-valid vector-of call-of slices-of written
-  vector-on {slot} z e =
-      record {
-        meets = record {
-          does = ap (λ l. (state-of index s, vector l)) (e ∙ other (eqb (getD (s .marks) slot 0) 0))
-              ∙ sym (step-on (state-of index s) (call (read-vector slot)) (let-through index s tt d z));
-          writes = refl;
-          keeps = λ k e. refl;
-        };
-      }
-    where
-      other : (b : Bool) → cond b [] (part (index .dim) slot (s .vectors)) ≡ cond (not b) (part (index .dim) slot (s .vectors)) []
-      other true = refl
-      other false = refl
+    pub vector-on : r ≡ 0 → vectors .now ≡ s .vectors → LiveVector (index .dim) vectors (s .marks) slot part → Gives-vector index s slot vectors part
+    unfolding tests perform stored store-ops store-view state-of vector-of call-of slices-of written
+    vector-on z e l = go (is-valid (s .marks) slot) refl
+      where
+        answers : part .now ≡ cond (is-valid (s .marks) slot) (part-of (index .dim) slot (s .vectors)) [] → Reads-vector index s slot (part .now)
+        answers a = record {
+          meets = record {
+            does = ap (λ l. (state-of index s, vector l)) a ∙ sym (step-on (state-of index s) (call (read-vector slot)) (let-through index s tt d z));
+            writes = refl;
+            keeps = λ k e. refl;
+          };
+        }
+
+        go : (b : Bool) → is-valid (s .marks) slot ≡ b → Gives-vector index s slot vectors part
+        go true q = record { reads = answers (rw q (l .live q .bytes ∙ ap (part-of (index .dim) slot) e)); part = λ h. l .live q }
+        go false q = record { reads = answers (rw q (l .dead q)); part = λ h. absurd (let z : length (part .now) ≡ 0 = ap length (l .dead q) in omega arith) }

@@ -1,7 +1,10 @@
 -- What a reading gives. Assumes nothing.
-use Prim.Native.Nat.{ℕ}
+use Prim.Native.Nat.{ℕ, _<_}
 use mathlib.Core.List.{List}
 use mathlib.Core.Path.{_≡_}
+use denote.Ref.{RefT}
+use lib.ListN.{length}
+use Rattle.vectors.specs.Vector.{VectorAt}
 use Rattle.slots.specs.Sizes.{Slices, slices}
 use Rattle.index.specs.declared.Index.{Index}
 use Rattle.reading.specs.declared.Reading.{Reading}
@@ -50,3 +53,8 @@ read-vector-run index s slot part = Run.reading index s (read-vector slot) (vect
 
 pub record Reads-vector (index : Index) (s : Slices) (slot : ℕ) (part : List ℕ) : Type 0 where
   pub meets : Meets (read-vector-run index s slot part)
+
+-- what `read_vector` gives: the answer, and unless it is empty that part of the lent bytes
+pub record Gives-vector (index : Index) (s : Slices) (slot : ℕ) (vectors r : RefT (List ℕ)) : Type 0 where
+  pub reads : Reads-vector index s slot (r .now)
+  pub part : 0 < length (r .now) → VectorAt (index .dim) slot vectors r

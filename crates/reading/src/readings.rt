@@ -5,6 +5,7 @@ use index::Index;
 use index::Lengths;
 use index::refusals::index_refusal;
 use slots::marks::is_valid;
+use slots::marks::live_vector;
 use slots::marks::node_version;
 use slots::rows::BLANK;
 use slots::rows::Ref;
@@ -18,7 +19,7 @@ ghost use Rattle.lists.specs.Lists.{filter};
 ghost use Rattle.slots.specs.Sizes.{slices};
 ghost use Rattle.slots.specs.Store.{blank, is-valid, refs-of};
 ghost use Rattle.slots.specs.Rows.{arrays, RowShape};
-ghost use Rattle.reading.specs.Read.{Answers, Reads, Reads-vector};
+ghost use Rattle.reading.specs.Read.{Answers, Reads, Gives-vector};
 
 // The mark of slot `s`: 1 for any byte but 0.
 fn mark(marks: &[u8], s: u32) -> u32
@@ -128,7 +129,7 @@ pub fn read_vector<'a>(
     pool: &[u32],
     slot: u32,
 ) -> &'a [u8]
-    ensures { λ r. ⌜ Reads-vector index (slices (now (vectors .entry)) (now (targets .entry)) (now (edges .entry)) (now (versions .entry)) (now (marks .entry)) (now (pool .entry))) slot (now r) ⌝ }
+    ensures { λ r. ⌜ Gives-vector index (slices (now (vectors .entry)) (now (targets .entry)) (now (edges .entry)) (now (versions .entry)) (now (marks .entry)) (now (pool .entry))) slot (vectors .entry) r ⌝ }
 {
     let lent = Lengths {
         vectors: vectors.len(),
@@ -143,5 +144,5 @@ pub fn read_vector<'a>(
         return &vectors[0..0];
     }
     let dim = index.dim as usize;
-    vectors::live_vector(dim, vectors, marks, slot as usize)
+    live_vector(dim, vectors, marks, slot as usize)
 }

@@ -1,11 +1,13 @@
--- What the functions on lent slices read: the reference at a place of a row, and a row from a place on. Assumes nothing.
+-- What the functions on lent slices read: the reference at a place of a row, a row from a place on, and the vector of a slot. Assumes nothing.
 use Prim.Native.Nat.{ℕ, _+_, _*_, _≤_}
 use mathlib.Core.Bool.{Bool, true, false, _&&_}
-use mathlib.Core.List.{List}
+use mathlib.Core.List.{List, []}
 use mathlib.Core.Path.{_≡_}
+use denote.Ref.{RefT}
 use lib.ListN.{length, drop, getD}
 use lib.Dec.{eqb}
 use Rattle.lists.specs.Lists.{filter, part}
+use Rattle.vectors.specs.Vector.{VectorAt}
 pub use Rattle.slots.specs.Store.{arrays}
 use Rattle.slots.specs.Store.{Arrays, is-valid, current}
 use Rattle.slots.specs.declared.rows.Ref.{Ref}
@@ -37,3 +39,10 @@ refs-from a s place = current (a .versions) (drop place (part (a .degree) s (a .
 -- the live ones of them
 unfoldable pub live-from : Arrays → ℕ → ℕ → List ℕ
 live-from a s place = filter (is-valid (a .marks)) (refs-from a s place)
+
+-- ---- a vector
+
+-- what `live_vector` gives: of a live slot its vector, at its place; of one that is dead or outside the empty part
+pub record LiveVector (dim : ℕ) (vectors : RefT (List ℕ)) (marks : List ℕ) (s : ℕ) (r : RefT (List ℕ)) : Type 0 where
+  pub live : is-valid marks s ≡ true → VectorAt dim s vectors r
+  pub dead : is-valid marks s ≡ false → r .now ≡ []

@@ -1,9 +1,12 @@
 // A mark and a version for each slot.
+use vectors::vector;
 ghost use mathlib.Core.Path.{_≡_};
 ghost use Prim.Native.Nat.{_+_, _≤_, _<_};
 ghost use lib.ListN.{length, getD};
 ghost use Rattle.lists.specs.Lists.{filter, range};
+ghost use Rattle.vectors.specs.Vector.{Bytes};
 ghost use Rattle.slots.specs.Store.{is-valid, live-between};
+ghost use Rattle.slots.specs.Rows.{LiveVector};
 
 // A slot number as an index.
 pub fn wide(x: u32) -> usize
@@ -71,4 +74,15 @@ pub fn node_version(versions: &[u16], s: usize) -> u16
         return versions[s];
     }
     0
+}
+
+// The vector of slot `s` as that part of the lent bytes; the empty part for a slot that is dead or outside.
+pub fn live_vector<'a>(dim: usize, vectors: &'a [u8], marks: &[u8], s: usize) -> &'a [u8]
+    requires { ⌜ Bytes dim (length (now marks)) (now vectors) ⌝ }
+    ensures { λ r. ⌜ LiveVector dim (vectors .entry) (now (marks .entry)) s r ⌝ }
+{
+    if is_valid(marks, s) {
+        return vector(dim, vectors, s);
+    }
+    &vectors[0..0]
 }

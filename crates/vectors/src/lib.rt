@@ -2,10 +2,9 @@
 ghost use mathlib.Core.Path.{_≡_};
 ghost use Prim.Native.Nat.{_+_, _*_, _<_, _≤_};
 ghost use lib.ListN.{length};
-ghost use Rattle.lists.specs.Lists.{part};
 ghost use Rattle.vectors.specs.Distance.{squared-difference, distance};
 ghost use Rattle.vectors.specs.Space.{slot-distance, query-distance, space, Measured};
-ghost use Rattle.vectors.specs.Vector.{Bytes, live-vector};
+ghost use Rattle.vectors.specs.Vector.{VectorAt};
 
 // The squared difference of two bytes.
 fn squared_difference(x: u8, y: u8) -> u32
@@ -36,25 +35,11 @@ pub fn distance(a: &[u8], b: &[u8]) -> u32
 // The vector of slot `s`, dead or live, as that part of the lent bytes.
 pub fn vector<'a>(dim: usize, vectors: &'a [u8], s: usize) -> &'a [u8]
     requires { ⌜ (s * dim + dim ≤ length (now vectors)) ⌝ }
-    ensures { λ r. ⌜ now r ≡ part dim s (now (vectors .entry)) ⌝ }
+    ensures { λ r. ⌜ VectorAt dim s (vectors .entry) r ⌝ }
 {
     let from = s * dim;
     let to = from + dim;
     &vectors[from..to]
-}
-
-// The vector of slot `s` as that part of the lent bytes; the empty part for a slot that is dead or outside.
-pub fn live_vector<'a>(dim: usize, vectors: &'a [u8], marks: &[u8], s: usize) -> &'a [u8]
-    requires { ⌜ Bytes dim (length (now marks)) (now vectors) ⌝ }
-    ensures { λ r. ⌜ now r ≡ live-vector dim (now (vectors .entry)) (now (marks .entry)) s ⌝ }
-{
-    if marks.len() <= s {
-        return &vectors[0..0];
-    }
-    if marks[s] == 0 {
-        return &vectors[0..0];
-    }
-    vector(dim, vectors, s)
 }
 
 // The distance of the vectors of two slots.

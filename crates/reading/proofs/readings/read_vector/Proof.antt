@@ -32,7 +32,7 @@ live-vector-requires : tie.Need-live-vector-requires
 live-vector-requires c κs = let s = c .before .before .before .before .before .before .before .before .before in passed-bytes (passed (s .args .index) (lent s) tt (c .before .before .index-refusal .ensures) (c .before .if1 .left))
 
 returns-2 : tie.Need-returns-2
-returns-2 c = let s = c .before .before .before .before .before .before .before .before .before .before in vector-on (s .args .index) (lent s) (c .before .before .before .index-refusal .ensures) (c .before .before .if1 .left) (c .live-vector .ensures)
+returns-2 c = let s = c .before .before .before .before .before .before .before .before .before .before in vector-on (s .args .index) (lent s) (c .before .before .before .index-refusal .ensures) (c .before .before .if1 .left) refl (c .live-vector .ensures)
 
 pub read-vector-spec : {M : Type 1} → statement M
 read-vector-spec =
