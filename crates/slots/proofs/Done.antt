@@ -8,7 +8,7 @@ use lib.ListN.{getD, set}
 use Rattle.lists.specs.Lists.{put-part}
 use Rattle.vectors.specs.Distance.{f32}
 use Rattle.slots.specs.Store.{Arrays, arrays, Store, write-neighbors, write-vector, set-mark, next-version, filled, finished, with-arrays, at-slot, store-ops}
-use Rattle.slots.specs.Writing.{Done, Wrote, Killed, Finished}
+use Rattle.slots.specs.Writing.{Done, Filled, Wrote, Killed, Finished}
 -- the examples are checked first, so that a wrong definition shows in one of them
 use Rattle.slots.proofs.Cases
 
@@ -47,18 +47,19 @@ module _ {marks : List ℕ} {s : ℕ} {marks′ : List ℕ} where
 
 -- ---- `fill`: a vector, an empty row and a mark
 
-module _ {dim degree : ℕ} {vectors targets edges versions marks : List ℕ} {s : ℕ} (vector : List ℕ) {vectors′ targets′ edges′ marks′ : List ℕ} where
+module _ {dim degree : ℕ} {vectors targets edges versions marks : List ℕ} {s : ℕ} {vector vectors′ targets′ edges′ marks′ : List ℕ} where
   pub filled-by : vectors′ ≡ put-part dim s vector vectors → Wrote degree targets edges versions s [] targets′ edges′ → marks′ ≡ set marks s 1
-      → Done (λ b. store-ops .fill b s vector) s (arrays dim degree vectors targets edges versions marks) (arrays dim degree vectors′ targets′ edges′ versions marks′)
+      → Filled dim degree vectors targets edges versions marks s vector vectors′ targets′ edges′ marks′
   unfolding store-ops write-vector write-neighbors set-mark
-  filled-by v w m =
-      done-by s (λ a. filled a s vector)
-      ((λ i. arrays dim degree (v i) targets′ edges′ versions (m i)) ∙ ap (λ b. set-mark b s 1) (wrote-arrays w dim (put-part dim s vector vectors) marks))
+  filled-by v w m = record {
+    does = done-by s (λ a. filled a s vector)
+        ((λ i. arrays dim degree (v i) targets′ edges′ versions (m i)) ∙ ap (λ b. set-mark b s 1) (wrote-arrays w dim (put-part dim s vector vectors) marks));
+  }
 
-  pub filled-arrays : Done (λ b. store-ops .fill b s vector) s (arrays dim degree vectors targets edges versions marks) (arrays dim degree vectors′ targets′ edges′ versions marks′)
+  pub filled-arrays : Filled dim degree vectors targets edges versions marks s vector vectors′ targets′ edges′ marks′
       → arrays dim degree vectors′ targets′ edges′ versions marks′ ≡ filled (arrays dim degree vectors targets edges versions marks) s vector
   unfolding store-ops
-  filled-arrays d = done-arrays s (λ a. filled a s vector) d
+  filled-arrays f = done-arrays s (λ a. filled a s vector) (f .does)
 
 -- ---- `finish`: the next version, and an empty row
 

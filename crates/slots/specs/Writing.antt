@@ -17,6 +17,10 @@ pub record SlotIn (dim degree : ℕ) (vectors targets edges marks : List ℕ) (s
 pub record Done (f : Store → Store) (s : ℕ) (a a′ : Arrays) : Type 0 where
   pub does : (b : Store) → b .arrays ≡ a → s < b .capacity → with-arrays b a′ ≡ f b
 
+-- `fill`
+pub record Filled (dim degree : ℕ) (vectors targets edges versions marks : List ℕ) (s : ℕ) (vector vectors′ targets′ edges′ marks′ : List ℕ) : Type 0 where
+  pub does : Done (λ b. store-ops .fill b s vector) s (arrays dim degree vectors targets edges versions marks) (arrays dim degree vectors′ targets′ edges′ versions marks′)
+
 -- `write`, whatever the vectors and marks
 pub record Wrote (degree : ℕ) (targets edges versions : List ℕ) (s : ℕ) (ids targets′ edges′ : List ℕ) : Type 0 where
   pub does : (dim : ℕ) (vectors marks : List ℕ)

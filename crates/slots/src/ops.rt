@@ -6,8 +6,8 @@ use super::rows::BLANK;
 ghost use mathlib.Core.Path.{_≡_};
 ghost use Prim.Native.Nat.{suc, _+_, _*_, _%_, _<_, _≤_};
 ghost use lib.ListN.{length, getD, set};
-ghost use Rattle.slots.specs.Store.{blank, edge-version, arrays, store-ops};
-ghost use Rattle.slots.specs.Writing.{SlotIn, Done, Wrote, Killed, Finished};
+ghost use Rattle.slots.specs.Store.{blank, edge-version};
+ghost use Rattle.slots.specs.Writing.{SlotIn, Filled, Wrote, Killed, Finished};
 
 // The id at a place of the ids that a row is to have; past them it is blank.
 fn id_at(ids: &[u32], place: usize) -> u32
@@ -65,9 +65,7 @@ pub fn fill(
     vector: &[u8],
 )
     requires { ⌜ SlotIn dim degree (now vectors) (now targets) (now edges) (now marks) s (now vector) ⌝ }
-    ensures { λ _. ⌜ Done (λ b. store-ops .fill b s (now (vector .entry))) s
-        (arrays dim degree (now (vectors .entry)) (now (targets .entry)) (now (edges .entry)) (now (versions .entry)) (now (marks .entry)))
-        (arrays dim degree (now (vectors .exit)) (now (targets .exit)) (now (edges .exit)) (now (versions .entry)) (now (marks .exit))) ⌝ }
+    ensures { λ _. ⌜ Filled dim degree (now (vectors .entry)) (now (targets .entry)) (now (edges .entry)) (now (versions .entry)) (now (marks .entry)) s (now (vector .entry)) (now (vectors .exit)) (now (targets .exit)) (now (edges .exit)) (now (marks .exit)) ⌝ }
 {
     write_vector(dim, vectors, s, vector);
     write(degree, targets, edges, versions, s, &[]);

@@ -29,7 +29,7 @@ same-length-4 : tie.Need-same-length-4
 same-length-4 c = search needs
 
 returns : tie.Need-returns
-returns c = filled-by (c .before .before .before .before .before .before .before .before .before .before .before .before .before .before .before .before .before .before .args .vector .now) (c .before .before .before .before .before .before .before .before .before .before .write-vector .ensures) (c .before .before .before .before .write .ensures) refl
+returns c = filled-by (c .before .before .before .before .before .before .before .before .before .before .write-vector .ensures) (c .before .before .before .before .write .ensures) refl
 
 pub fill-spec : {M : Type 1} → statement M
 fill-spec =
