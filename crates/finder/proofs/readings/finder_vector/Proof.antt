@@ -10,7 +10,7 @@ read-vector-requires : tie.Need-read-vector-requires
 read-vector-requires c κs = search needs
 
 returns : tie.Need-returns
-returns c = reads-length (rw (c .before .index-from .ensures) at (c .read-vector .ensures))
+returns c = reads-length (rw (c .before .index-from .ensures) at (c .read-vector .ensures .reads))
 
 pub finder-vector-spec : {M : Type 1} → statement M
 finder-vector-spec = tie.close (tie.spec index-from-requires read-vector-requires returns)
