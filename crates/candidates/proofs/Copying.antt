@@ -8,7 +8,7 @@ use native.Mathlib.Omega.{arith}
 use lib.ListN.{length, getD, take, drop, set, length-set, length-drop}
 use lib.Seq.{take-suc-set, drop-set-add, getD-set-other}
 use Rattle.candidates.specs.Candidates.{ids}
-use Rattle.candidates.specs.Words.{cands, Outside, Clear, Copied}
+use Rattle.candidates.specs.contracts.Words.{cands, Outside, Clear, Copied}
 use Rattle.candidates.proofs.Words.{cands-none, cands-cons, cands-agree, outside-none, outside-set}
 
 -- ---- k of n slots are copied

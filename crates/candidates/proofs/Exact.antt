@@ -7,7 +7,7 @@ use lib.Ieee.{Float, binary32, div, lt, eq}
 use Rattle.candidates.specs.Candidates.{before}
 use Rattle.vectors.specs.Distance.{f32}
 use Rattle.candidates.specs.Quotient.{largest, quotient, before-f32}
-use Rattle.candidates.specs.Words.{pair}
+use Rattle.candidates.specs.contracts.Words.{pair}
 use Rattle.candidates.proofs.Floats.{lt-f32, eq-f32}
 
 module _ (x y : Float) (i j : ℕ) where

@@ -8,7 +8,7 @@ use lib.Seq.{getD-set-same, getD-set-other, take-at, drop-at}
 use Rattle.lists.specs.Lists.{All, init, last}
 use Rattle.lists.proofs.Places.{init-snoc, last-snoc, all-at, at-all}
 use Rattle.candidates.specs.Candidates.{Candidate}
-use Rattle.candidates.specs.Words.{pair, cand, cands, put, Outside}
+use Rattle.candidates.specs.contracts.Words.{pair, cand, cands, put, Outside}
 -- so that the examples are checked first
 use Rattle.candidates.proofs.Cases
 

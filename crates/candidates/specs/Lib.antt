@@ -1,5 +1,3 @@
 pub mod Candidates
-pub mod Met
 pub mod Quotient
-pub mod Runs
-pub mod Words
+pub mod contracts

@@ -5,7 +5,7 @@ ghost use Rattle.candidates.specs.Candidates as Candidates;
 ghost use Rattle.candidates.specs.Quotient as Quotient;
 ghost use Rattle.vectors.specs.Distance.{f32};
 ghost use Rattle.candidates.specs.Quotient.{before-f32};
-ghost use Rattle.candidates.specs.Words.{pair};
+ghost use Rattle.candidates.specs.contracts.Words.{pair};
 
 // The largest finite f32.
 pub const LARGEST: f32 = 3.4028235e38;

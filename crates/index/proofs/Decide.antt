@@ -16,8 +16,8 @@ use Rattle.lists.specs.Lists.{All, filter, range}
 use Rattle.slots.specs.Sizes.{Sizes, Slices, Lengths, lengths-of, limits, within, sizes-ok, alpha-ok, lengths-ok}
 use Rattle.slots.specs.Scratch.{size-answer}
 use Rattle.vectors.specs.Vector.{Bytes}
-use Rattle.slots.specs.Store.{Store, is-valid, store-view, store-ops}
-use Rattle.slots.specs.Rows.{arrays, RowShape}
+use Rattle.slots.specs.Store.{Store, is-valid, store-view, store-ops, arrays}
+use Rattle.slots.specs.contracts.Rows.{RowShape}
 use Rattle.slots.proofs.Places.{rows-shaped}
 use Rattle.index.specs.declared.Index.{Index}
 use Rattle.index.specs.declared.ScratchWords.the-variants.{Refused, Words}
@@ -26,7 +26,7 @@ use Rattle.calls.specs.Refusals.{Test, first-of, or-zero, index-tests, tests, g
 use Rattle.calls.specs.State.{State, stored, shown}
 use Rattle.calls.specs.Step.{perform, refusal, settle, step}
 use Rattle.index.specs.Index.{words-for, sizes, sizes-of, guard-of, state-of}
-use Rattle.index.specs.Deciding.{Decided, Passed}
+use Rattle.index.specs.contracts.Deciding.{Decided, Passed}
 use Rattle.calls.proofs.Tests.{and-both, or-neither, exact, passed-lengths}
 
 -- ---- numbers

@@ -15,7 +15,7 @@ use Rattle.lists.specs.Lists.{filter, range}
 use Rattle.slots.specs.View.{live-slots}
 use Rattle.slots.specs.Store.{blank, store-view, store-ops}
 use Rattle.slots.specs.Plain.{new-plain}
-use Rattle.slots.specs.Making.{Room, New}
+use Rattle.slots.specs.contracts.Making.{Room, New}
 use Rattle.slots.proofs.New.{Accepted, agree-new}
 use Rattle.index.specs.declared.Index.{Index}
 use Rattle.index.specs.declared.Guard.the-variants.{Off}
@@ -26,7 +26,8 @@ use Rattle.calls.specs.Calls.{Making}
 use Rattle.calls.specs.Refusals.{first-of, or-zero, names-given, entry-given, making-tests}
 use Rattle.calls.specs.State.{stored, made}
 use Rattle.index.specs.Index.{sizes, guard-of, state-of}
-use Rattle.index.specs.Create.{making, fresh-index, making-of, Judged, Creates}
+use Rattle.index.specs.Create.{making, fresh-index, making-of, Creates}
+use Rattle.index.specs.contracts.Deciding.{Judged}
 use Rattle.index.proofs.Decide.{first-number}
 use Rattle.calls.proofs.Tests.{exact, none-judged, lengths-made, accepted}
 

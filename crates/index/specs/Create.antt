@@ -4,15 +4,14 @@ use mathlib.Core.List.{List, []}
 use mathlib.Core.Option.{none, some}
 use mathlib.Core.Path.{_≡_}
 use lib.Ieee.{Float}
-use Rattle.slots.specs.Sizes.{Slices, Lengths, lengths-of, limits}
-use Rattle.slots.specs.Store.{Store}
-use Rattle.slots.specs.Rows.{arrays}
+use Rattle.slots.specs.Sizes.{Slices, lengths-of, limits}
+use Rattle.slots.specs.Store.{Store, arrays}
 use Rattle.index.specs.declared.Index.{Index}
 use Rattle.index.specs.declared.Guard.the-variants.{Off}
 use Rattle.index.specs.declared.Created.{Created}
 use Rattle.index.specs.declared.Created.the-variants.{Refused, Done}
 use Rattle.calls.specs.Calls.{Making, Answer, create, refused, created}
-use Rattle.calls.specs.Refusals.{first-of, or-zero, making-tests}
+use Rattle.calls.specs.Refusals.{first-of, making-tests}
 use Rattle.calls.specs.State.{State, stored, made}
 use Rattle.calls.specs.Outputs.{no-outputs}
 use Rattle.calls.specs.Runs.{Run}
@@ -31,10 +30,6 @@ fresh-index dim capacity degree alpha entry count =
 -- what making is given for it
 abbrev pub making-of : Index → List ℕ → List ℕ → Making
 making-of i bytes rows = making (i .dim) (i .capacity) (i .degree) (i .alpha) (i .entry) (i .live) bytes rows
-
--- r is the number of the first of making's tests that holds, 0 if none does
-pub record Judged (m : Making) (lent : Lengths) (r : ℕ) : Type 0 where
-  pub does : r ≡ or-zero (first-of (making-tests limits lent m))
 
 -- the slices as they are lent, and as they are left
 module _ (m : Making) (before after : Slices) where

@@ -5,8 +5,7 @@ use lib.Ieee.{Float}
 use Rattle.slots.specs.Sizes.{Sizes, Slices, limits, sizes-ok}
 use Rattle.slots.specs.Sizes as Sizes
 use Rattle.slots.specs.Scratch.{size-answer}
-use Rattle.slots.specs.Store.{Store}
-use Rattle.slots.specs.Rows.{arrays}
+use Rattle.slots.specs.Store.{Store, arrays}
 use Rattle.guard.specs.Guard.{config, off, on}
 use Rattle.guard.specs.Guard as Guards
 use Rattle.index.specs.declared.Index.{Index}

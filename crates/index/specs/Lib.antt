@@ -1,4 +1,4 @@
 pub mod Index
 pub mod Run
-pub mod Deciding
 pub mod Create
+pub mod contracts

@@ -15,12 +15,13 @@ ghost use Prim.Native.Nat.{_*_};
 ghost use lib.Dec.{eqb, ltb};
 ghost use lib.ListN.{length};
 ghost use Rattle.slots.specs.Sizes.{slices};
-ghost use Rattle.slots.specs.Making.{Room, New};
+ghost use Rattle.slots.specs.contracts.Making.{Room, New};
 ghost use Rattle.index.specs.declared.Guard.the-variants.{Off};
 ghost use Rattle.index.specs.declared.Created.the-variants.{Done};
 ghost use Rattle.calls.specs.Refusals.{first-of, or-zero, names-given, entry-given};
 ghost use Rattle.index.specs.Index.{lengths-in};
-ghost use Rattle.index.specs.Create.{making, fresh-index, making-of, Judged, Creates};
+ghost use Rattle.index.specs.Create.{making, fresh-index, making-of, Creates};
+ghost use Rattle.index.specs.contracts.Deciding.{Judged};
 
 // Row 5, of the given rows: a word is neither blank nor a given slot.
 fn names_bad(rows: &[u32], count: u32) -> bool

@@ -21,7 +21,7 @@ ghost use Rattle.guard.specs.Guard.{config};
 ghost use Rattle.calls.specs.Refusals.{guard-fault, config-over, config-zero};
 ghost use Rattle.slots.specs.Scratch.{size-answer};
 ghost use Rattle.index.specs.Index.{words-for, guard-of, sizes, lengths-in};
-ghost use Rattle.index.specs.Deciding.{Decided};
+ghost use Rattle.index.specs.contracts.Deciding.{Decided};
 
 // Whether a number is outside a range that begins at 1.
 fn outside(high: u32, n: u32) -> bool

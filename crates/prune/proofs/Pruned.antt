@@ -11,13 +11,13 @@ use Rattle.lists.specs.Lists.{All, elem}
 use Rattle.lists.proofs.All.{all-map}
 use Rattle.lists.proofs.Unique.{Unique}
 use Rattle.candidates.specs.Candidates.{Candidate, ids}
-use Rattle.candidates.specs.Words.{cand, cands}
+use Rattle.candidates.specs.contracts.Words.{cand, cands}
 use Rattle.candidates.proofs.Words.{cands-agree, cands-each}
 use Rattle.slots.specs.Store.{Store, is-valid, vector-of, store-view}
 use Rattle.vectors.specs.Space.{slot-distance, space}
 use Rattle.slots.proofs.Places.{live-inside}
 use Rattle.prune.specs.Prune.{prune-scored, prune}
-use Rattle.prune.specs.Selecting.{Pruned}
+use Rattle.prune.specs.contracts.Selecting.{Pruned}
 use Rattle.prune.proofs.Chosen.{chosen, chosen-live, chosen-not-source, chosen-once, chosen-given}
 use Rattle.prune.proofs.Thresholds.{Accepted}
 

@@ -12,13 +12,13 @@ use Rattle.lists.proofs.All.{all-map}
 use Rattle.lists.proofs.Parts.{fits-in}
 use Rattle.candidates.specs.Candidates.{nearer}
 use Rattle.vectors.specs.Distance.{f32}
-use Rattle.candidates.specs.Words.{cands, kept, Left, Holds}
+use Rattle.candidates.specs.contracts.Words.{cands, kept, Left, Holds}
 use Rattle.candidates.proofs.Words.{cands-length}
 use Rattle.candidates.proofs.After.{left-left, left-holds, left-so}
 use Rattle.slots.specs.Store.{is-valid}
 use Rattle.slots.proofs.Places.{live-inside}
 use Rattle.prune.specs.Prune.{passes, considered, prune-scored}
-use Rattle.prune.specs.Selecting.{Given, Room, Selected, Picked, Ready, Pruned}
+use Rattle.prune.specs.contracts.Selecting.{Given, Room, Selected, Picked, Ready, Pruned}
 use Rattle.prune.proofs.Chosen.{considered-most, considered-live, all-of-given, chosen}
 
 -- ---- what is selected from

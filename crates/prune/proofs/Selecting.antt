@@ -13,10 +13,10 @@ use Rattle.lists.specs.Lists.{foldl, range}
 use Rattle.candidates.specs.Candidates.{Candidate}
 use Rattle.vectors.specs.Distance.{f32}
 use Rattle.candidates.specs.Quotient.{largest}
-use Rattle.candidates.specs.Words.{cand, cands, put, Outside}
+use Rattle.candidates.specs.contracts.Words.{cand, cands, put, Outside}
 use Rattle.candidates.proofs.Words.{cands-none, cands-at, cands-length, cands-push, cands-kept, put-length, put-outside, outside-none, outside-wide, outside-then}
 use Rattle.prune.specs.Prune.{no-candidate, Selection, thresholds-from, thresholds, raise, select, consider, pass}
-use Rattle.prune.specs.Selecting.{next-threshold, selection, settled, Given, Room, Considered, Selected}
+use Rattle.prune.specs.contracts.Selecting.{next-threshold, selection, settled, Given, Room, Considered, Selected}
 use Rattle.prune.proofs.Settling.{other-default}
 
 -- the candidates stay while the room at `to` is written

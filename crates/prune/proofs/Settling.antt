@@ -12,10 +12,10 @@ use Rattle.lists.specs.Lists.{foldl, range}
 use Rattle.vectors.specs.Space.{slot-distance, space, Measured}
 use Rattle.candidates.specs.Candidates.{Candidate}
 use Rattle.candidates.specs.Quotient.{largest, fmax, quotient}
-use Rattle.candidates.specs.Words.{cand, cands}
+use Rattle.candidates.specs.contracts.Words.{cand, cands}
 use Rattle.candidates.proofs.Words.{cands-at, cands-length, cands-each}
 use Rattle.prune.specs.Prune.{raise}
-use Rattle.prune.specs.Selecting.{raised-factor, settled, Given}
+use Rattle.prune.specs.contracts.Selecting.{raised-factor, settled, Given}
 -- so that the examples are checked first
 use Rattle.prune.proofs.Cases
 

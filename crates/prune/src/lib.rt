@@ -5,10 +5,10 @@ ghost use Prim.Native.Nat.{_+_, _*_, _<_, _≤_};
 ghost use lib.ListN.{length};
 ghost use Rattle.vectors.specs.Space.{slot-distance, space};
 ghost use Rattle.candidates.specs.Quotient.{fmax, fmin};
-ghost use Rattle.candidates.specs.Words.{cands, Left};
+ghost use Rattle.candidates.specs.contracts.Words.{cands, Left};
 ghost use Rattle.slots.specs.Store.{is-valid};
 ghost use Rattle.prune.specs.Prune.{considered};
-ghost use Rattle.prune.specs.Selecting.{next-threshold, raised-factor, settled, Given, Considered, Room, Selected, Picked, Ready, Pruned};
+ghost use Rattle.prune.specs.contracts.Selecting.{next-threshold, raised-factor, settled, Given, Considered, Room, Selected, Picked, Ready, Pruned};
 
 // The larger of two factors.
 fn larger(x: f32, y: f32) -> f32

@@ -17,12 +17,11 @@ use Rattle.slots.specs.Sizes.{Slices, Lengths, lengths-of, limits}
 use Rattle.slots.specs.Scratch.{size-answer}
 use Rattle.candidates.specs.Candidates.{Candidate, ids}
 use Rattle.vectors.specs.Distance.{f32}
-use Rattle.candidates.specs.Words.{cand, cands, Small}
+use Rattle.candidates.specs.contracts.Words.{cand, cands, Small}
 use Rattle.candidates.proofs.Words.{cands-none, cands-length, cands-snoc, cands-each, cands-take}
-use Rattle.slots.specs.Store.{Store, store-view, store-ops}
-use Rattle.slots.specs.Rows.{arrays}
+use Rattle.slots.specs.Store.{Store, store-view, store-ops, arrays}
 use Rattle.walk.specs.Walk.{search-pool}
-use Rattle.walk.specs.Scratch.{Ready, Pool}
+use Rattle.walk.specs.contracts.Scratch.{Ready, Pool}
 use Rattle.index.specs.declared.Index.{Index}
 use Rattle.reading.specs.declared.Found.the-variants.{Refused, Found as Nearest}
 use Rattle.calls.specs.Calls.{Search, search, Call, found, refused-as}
@@ -32,8 +31,9 @@ use Rattle.calls.specs.State.{stored, shown}
 use Rattle.calls.specs.Step.{refusal, perform}
 use Rattle.calls.specs.Runs.{lent-of, slices-of, call-of, run-refusal}
 use Rattle.index.specs.Index.{state-of}
-use Rattle.index.specs.Deciding.{Decided, Passed}
-use Rattle.reading.specs.Search.{search-tests, Fits, Shown, found-as, searching, search-outputs, Searches}
+use Rattle.index.specs.contracts.Deciding.{Decided, Passed}
+use Rattle.reading.specs.contracts.Finding.{search-tests, Fits, Shown}
+use Rattle.reading.specs.Search.{found-as, searching, search-outputs, Searches}
 use Rattle.calls.proofs.Tests.{first-none, or-neither}
 use Rattle.index.proofs.Decide.{Numbered, decided-before, decided-after, turned-back, let-through, own-none, not-wrong, passed, passed-rows, passed-marks, passed-bytes, step-back, step-on}
 

@@ -9,8 +9,8 @@ use denote.Ref.{RefT}
 use lib.ListN.{length, getD, drop-of-length-le}
 use lib.Seq.{take-nil}
 use Rattle.lists.specs.Lists.{filter, part as part-of}
-use Rattle.slots.specs.Store.{blank, is-valid, current, refs-of, vector-of, store-view, store-ops}
-use Rattle.slots.specs.Rows.{arrays, RowShape, ref-at, live-from, LiveVector}
+use Rattle.slots.specs.Store.{blank, is-valid, current, refs-of, vector-of, store-view, store-ops, arrays}
+use Rattle.slots.specs.contracts.Rows.{RowShape, ref-at, live-from, LiveVector}
 use Rattle.slots.specs.declared.rows.Ref.{Ref}
 use Rattle.slots.specs.declared.rows.Ref.the-variants.{At, Dead}
 use Rattle.slots.proofs.Places.{live-from-whole, live-from-end, live-from-at, live-from-dead}
@@ -28,8 +28,9 @@ use Rattle.calls.specs.Step.{reading, perform, step}
 use Rattle.calls.specs.Runs.{lent-of, slices-of, call-of, Meets}
 use Rattle.index.specs.Index.{state-of}
 use Rattle.index.specs.Run as Run
-use Rattle.index.specs.Deciding.{Decided}
-use Rattle.reading.specs.Read.{reading-of, answer-of, Answers, Reads, Reads-vector, Gives-vector}
+use Rattle.index.specs.contracts.Deciding.{Decided}
+use Rattle.reading.specs.contracts.Answering.{Answers}
+use Rattle.reading.specs.Read.{reading-of, answer-of, Reads, Reads-vector, Gives-vector}
 use Rattle.index.proofs.Decide.{turned-back, let-through, step-back, step-on}
 
 -- ---- a target by its place among the live ones

@@ -1,11 +1,10 @@
 -- What a reading gives. Assumes nothing.
 use Prim.Native.Nat.{ℕ, _<_}
 use mathlib.Core.List.{List}
-use mathlib.Core.Path.{_≡_}
 use denote.Ref.{RefT}
 use lib.ListN.{length}
 use Rattle.vectors.specs.Vector.{VectorAt}
-use Rattle.slots.specs.Sizes.{Slices, slices}
+use Rattle.slots.specs.Sizes.{Slices}
 use Rattle.index.specs.declared.Index.{Index}
 use Rattle.reading.specs.declared.Reading.{Reading}
 use Rattle.reading.specs.declared.Reading.the-variants.{Dim, Capacity, Degree, Alpha, Entry, Live, Mark, Version, Target}
@@ -13,10 +12,8 @@ use Rattle.reading.specs.declared.Value.{Value}
 use Rattle.reading.specs.declared.Value.the-variants.{Refused, Number, Alpha as Factor, Version as Stamp}
 use Rattle.calls.specs.Calls.{read-dim, read-capacity, read-degree, read-alpha, read-entry, read-live, read-mark, read-version, read-target, read, read-vector, Answer, refused, number, alpha, version, vector}
 use Rattle.calls.specs.Calls as Calls
-use Rattle.calls.specs.State.{stored}
 use Rattle.calls.specs.Step.{reading}
 use Rattle.calls.specs.Runs.{Run, Meets}
-use Rattle.index.specs.Index.{state-of}
 use Rattle.index.specs.Run as Run
 
 unfoldable pub reading-of : Reading → Calls.Reading
@@ -35,10 +32,6 @@ answer-of (Refused n) = refused n
 answer-of (Number n) = number n
 answer-of (Factor a) = alpha a
 answer-of (Stamp n) = version n
-
--- where no test holds, the rows, versions and marks decide
-pub record Answers (index : Index) (targets edges versions marks : List ℕ) (q : Reading) (r : Value) : Type 0 where
-  pub does : (vectors pool : List ℕ) → answer-of r ≡ reading stored (state-of index (slices vectors targets edges versions marks pool)) (reading-of q)
 
 -- ---- the runs, and what the calls promise
 

@@ -17,9 +17,10 @@ ghost use Prim.Native.Nat.{ℕ};
 ghost use lib.ListN.{getD};
 ghost use Rattle.lists.specs.Lists.{filter};
 ghost use Rattle.slots.specs.Sizes.{slices};
-ghost use Rattle.slots.specs.Store.{blank, is-valid, refs-of};
-ghost use Rattle.slots.specs.Rows.{arrays, RowShape};
-ghost use Rattle.reading.specs.Read.{Answers, Reads, Gives-vector};
+ghost use Rattle.slots.specs.Store.{blank, is-valid, refs-of, arrays};
+ghost use Rattle.slots.specs.contracts.Rows.{RowShape};
+ghost use Rattle.reading.specs.Read.{Reads, Gives-vector};
+ghost use Rattle.reading.specs.contracts.Answering.{Answers};
 
 // The mark of slot `s`: 1 for any byte but 0.
 fn mark(marks: &[u8], s: u32) -> u32

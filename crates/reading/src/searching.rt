@@ -14,11 +14,12 @@ ghost use mathlib.Core.Path.{_≡_};
 ghost use Prim.Native.Nat.{min};
 ghost use lib.Dec.{eqb, ltb};
 ghost use Rattle.slots.specs.Sizes.{limits, slices};
-ghost use Rattle.slots.specs.Rows.{arrays};
-ghost use Rattle.walk.specs.Scratch.{Ready, Pool};
+ghost use Rattle.slots.specs.Store.{arrays};
+ghost use Rattle.walk.specs.contracts.Scratch.{Ready, Pool};
 ghost use Rattle.index.specs.Index.{lengths-in};
-ghost use Rattle.index.specs.Deciding.{Decided};
-ghost use Rattle.reading.specs.Search.{search-tests, Fits, Shown, searching, search-outputs, Searches};
+ghost use Rattle.index.specs.contracts.Deciding.{Decided};
+ghost use Rattle.reading.specs.Search.{searching, search-outputs, Searches};
+ghost use Rattle.reading.specs.contracts.Finding.{search-tests, Fits, Shown};
 
 // Row 7: the beam is over its limit, or more are asked for than an output holds.
 fn search_over(k: u32, beam: u32, slots: usize, dists: usize) -> bool

@@ -8,7 +8,7 @@ use lib.ListN.{getD, set}
 use Rattle.lists.specs.Lists.{put-part}
 use Rattle.vectors.specs.Distance.{f32}
 use Rattle.slots.specs.Store.{Arrays, arrays, Store, write-neighbors, write-vector, set-mark, next-version, filled, finished, with-arrays, at-slot, store-ops}
-use Rattle.slots.specs.Writing.{Done, Filled, Wrote, Killed, Finished}
+use Rattle.slots.specs.contracts.Writing.{Done, Filled, Wrote, Killed, Finished}
 -- the examples are checked first, so that a wrong definition shows in one of them
 use Rattle.slots.proofs.Cases
 

@@ -7,9 +7,8 @@ use native.Mathlib.Omega.{arith}
 use lib.ListN.{length, take, replicate}
 use Rattle.lists.proofs.Pasting.{filled-whole}
 use Rattle.slots.specs.Sizes.{limits}
-use Rattle.slots.specs.Store.{blank, new-arrays}
-use Rattle.slots.specs.Rows.{arrays}
-use Rattle.slots.specs.Making.{Room, New}
+use Rattle.slots.specs.Store.{blank, new-arrays, arrays}
+use Rattle.slots.specs.contracts.Making.{Room, New}
 
 -- what is given fits
 pub fits-given : (d : ℕ) {given m n k : ℕ} → given ≤ m → k ≡ given * d → n ≡ m * d → k ≤ n

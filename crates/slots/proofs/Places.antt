@@ -12,8 +12,8 @@ use lib.ListN.{length, take, drop, getD, length-take, length-drop, drop-of-lengt
 use lib.Seq.{drop-cons, getD-take, getD-drop}
 use Rattle.lists.specs.Lists.{filter, elem, part}
 use Rattle.lists.proofs.Parts.{fits-in}
-use Rattle.slots.specs.Store.{Arrays, Shaped, blank, is-valid, current, refs-of}
-use Rattle.slots.specs.Rows.{arrays, RowShape, ref-of, ref-at, refs-from, live-from}
+use Rattle.slots.specs.Store.{Arrays, Shaped, blank, is-valid, current, refs-of, arrays}
+use Rattle.slots.specs.contracts.Rows.{RowShape, ref-of, ref-at, refs-from, live-from}
 use Rattle.slots.specs.declared.rows.Ref.{Ref}
 use Rattle.slots.specs.declared.rows.Ref.the-variants.{At, Dead}
 

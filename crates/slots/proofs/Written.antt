@@ -13,7 +13,7 @@ use Rattle.lists.proofs.Parts.{fits-in, length-put, part-put, put-again, put-bo
 use Rattle.lists.proofs.Pasting.{Pasting, pasting-none, pasting-more, pasted-part}
 use Rattle.slots.specs.Store.{Arrays, arrays, Shaped, blank, current, refs-of, padded, edge-version, write-neighbors}
 use Rattle.slots.specs.Plain.{other-than}
-use Rattle.slots.specs.Writing.{Wrote}
+use Rattle.slots.specs.contracts.Writing.{Wrote}
 use Rattle.slots.proofs.Done.{wrote-by}
 use Rattle.slots.proofs.Current.{current-written, padded-targets, length-padded}
 

@@ -4,6 +4,4 @@ pub mod View
 pub mod Ops
 pub mod Store
 pub mod Plain
-pub mod Rows
-pub mod Writing
-pub mod Making
+pub mod contracts

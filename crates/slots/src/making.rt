@@ -9,7 +9,7 @@ ghost use mathlib.Core.List.{_++_};
 ghost use mathlib.Core.Path.{_≡_};
 ghost use Prim.Native.Nat.{_-_, _≤_};
 ghost use lib.ListN.{length, replicate};
-ghost use Rattle.slots.specs.Making.{Room, New};
+ghost use Rattle.slots.specs.contracts.Making.{Room, New};
 
 // Marks the first `given` slots live, and the others dead.
 fn mark_given(marks: &mut [u8], given: usize)

@@ -6,7 +6,7 @@ ghost use lib.ListN.{length, getD};
 ghost use Rattle.lists.specs.Lists.{filter, range};
 ghost use Rattle.vectors.specs.Vector.{Bytes};
 ghost use Rattle.slots.specs.Store.{is-valid, live-between};
-ghost use Rattle.slots.specs.Rows.{LiveVector};
+ghost use Rattle.slots.specs.contracts.Rows.{LiveVector};
 
 // A slot number as an index.
 pub fn wide(x: u32) -> usize

@@ -7,7 +7,7 @@ ghost use mathlib.Core.Path.{_≡_};
 ghost use Prim.Native.Nat.{suc, _+_, _*_, _%_, _<_, _≤_};
 ghost use lib.ListN.{length, getD, set};
 ghost use Rattle.slots.specs.Store.{blank, edge-version};
-ghost use Rattle.slots.specs.Writing.{SlotIn, Filled, Wrote, Killed, Finished};
+ghost use Rattle.slots.specs.contracts.Writing.{SlotIn, Filled, Wrote, Killed, Finished};
 
 // The id at a place of the ids that a row is to have; past them it is blank.
 fn id_at(ids: &[u32], place: usize) -> u32

@@ -6,8 +6,8 @@ ghost use mathlib.Core.Path.{_≡_};
 ghost use Prim.Native.Nat.{ℕ, _+_, _*_, _<_, _≤_};
 ghost use lib.ListN.{length};
 ghost use Rattle.lists.specs.Lists.{elem};
-ghost use Rattle.slots.specs.Store.{refs-of};
-ghost use Rattle.slots.specs.Rows.{arrays, RowShape, ref-at};
+ghost use Rattle.slots.specs.Store.{refs-of, arrays};
+ghost use Rattle.slots.specs.contracts.Rows.{RowShape, ref-at};
 
 // The target of a blank reference.
 pub const BLANK: u32 = 4294967295;

@@ -11,10 +11,10 @@ use Rattle.lists.specs.Lists.{All, Ordered}
 use Rattle.lists.proofs.All.{all-append, all-init}
 use Rattle.lists.proofs.Ordered.{pairwise-init}
 use Rattle.candidates.specs.Candidates.{Candidate, before}
-use Rattle.candidates.specs.Words.{pair, cand, cands, Small, Inserted}
+use Rattle.candidates.specs.contracts.Words.{pair, cand, cands, Small, Inserted}
 use Rattle.candidates.proofs.Words.{cands-length, cands-take, cands-snoc, cands-init, cands-last, outside-none, outside-wide}
 use Rattle.walk.specs.Walk.{worst, enter, ends}
-use Rattle.walk.specs.Scratch.{mark, Listed, Entered, Unexpanded, Next}
+use Rattle.walk.specs.contracts.Scratch.{mark, Listed, Entered, Unexpanded, Next}
 
 pub worst-at : (w : List ℕ) (n : ℕ) → 0 < n → worst (cands w 0 n) ≡ cand w (0 + 2 * (n - 1)) .dist
 worst-at w n h = ap (λ (c : Candidate). c .dist) (cands-last w 0 n h (pair 0 0))

@@ -6,13 +6,13 @@ use mathlib.Core.List.{List, []}
 use native.Mathlib.Omega.{arith}
 use lib.ListN.{length}
 use Rattle.lists.specs.Lists.{All, elem}
-use Rattle.candidates.specs.Words.{cands}
+use Rattle.candidates.specs.contracts.Words.{cands}
 use Rattle.candidates.proofs.Words.{cands-none, outside-none, outside-then}
 use Rattle.vectors.specs.Space.{query-distance, space}
 use Rattle.slots.specs.Store.{Arrays, Store, is-valid, store-view}
 use Rattle.slots.proofs.Places.{live-inside}
 use Rattle.walk.specs.Walk.{State, turns, graph-search, search-pool}
-use Rattle.walk.specs.Scratch.{near-of, near-but, state-of, first-state, Walkable, Begun, Stepped, Ready, Found, Pool}
+use Rattle.walk.specs.contracts.Scratch.{near-of, near-but, state-of, first-state, Walkable, Begun, Stepped, Ready, Found, Pool}
 use Rattle.walk.proofs.Ordered as Ordered
 use Rattle.walk.proofs.Ordered.{graph-search-inside, graph-search-found}
 use Rattle.walk.proofs.Seen.{near-inside, near-all, walk-view}

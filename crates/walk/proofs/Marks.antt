@@ -8,9 +8,9 @@ use native.Mathlib.Omega.{arith}
 use lib.ListN.{length, drop, getD, set, replicate, length-set, length-take, length-drop, length-replicate, getD-replicate, drop-of-length-le}
 use lib.Seq.{getD-set-same, getD-set-other, getD-take, getD-drop, set-out, take-set-lt, drop-set-add, drop-cons, ext-getD}
 use Rattle.candidates.specs.Candidates.{Candidate}
-use Rattle.candidates.specs.Words.{pair, cands, put, Outside}
+use Rattle.candidates.specs.contracts.Words.{pair, cands, put, Outside}
 use Rattle.candidates.proofs.Words.{cands-none, cands-kept, put-cand, put-length, put-outside, outside-none, outside-wide, outside-then, outside-set}
-use Rattle.walk.specs.Scratch.{mark, marks-of, mark-all, Cleared, LeftOut, Begun}
+use Rattle.walk.specs.contracts.Scratch.{mark, marks-of, mark-all, Cleared, LeftOut, Begun}
 
 module _ (capacity : ℕ) (w : List ℕ) (h : 2048 + capacity ≤ length w) where
   pub marks-length : length (marks-of capacity w) ≡ capacity

@@ -13,10 +13,10 @@ use Rattle.lists.proofs.Members.{elem-sorted}
 use Rattle.slots.specs.View.{live-neighbors}
 use Rattle.vectors.specs.Space.{query-distance, space, Measured}
 use Rattle.slots.specs.Store.{Arrays, Store, is-valid, vector-of, store-view, refs-of}
-use Rattle.slots.specs.Rows.{live-from}
+use Rattle.slots.specs.contracts.Rows.{live-from}
 use Rattle.slots.proofs.Places.{live-inside, live-from-whole}
 use Rattle.walk.specs.Walk.{graph-search}
-use Rattle.walk.specs.Scratch.{near-of, near-but, Vectors}
+use Rattle.walk.specs.contracts.Scratch.{near-of, near-but, Vectors}
 
 -- a walk over the slices is a walk over the view of them
 pub walk-view : (b : Store) (query : List ℕ) (start beam : ℕ)

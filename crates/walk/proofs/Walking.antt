@@ -12,10 +12,10 @@ use lib.Seq.{getD-set-same, getD-set-other}
 use Rattle.lists.specs.Lists.{All, foldl}
 use Rattle.lists.proofs.All.{all-map, all-both, all-take}
 use Rattle.candidates.specs.Candidates.{Candidate, before}
-use Rattle.candidates.specs.Words.{pair, cand, cands, Outside}
+use Rattle.candidates.specs.contracts.Words.{pair, cand, cands, Outside}
 use Rattle.candidates.proofs.Words.{cands-none, cands-length, cands-take, cands-split, cands-cons, cands-each, outside-none, outside-wide, outside-then}
 use Rattle.walk.specs.Walk.{State, unexpanded, enter, ends, meet, expand, turn, turns}
-use Rattle.walk.specs.Scratch.{mark, marks-of, state-of, Walkable, Scannable, Entered, Unexpanded, Next, Stepped}
+use Rattle.walk.specs.contracts.Scratch.{mark, marks-of, state-of, Walkable, Scannable, Entered, Unexpanded, Next, Stepped}
 use Rattle.walk.proofs.Ordered.{all-enter, enter-ordered, enter-short, expanded}
 use Rattle.walk.proofs.Marks.{marks-at, marks-set, marks-kept, list-kept, outside-mark}
 

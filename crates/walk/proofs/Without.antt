@@ -12,7 +12,7 @@ use Rattle.lists.specs.Lists.{All, filter, elem, foldl}
 use Rattle.lists.proofs.All.{all-both}
 use Rattle.candidates.specs.Candidates.{Candidate}
 use Rattle.walk.specs.Walk.{State, unexpanded, enter, ends, meet, expand, turn, turns, graph-search}
-use Rattle.walk.specs.Scratch.{mark-all, first-state}
+use Rattle.walk.specs.contracts.Scratch.{mark-all, first-state}
 use Rattle.walk.proofs.Ordered.{First, expanded, unexpanded-first, all-enter, mark-set}
 
 -- ---- slots marked as met

@@ -1,3 +1,3 @@
 pub mod Walk
 pub mod GreedySearch
-pub mod Scratch
+pub mod contracts

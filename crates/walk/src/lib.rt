@@ -15,8 +15,8 @@ ghost use mathlib.Core.Path.{_≡_};
 ghost use Prim.Native.Nat.{max, _<_};
 ghost use lib.ListN.{length};
 ghost use Rattle.lists.specs.Lists.{elem};
-ghost use Rattle.slots.specs.Rows.{arrays};
-ghost use Rattle.walk.specs.Scratch.{near-of, near-but, meets, expands, takes-turns, Walkable, Stepped, Vectors, Lent, Ready, Found, Pool};
+ghost use Rattle.slots.specs.Store.{arrays};
+ghost use Rattle.walk.specs.contracts.Scratch.{near-of, near-but, meets, expands, takes-turns, Walkable, Stepped, Vectors, Lent, Ready, Found, Pool};
 
 // A neighbour is met: once, and then it may enter the list.
 fn meet(

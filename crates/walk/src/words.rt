@@ -8,9 +8,9 @@ use slots::marks::wide;
 ghost use mathlib.Core.Path.{_≡_};
 ghost use Prim.Native.Nat.{_+_, _*_, min, _<_, _≤_};
 ghost use lib.ListN.{length};
-ghost use Rattle.candidates.specs.Words.{pair, cand, cands};
+ghost use Rattle.candidates.specs.contracts.Words.{pair, cand, cands};
 ghost use Rattle.walk.specs.Walk as Walk;
-ghost use Rattle.walk.specs.Scratch.{Listed, Scannable, Entered, Unexpanded, Next, Cleared, LeftOut, Begun};
+ghost use Rattle.walk.specs.contracts.Scratch.{Listed, Scannable, Entered, Unexpanded, Next, Cleared, LeftOut, Begun};
 
 pub const MARKS: usize = 2048;
 

@@ -1,6 +1,6 @@
 -- The product, capped.
 use Rattle.prune.specs.Prune.{growth}
-use Rattle.prune.specs.Selecting.{next-threshold}
+use Rattle.prune.specs.contracts.Selecting.{next-threshold}
 use borrow.Author.Needs.{needs}
 use Rattle.prune.proofs.following.Statement.{statement}
 use Rattle.prune.proofs.following.Tie as tie

@@ -4,7 +4,7 @@ use Prim.Native.Nat.{_-_, _+_, _*_}
 use native.Mathlib.Omega.{arith}
 use lib.ListN.{length-set}
 use borrow.Author.Needs.{needs}
-use Rattle.candidates.specs.Words.{cand}
+use Rattle.candidates.specs.contracts.Words.{cand}
 use Rattle.vectors.specs.Space.{slot-distance, space}
 use Rattle.prune.proofs.Settling.{Raising, raising-none, raising-more, raising-done, given-small, given-stored}
 use Rattle.prune.proofs.settle.Statement.{statement}

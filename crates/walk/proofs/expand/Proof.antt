@@ -6,11 +6,12 @@ use mathlib.Core.Path.{_∙_}
 use native.Mathlib.Omega.{arith}
 use borrow.Author.Needs.{needs}
 use Rattle.lists.specs.Lists.{foldl}
-use Rattle.slots.specs.Rows.{arrays, live-from}
+use Rattle.slots.specs.contracts.Rows.{live-from}
+use Rattle.slots.specs.Store.{arrays}
 use Rattle.slots.proofs.Places.{live-from-end, live-from-at, live-from-dead, ref-inside}
 use Rattle.walk.specs.Walk.{meet}
 use Rattle.vectors.specs.Space.{query-distance, space}
-use Rattle.walk.specs.Scratch.{near-of, state-of}
+use Rattle.walk.specs.contracts.Scratch.{near-of, state-of}
 use Rattle.walk.proofs.Seen.{near-from}
 use Rattle.walk.proofs.Walking.{Meeting, meeting-none, meeting-live, meeting-dead, meeting-done, expands-inside, expands-goes, expanded-by}
 use Rattle.walk.proofs.expand.Statement.{statement}

@@ -2,9 +2,9 @@
 use Prim.Native.Nat.{_-_}
 use lib.ListN.{length}
 use native.Mathlib.Omega.{arith}
-use Rattle.slots.specs.Rows.{arrays}
+use Rattle.slots.specs.Store.{arrays}
 use Rattle.vectors.specs.Space.{query-distance, space}
-use Rattle.walk.specs.Scratch.{near-of, takes-turns}
+use Rattle.walk.specs.contracts.Scratch.{near-of, takes-turns}
 use Rattle.walk.proofs.Walking.{Walking, walking-none, walking-out, walking-over, walking-more, below, moved-up, next-ready}
 use Rattle.walk.proofs.take_turns.Statement.{statement}
 use Rattle.walk.proofs.take_turns.Tie as tie

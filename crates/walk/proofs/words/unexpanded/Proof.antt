@@ -5,9 +5,9 @@ use lib.ListN.{length}
 use native.Mathlib.Omega.{arith}
 use borrow.Author.Needs.{needs}
 use Rattle.lists.specs.Lists.{All}
-use Rattle.candidates.specs.Words.{cands}
+use Rattle.candidates.specs.contracts.Words.{cands}
 use Rattle.candidates.proofs.Words.{cands-each}
-use Rattle.walk.specs.Scratch.{mark}
+use Rattle.walk.specs.contracts.Scratch.{mark}
 use Rattle.walk.proofs.Entering.{scan-more, scan-found, scan-none}
 use Rattle.walk.proofs.words.unexpanded.Statement.{statement}
 use Rattle.walk.proofs.words.unexpanded.Tie as tie

@@ -5,8 +5,7 @@ use mathlib.Core.Path.{_≡_}
 use lib.Ieee.{Float}
 use lib.ListN.{length, replicate}
 use Rattle.slots.specs.Sizes.{limits}
-use Rattle.slots.specs.Store.{new-arrays}
-use Rattle.slots.specs.Rows.{arrays}
+use Rattle.slots.specs.Store.{new-arrays, arrays}
 
 -- the given vectors and rows belong to the first slots, and each slice has its exact length
 pub record Room (dim capacity degree given : ℕ) (bytes rows vectors targets edges versions marks pool : List ℕ) : Type 0 where

@@ -9,7 +9,7 @@ use lib.Ieee.{Float, binary32, nan, mul, lt}
 use Rattle.lists.specs.Lists.{All, range, foldl}
 use Rattle.candidates.specs.Candidates.{Candidate}
 use Rattle.candidates.specs.Quotient.{largest, fmax, fmin, quotient}
-use Rattle.candidates.specs.Words.{cands, Small, Outside}
+use Rattle.candidates.specs.contracts.Words.{cands, Small, Outside}
 use Rattle.prune.specs.Prune.{growth, thresholds, no-candidate, Selection, raise, pass, passes, prune-scored}
 
 -- the threshold after t

@@ -4,7 +4,7 @@ use mathlib.Core.Path.{_≡_}
 use mathlib.Core.List.{List}
 use lib.ListN.{length, getD}
 use Rattle.lists.specs.Lists.{All}
-use Rattle.candidates.specs.Words.{cands}
+use Rattle.candidates.specs.contracts.Words.{cands}
 
 -- the slots of the n candidates at a have their marks
 pub record Met (marks w : List ℕ) (a n : ℕ) : Type 0 where

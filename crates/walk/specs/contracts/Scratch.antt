@@ -8,9 +8,9 @@ use lib.ListN.{length, take, drop, getD, set, replicate}
 use Rattle.lists.specs.Lists.{All, Ordered, filter, elem, foldl}
 use Rattle.vectors.specs.Space.{query-distance, space}
 use Rattle.candidates.specs.Candidates.{Candidate, before}
-use Rattle.candidates.specs.Words.{pair, cand, cands, Small, Outside}
+use Rattle.candidates.specs.contracts.Words.{pair, cand, cands, Small, Outside}
 use Rattle.slots.specs.Store.{Arrays, Store, is-valid, refs-of, store-view}
-use Rattle.slots.specs.Rows.{RowShape}
+use Rattle.slots.specs.contracts.Rows.{RowShape}
 use Rattle.walk.specs.Walk.{State, enter, ends, graph-search, search-pool}
 use Rattle.walk.specs.Walk as Walk
 

@@ -8,9 +8,14 @@ use Rattle.slots.specs.Sizes.{Slices, Lengths, lengths-of, limits, sizes-ok, al
 use Rattle.slots.specs.View.{live-slots}
 use Rattle.slots.specs.Store.{Shaped, store-view}
 use Rattle.index.specs.declared.Index.{Index}
-use Rattle.calls.specs.Refusals.{Test, first-of, or-zero, index-tests, guard-fault}
+use Rattle.calls.specs.Calls.{Making}
+use Rattle.calls.specs.Refusals.{Test, first-of, or-zero, making-tests, index-tests, guard-fault}
 use Rattle.calls.specs.State.{stored, shown}
 use Rattle.index.specs.Index.{sizes-of, guard-of, state-of}
+
+-- r is the number of the first of making's tests that holds, 0 if none does
+pub record Judged (m : Making) (lent : Lengths) (r : ℕ) : Type 0 where
+  pub does : r ≡ or-zero (first-of (making-tests limits lent m))
 
 -- r is the number of the first test that holds, of the shared ones and then of a call's own, 0 if none does; of five slices the lengths alone count
 pub record Decided (index : Index) (lent : Lengths) (marks : List ℕ) (wrong : Bool) (rest : List Test) (r : ℕ) : Type 0 where

@@ -8,7 +8,6 @@ use lib.ListN.{length, drop, getD}
 use lib.Dec.{eqb}
 use Rattle.lists.specs.Lists.{filter, part}
 use Rattle.vectors.specs.Vector.{VectorAt}
-pub use Rattle.slots.specs.Store.{arrays}
 use Rattle.slots.specs.Store.{Arrays, is-valid, current}
 use Rattle.slots.specs.declared.rows.Ref.{Ref}
 use Rattle.slots.specs.declared.rows.Ref.the-variants.{At, Dead}

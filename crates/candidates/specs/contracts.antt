@@ -1,0 +1,4 @@
+-- The words of inner contracts: what functions below the calls ask for and leave. Nothing here has to be believed.
+pub mod Words
+pub mod Met
+pub mod Runs
