@@ -5,6 +5,13 @@ use borrow.Author.Needs.{needs}
 use Rattle.prune.proofs.prepare.Statement.{statement}
 use Rattle.prune.proofs.prepare.Tie as tie
 
+-- places before the needs below, each named by what was done last there
+abbrev sort-by-distance₀ : tie.After-slice-known4 → tie.After-sort-by-distance
+sort-by-distance₀ c = c .before .before .before .before .before .before
+
+abbrev keep-valid₀ : tie.After-slice-known4 → tie.After-keep-valid
+keep-valid₀ c = sort-by-distance₀ c .before .before .before .before
+
 keep-valid-requires : tie.Need-keep-valid-requires
 keep-valid-requires c κs = search needs
 
@@ -18,7 +25,7 @@ same-length : tie.Need-same-length
 same-length c = search needs
 
 returns : tie.Need-returns
-returns c = prepared _ _ _ refl (c .before .before .before .before .before .before .before .before .before .before .keep-valid .ensures) (c .before .before .before .before .before .before .sort-by-distance .ensures) (c .before .before .keep-first .ensures)
+returns c = prepared _ _ _ refl ((keep-valid₀ c) .keep-valid .ensures) ((sort-by-distance₀ c) .sort-by-distance .ensures) (c .before .before .keep-first .ensures)
 
 pub prepare-spec : {M : Type 1} → statement M
 prepare-spec =

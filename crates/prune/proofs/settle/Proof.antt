@@ -16,6 +16,25 @@ Inv-loop alpha dim vectors factors₀ words a i n y j₀ factors j = Raising alp
 abbrev μ-loop : tie.MeasureT-loop
 μ-loop alpha dim vectors factors₀ words a i n y j₀ factors j = n - j
 
+-- places before the needs below, each named by what was done last there
+abbrev start : tie.After-id-at Inv-loop μ-loop → tie.Start Inv-loop μ-loop
+start c = c .before .before .before .before
+
+abbrev start₁ : tie.In-loop Inv-loop μ-loop → tie.Start Inv-loop μ-loop
+start₁ c = start (c .before .before)
+
+abbrev start₂ : tie.After-dist-at Inv-loop μ-loop → tie.Start Inv-loop μ-loop
+start₂ c = start (c .before .before .before)
+
+abbrev start₃ : tie.After-slice-known2 Inv-loop μ-loop → tie.Start Inv-loop μ-loop
+start₃ c = start (c .before .before .before .before .before)
+
+abbrev id-at₄ : tie.After-raised Inv-loop μ-loop → tie.After-id-at Inv-loop μ-loop
+id-at₄ c = c .before .before .before .before .before .before
+
+abbrev start₅ : tie.After-loop Inv-loop μ-loop → tie.Start Inv-loop μ-loop
+start₅ c = start (c .before .before)
+
 id-at-requires : tie.Need-id-at-requires Inv-loop μ-loop
 id-at-requires c κs = omega (arith, c .before .before .before .pre .0 .inside, c .before .before .before .pre .1)
 
@@ -32,10 +51,10 @@ loop-holds : tie.Need-loop-holds Inv-loop μ-loop
 loop-holds c = raising-none _ _ _ _ _ _ _ _ (omega arith) (simp length-set)
 
 dist-at-requires : tie.Need-dist-at-requires Inv-loop μ-loop
-dist-at-requires c κs = omega (arith, c .before .before .before .before .before .before .pre .0 .inside)
+dist-at-requires c κs = omega (arith, (start₁ c) .pre .0 .inside)
 
 id-at-requires-2 : tie.Need-id-at-requires-2 Inv-loop μ-loop
-id-at-requires-2 c κs = omega (arith, c .before .before .before .before .before .before .before .pre .0 .inside)
+id-at-requires-2 c κs = omega (arith, (start₂ c) .pre .0 .inside)
 
 mul-raised : tie.Need-mul-raised Inv-loop μ-loop
 mul-raised c = search needs
@@ -44,7 +63,7 @@ slice-read-raised : tie.Need-slice-read-raised Inv-loop μ-loop
 slice-read-raised c = search needs
 
 raised-requires : tie.Need-raised-requires Inv-loop μ-loop
-raised-requires c κs = let g = c .before .before .before .before .before .before .before .before .before .pre .0 in let h = c .before .before .before .loop-test .taken in (given-small g h (c .before .before .dist-at .ensures), given-stored g h (c .before .id-at2 .ensures), given-stored g (c .before .before .before .before .before .before .before .before .before .pre .1) (c .before .before .before .before .before .id-at .ensures), g .short)
+raised-requires c κs = let g = (start₃ c) .pre .0 in let h = c .before .before .before .loop-test .taken in (given-small g h (c .before .before .dist-at .ensures), given-stored g h (c .before .id-at2 .ensures), given-stored g ((start₃ c) .pre .1) (c .before .before .before .before .before .id-at .ensures), g .short)
 
 mul-factors-2 : tie.Need-mul-factors-2 Inv-loop μ-loop
 mul-factors-2 c = search needs
@@ -59,14 +78,14 @@ loop-less : tie.Need-loop-less Inv-loop μ-loop
 loop-less c = search needs
 
 loop-again : tie.Need-loop-again Inv-loop μ-loop
-loop-again c = raising-more (c .before .before .before .before .before .loop .inv) (c .before .before .before .before .loop-test .taken) (c .before .before .before .dist-at .ensures) (c .before .before .id-at2 .ensures) (c .before .before .before .before .before .before .id-at .ensures) (c .raised .ensures)
+loop-again c = raising-more (c .before .before .before .before .before .loop .inv) (c .before .before .before .before .loop-test .taken) (c .before .before .before .dist-at .ensures) (c .before .before .id-at2 .ensures) ((id-at₄ c) .id-at .ensures) (c .raised .ensures)
 
 same-length : tie.Need-same-length Inv-loop μ-loop
 same-length c = search needs
 
 returns : tie.Need-returns Inv-loop μ-loop
 unfolding largest
-returns c = raising-done (c .before .before .before .before .before .before .args .factors .now) (c .before .before .before .before .before .before .pre .1) (c .loop-test .left) (c .before .loop .inv)
+returns c = raising-done ((start₅ c) .args .factors .now) ((start₅ c) .pre .1) (c .loop-test .left) (c .before .loop .inv)
 
 pub settle-spec : {M : Type 1} → statement M
 settle-spec =

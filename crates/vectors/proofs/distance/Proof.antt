@@ -14,6 +14,10 @@ Inv-loop a b sum₀ i₀ sum i = (i ≤ length a) × (sum ≤ 65025 * i) × (sum
 abbrev μ-loop : tie.MeasureT-loop
 μ-loop a b sum₀ i₀ sum i = length a - i
 
+-- places before the needs below, each named by what was done last there
+abbrev start₀ : tie.After-squared-difference Inv-loop μ-loop → tie.Start Inv-loop μ-loop
+start₀ c = c .before .before .before .before .before .before .before
+
 loop-holds : tie.Need-loop-holds Inv-loop μ-loop
 loop-holds c = omega arith
 
@@ -37,7 +41,7 @@ loop-less c = omega arith
 
 loop-again : tie.Need-loop-again Inv-loop μ-loop
 loop-again c =
-    let s = c .before .before .before .before .before .before .before .args in
+    let s = (start₀ c) .args in
     let i = c .before .before .before .before .loop .i in
     omega (arith, distance-step (s .a .now) (s .b .now) i (omega arith) (omega arith))
 

@@ -27,27 +27,52 @@ Inv-loop dim degree vectors targets edges versions marks query beam scratch₀ i
 abbrev μ-loop : tie.MeasureT-loop
 μ-loop dim degree vectors targets edges versions marks query beam scratch₀ i s now₀ place₀ scratch now place = degree - place
 
+-- places before the needs below, each named by what was done last there
+abbrev start : tie.At-loop Inv-loop μ-loop → tie.Start Inv-loop μ-loop
+start c = c .before .before .before .before .before .before .before .before .before .before .before
+
+abbrev start₁ : tie.After-id-at-arg Inv-loop μ-loop → tie.Start Inv-loop μ-loop
+start₁ c = c .before .before .before .before .before .before .before .before
+
+abbrev start₂ : tie.After-wide Inv-loop μ-loop → tie.Start Inv-loop μ-loop
+start₂ c = c .before .before .before .before .before .before .before .before .before .before
+
+abbrev start₃ : tie.In-loop Inv-loop μ-loop → tie.Start Inv-loop μ-loop
+start₃ c = start (c .before)
+
+abbrev at-loop₄ : tie.After-meet-arg Inv-loop μ-loop → tie.At-loop Inv-loop μ-loop
+at-loop₄ c = c .before .before .before .before .before .before
+
+abbrev start₄ : tie.After-meet-arg Inv-loop μ-loop → tie.Start Inv-loop μ-loop
+start₄ c = start (at-loop₄ c)
+
+abbrev start₅ : tie.At-match-came Inv-loop μ-loop → tie.Start Inv-loop μ-loop
+start₅ c = start (c .before .before .before)
+
+abbrev start₆ : tie.After-loop Inv-loop μ-loop → tie.Start Inv-loop μ-loop
+start₆ c = start (c .before)
+
 id-at-requires : tie.Need-id-at-requires Inv-loop μ-loop
-id-at-requires c κs = omega (arith, c .before .before .before .before .before .before .before .before .pre .1)
+id-at-requires c κs = omega (arith, (start₁ c) .pre .1)
 
 wide-requires : tie.Need-wide-requires Inv-loop μ-loop
 wide-requires c κs = search needs
 
 add-scratch : tie.Need-add-scratch Inv-loop μ-loop
-add-scratch c = let p = c .before .before .before .before .before .before .before .before .before .before .pre .1 in omega (arith, p .0 .room, expands-inside (p .0) (p .1) (c .before .id-at .ensures) (c .wide .ensures), c .before .before .before .before .before .before .before .before .before .before .good)
+add-scratch c = let p = (start₂ c) .pre .1 in omega (arith, p .0 .room, expands-inside (p .0) (p .1) (c .before .id-at .ensures) (c .wide .ensures), (start₂ c) .good)
 
 mul-scratch : tie.Need-mul-scratch Inv-loop μ-loop
-mul-scratch c = let p = c .before .before .before .before .before .before .before .before .before .before .pre .1 in omega (arith, p .0 .room, expands-inside (p .0) (p .1) (c .before .id-at .ensures) (c .wide .ensures), c .before .before .before .before .before .before .before .before .before .before .good)
+mul-scratch c = let p = (start₂ c) .pre .1 in omega (arith, p .0 .room, expands-inside (p .0) (p .1) (c .before .id-at .ensures) (c .wide .ensures), (start₂ c) .good)
 
 slice-write-scratch : tie.Need-slice-write-scratch Inv-loop μ-loop
-slice-write-scratch c = let p = c .before .before .before .before .before .before .before .before .before .before .pre .1 in omega (arith, p .0 .room, expands-inside (p .0) (p .1) (c .before .id-at .ensures) (c .wide .ensures))
+slice-write-scratch c = let p = (start₂ c) .pre .1 in omega (arith, p .0 .room, expands-inside (p .0) (p .1) (c .before .id-at .ensures) (c .wide .ensures))
 
 loop-holds : tie.Need-loop-holds Inv-loop μ-loop
-loop-holds c = let p = c .before .before .before .before .before .before .before .before .before .before .pre .1 in (omega arith, meeting-none _ _ (expands-goes (p .0) (p .1) (c .before .id-at .ensures) (c .wide .ensures)) (near-from _ _))
+loop-holds c = let p = (start₂ c) .pre .1 in (omega arith, meeting-none _ _ (expands-goes (p .0) (p .1) (c .before .id-at .ensures) (c .wide .ensures)) (near-from _ _))
 
 live-at-requires : tie.Need-live-at-requires Inv-loop μ-loop
 live-at-requires c κs =
-    let p = c .before .before .before .before .before .before .before .before .before .before .before .before .pre in
+    let p = (start₃ c) .pre in
     (p .0 .rows, (expands-inside (p .1 .0) (p .1 .1) (c .before .before .before .id-at .ensures) (c .before .before .wide .ensures), c .loop-test .taken))
 
 enum-known-r : tie.Need-enum-known-r Inv-loop μ-loop
@@ -55,8 +80,8 @@ enum-known-r c = search needs
 
 meet-requires : tie.Need-meet-requires Inv-loop μ-loop
 meet-requires c κs =
-    let a = c .before .before .before .before .before .before .before .before .before .before .before .before .before .before .before .before .before .args in
-    (c .before .before .before .before .before .before .before .before .before .before .before .before .before .before .before .before .before .pre .0 .vectors, c .before .before .before .before .before .before .loop .inv .1 .goes, ref-inside (arrays (a .dim) (a .degree) (a .vectors .now) (a .targets .now) (a .edges .now) (a .versions .now) (a .marks .now)) _ _ (c .before .before .before .before .live-at .ensures (a .dim) (a .vectors .now)) (c .before .before .r .given .1))
+    let a = (start₄ c) .args in
+    ((start₄ c) .pre .0 .vectors, (at-loop₄ c) .loop .inv .1 .goes, ref-inside (arrays (a .dim) (a .degree) (a .vectors .now) (a .targets .now) (a .edges .now) (a .versions .now) (a .marks .now)) _ _ (c .before .before .before .before .live-at .ensures (a .dim) (a .vectors .now)) (c .before .before .r .given .1))
 
 enum-told : tie.Need-enum-told Inv-loop μ-loop
 enum-told c = search needs
@@ -69,8 +94,8 @@ loop-less c = omega arith
 
 loop-again : tie.Need-loop-again Inv-loop μ-loop
 loop-again c =
-    let p = c .before .before .before .before .before .before .before .before .before .before .before .before .before .before .pre in
-    let a = c .before .before .before .before .before .before .before .before .before .before .before .before .before .before .args in
+    let p = (start₅ c) .pre in
+    let a = (start₅ c) .args in
     let m = c .before .before .before .loop .inv .1 in
     let e = c .before .live-at .ensures (a .dim) (a .vectors .now) in
     let h = c .before .before .loop-test .taken in
@@ -85,7 +110,7 @@ same-length c = c .before .loop .inv .1 .size ∙ simp length-set
 
 returns : tie.Need-returns Inv-loop μ-loop
 returns c =
-    let p = c .before .before .before .before .before .before .before .before .before .before .before .before .pre .1 in
+    let p = (start₆ c) .pre .1 in
     expanded-by (p .0) (p .1) (c .before .before .before .id-at .ensures) (c .before .before .wide .ensures) _ _ (meeting-done (c .before .loop .inv .1) (live-from-end _ _ _ (c .loop-test .left)))
 
 pub expand-spec : {M : Type 1} → statement M

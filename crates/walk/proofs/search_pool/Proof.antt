@@ -3,6 +3,10 @@ use borrow.Author.Needs.{needs}
 use Rattle.walk.proofs.search_pool.Statement.{statement}
 use Rattle.walk.proofs.search_pool.Tie as tie
 
+-- places before the needs below, each named by what was done last there
+abbrev wide₀ : tie.After-slice-known2 → tie.After-wide
+wide₀ c = c .before .before .before .before .before .before
+
 wide-requires : tie.Need-wide-requires
 wide-requires c κs = search needs
 
@@ -16,7 +20,7 @@ same-length : tie.Need-same-length
 same-length c = search needs
 
 returns : tie.Need-returns
-returns c = pool-live (c .before .before .before .before .before .before .wide .ensures) (c .before .before .before .before .before .is-valid .ensures) (c .before .before .before .before .if1 .taken) (c .before .before .graph-search .ensures)
+returns c = pool-live ((wide₀ c) .wide .ensures) (c .before .before .before .before .before .is-valid .ensures) (c .before .before .before .before .if1 .taken) (c .before .before .graph-search .ensures)
 
 returns-2 : tie.Need-returns-2
 returns-2 c = pool-dead (c .before .before .wide .ensures) (c .before .is-valid .ensures) _ (c .if1 .left)

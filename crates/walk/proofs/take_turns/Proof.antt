@@ -17,8 +17,27 @@ Inv-loop dim degree vectors targets edges versions marks query beam scratch₀ h
 abbrev μ-loop : tie.MeasureT-loop
 μ-loop dim degree vectors targets edges versions marks query beam scratch₀ held₀ counter₀ end scratch held counter = length marks - counter
 
+-- places before the needs below, each named by what was done last there
+abbrev start₁ : tie.After-slice-known Inv-loop μ-loop → tie.Start Inv-loop μ-loop
+start₁ c = c .before .before .before .before .before .before .before
+
+abbrev at-loop₂ : tie.After-expand-arg Inv-loop μ-loop → tie.At-loop Inv-loop μ-loop
+at-loop₂ c = c .before .before .before .before .before .before
+
+abbrev start₂ : tie.After-expand-arg Inv-loop μ-loop → tie.Start Inv-loop μ-loop
+start₂ c = at-loop₂ c .before .before .before .before .before .before .before .before
+
+abbrev next₃ : tie.After-slice-known2 Inv-loop μ-loop → tie.After-next Inv-loop μ-loop
+next₃ c = c .before .before .before .before .before .before
+
+abbrev in-loop₃ : tie.After-slice-known2 Inv-loop μ-loop → tie.In-loop Inv-loop μ-loop
+in-loop₃ c = next₃ c .before .before
+
+abbrev at-loop₃ : tie.After-slice-known2 Inv-loop μ-loop → tie.At-loop Inv-loop μ-loop
+at-loop₃ c = in-loop₃ c .before
+
 loop-holds : tie.Need-loop-holds Inv-loop μ-loop
-loop-holds c = walking-none _ _ _ (omega arith) (c .before .before .before .before .before .before .before .pre .1)
+loop-holds c = walking-none _ _ _ (omega arith) ((start₁ c) .pre .1)
 
 next-requires : tie.Need-next-requires Inv-loop μ-loop
 next-requires c κs = next-ready (c .before .before .loop .inv .goes)
@@ -31,19 +50,19 @@ returns c = walking-over (c .before .before .before .before .before .loop .inv) 
 
 expand-requires : tie.Need-expand-requires Inv-loop μ-loop
 expand-requires c κs =
-    let v = c .before .before .before .before .before .before .loop .inv in
+    let v = (at-loop₂ c) .loop .inv in
     let x = c .before .before .before .next .ensures in
     let k = c .before .if1 .left in
-    (c .before .before .before .before .before .before .before .before .before .before .before .before .before .before .pre .0, (moved-up v x k, below v x k))
+    ((start₂ c) .pre .0, (moved-up v x k, below v x k))
 
 add-counter : tie.Need-add-counter Inv-loop μ-loop
-add-counter c = omega (arith, c .before .before .before .before .before .before .before .before .loop-test .taken)
+add-counter c = omega (arith, (in-loop₃ c) .loop-test .taken)
 
 loop-less : tie.Need-loop-less Inv-loop μ-loop
-loop-less c = omega (arith, c .before .before .before .before .before .before .before .before .loop-test .taken)
+loop-less c = omega (arith, (in-loop₃ c) .loop-test .taken)
 
 loop-again : tie.Need-loop-again Inv-loop μ-loop
-loop-again c = walking-more (c .before .before .before .before .before .before .before .before .before .loop .inv) (c .before .before .before .before .before .before .next .ensures) (c .before .before .before .before .if1 .left) (omega (arith, c .before .before .before .before .before .before .before .before .loop-test .taken)) (c .before .before .expand .ensures)
+loop-again c = walking-more ((at-loop₃ c) .loop .inv) ((next₃ c) .next .ensures) (c .before .before .before .before .if1 .left) (omega (arith, (in-loop₃ c) .loop-test .taken)) (c .before .before .expand .ensures)
 
 same-length-2 : tie.Need-same-length-2 Inv-loop μ-loop
 same-length-2 c = c .before .loop .inv .size

@@ -3,11 +3,21 @@ use borrow.Author.Needs.{needs}
 use Rattle.finder.proofs.making.finder_create.Statement.{statement}
 use Rattle.finder.proofs.making.finder_create.Tie as tie
 
+-- places before the needs below, each named by what was done last there
+abbrev create₁ : tie.After-put-created-arg → tie.After-create
+create₁ c = c .before .before .before .before .before .before .before .before .before .before .before .before .before
+
+abbrev create₂ : tie.After-put-created → tie.After-create
+create₂ c = c .before .before .before .before .before .before .before .before .before .before .before .before .before .before
+
+abbrev start₂ : tie.After-put-created → tie.Start
+start₂ c = create₂ c .before .before .before .before .before .before .before .before .before .before .before .before .before .before .before
+
 create-requires : tie.Need-create-requires
 create-requires c κs = search needs
 
 put-created-requires : tie.Need-put-created-requires
-put-created-requires c κs = λ i e. made-number (c .before .before .before .before .before .before .before .before .before .before .before .before .before .create .ensures) e
+put-created-requires c κs = λ i e. made-number ((create₁ c) .create .ensures) e
 
 same-length : tie.Need-same-length
 same-length c = search needs
@@ -28,7 +38,7 @@ same-length-6 : tie.Need-same-length-6
 same-length-6 c = search needs
 
 returns : tie.Need-returns
-returns c = creates-words _ (c .before .before .before .before .before .before .before .before .before .before .before .before .before .before .before .before .before .before .before .before .before .before .before .before .before .before .before .before .before .good .1 .1 .1 .0 .1) (c .before .before .before .before .before .before .before .before .before .before .before .before .before .before .create .ensures) (c .put-created .ensures)
+returns c = creates-words _ ((start₂ c) .good .1 .1 .1 .0 .1) ((create₂ c) .create .ensures) (c .put-created .ensures)
 
 pub finder-create-spec : {M : Type 1} → statement M
 finder-create-spec =

@@ -3,6 +3,13 @@ use borrow.Author.Needs.{needs}
 use Rattle.finder.proofs.search.finder_search.Statement.{statement}
 use Rattle.finder.proofs.search.finder_search.Tie as tie
 
+-- places before the needs below, each named by what was done last there
+abbrev search₀ : tie.After-put-found → tie.After-search
+search₀ c = c .before .before .before .before .before .before .before .before
+
+abbrev index-from₀ : tie.After-put-found → tie.After-index-from
+index-from₀ c = search₀ c .before .before .before .before
+
 index-from-requires : tie.Need-index-from-requires
 index-from-requires c κs = search needs
 
@@ -22,7 +29,7 @@ same-length-3 : tie.Need-same-length-3
 same-length-3 c = search needs
 
 returns : tie.Need-returns
-returns c = searches-words _ (c .before .before .before .before .before .before .before .before .before .before .before .before .index-from .ensures) (c .before .before .before .before .before .before .before .before .search .ensures) (c .put-found .ensures)
+returns c = searches-words _ ((index-from₀ c) .index-from .ensures) ((search₀ c) .search .ensures) (c .put-found .ensures)
 
 pub finder-search-spec : {M : Type 1} → statement M
 finder-search-spec =

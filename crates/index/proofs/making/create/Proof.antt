@@ -3,11 +3,21 @@ use borrow.Author.Needs.{needs}
 use Rattle.index.proofs.making.create.Statement.{statement}
 use Rattle.index.proofs.making.create.Tie as tie
 
+-- places before the needs below, each named by what was done last there
+abbrev new-index₁ : tie.After-make-arg6 → tie.After-new-index
+new-index₁ c = c .before .before .before .before .before .before
+
+abbrev make₂ : tie.After-slice-known12 → tie.After-make
+make₂ c = c .before .before .before .before .before .before .before .before .before .before .before .before
+
+abbrev new-index₂ : tie.After-slice-known12 → tie.After-new-index
+new-index₂ c = make₂ c .before .before .before .before .before .before .before
+
 new-index-requires : tie.Need-new-index-requires
 new-index-requires c κs = search needs
 
 make-requires : tie.Need-make-requires
-make-requires c κs = fresh-off (c .before .before .before .before .before .before .new-index .ensures)
+make-requires c κs = fresh-off ((new-index₁ c) .new-index .ensures)
 
 same-length : tie.Need-same-length
 same-length c = search needs
@@ -28,7 +38,7 @@ same-length-6 : tie.Need-same-length-6
 same-length-6 c = search needs
 
 returns : tie.Need-returns
-returns c = creates-fresh (c .before .before .before .before .before .before .before .before .before .before .before .before .before .before .before .before .before .before .before .new-index .ensures) (c .before .before .before .before .before .before .before .before .before .before .before .before .make .ensures)
+returns c = creates-fresh ((new-index₂ c) .new-index .ensures) ((make₂ c) .make .ensures)
 
 pub create-spec : {M : Type 1} → statement M
 create-spec =

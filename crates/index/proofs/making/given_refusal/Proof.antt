@@ -5,6 +5,13 @@ use borrow.Author.Needs.{needs}
 use Rattle.index.proofs.making.given_refusal.Statement.{statement}
 use Rattle.index.proofs.making.given_refusal.Tie as tie
 
+-- places before the needs below, each named by what was done last there
+abbrev start₁ : tie.Then3 → tie.Start
+start₁ c = c .before .before .before .before .before .before
+
+abbrev start₂ : tie.Else3 → tie.Start
+start₂ c = c .before .before .before .before .before .before
+
 returns : tie.Need-returns
 returns c = rw (lt-ltb _ _ (c .if1 .taken))
 
@@ -19,12 +26,12 @@ entry-bad-requires c κs = search needs
 
 returns-3 : tie.Need-returns-3
 returns-3 c =
-    let a = c .before .before .before .before .before .before .args in
+    let a = (start₁ c) .args in
     rw (le-ltb _ _ (c .before .before .before .before .if1 .left), not-false (names-given (a .count) (a .rows .now)) (sym (c .before .before .before .names-bad .ensures) ∙ c .before .before .if2 .left), sym (c .before .entry-bad .ensures) ∙ c .if3 .taken)
 
 returns-4 : tie.Need-returns-4
 returns-4 c =
-    let a = c .before .before .before .before .before .before .args in
+    let a = (start₂ c) .args in
     rw (le-ltb _ _ (c .before .before .before .before .if1 .left), not-false (names-given (a .count) (a .rows .now)) (sym (c .before .before .before .names-bad .ensures) ∙ c .before .before .if2 .left), sym (c .before .entry-bad .ensures) ∙ c .if3 .left)
 
 pub given-refusal-spec : {M : Type 1} → statement M

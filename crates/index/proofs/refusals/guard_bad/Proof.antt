@@ -6,6 +6,10 @@ use borrow.Author.Needs.{needs}
 use Rattle.index.proofs.refusals.guard_bad.Statement.{statement}
 use Rattle.index.proofs.refusals.guard_bad.Tie as tie
 
+-- places before the needs below, each named by what was done last there
+abbrev guard₀ : tie.After-struct-known → tie.After-guard
+guard₀ c = c .before .before .before .before .before .before
+
 enum-known-guard : tie.Need-enum-known-guard
 enum-known-guard c = search needs
 
@@ -32,7 +36,7 @@ returns-3 c = rw (c .before .before .before .before .before .guard .given .1, sy
 
 returns-4 : tie.Need-returns-4
 unfolding guard-fault guard-of limits
-returns-4 c = rw (c .before .before .before .before .before .before .guard .given .1, sym (c .before .before .before .before .config-zero .ensures) ∙ c .before .before .before .if1 .left, sym (c .before .before .config-over .ensures) ∙ c .before .if2 .left)
+returns-4 c = rw ((guard₀ c) .guard .given .1, sym (c .before .before .before .before .config-zero .ensures) ∙ c .before .before .before .if1 .left, sym (c .before .before .config-over .ensures) ∙ c .before .if2 .left)
 
 pub guard-bad-spec : {M : Type 1} → statement M
 guard-bad-spec =

@@ -10,6 +10,16 @@ use Rattle.reading.proofs.readings.read_vector.Tie as tie
 abbrev lent : tie.Start → Slices
 lent s = let a = s .args in slices (a .vectors .now) (a .targets .now) (a .edges .now) (a .versions .now) (a .marks .now) (a .pool .now)
 
+-- places before the needs below, each named by what was done last there
+abbrev start₁ : tie.After-result → tie.Start
+start₁ c = c .before .before .before .before .before .before .before .before .before
+
+abbrev start₂ : tie.After-struct-known → tie.Start
+start₂ c = c .before .before .before .before .before .before .before .before .before
+
+abbrev start₃ : tie.After-live-vector → tie.Start
+start₃ c = c .before .before .before .before .before .before .before .before .before .before
+
 index-refusal-requires : tie.Need-index-refusal-requires
 index-refusal-requires c κs = search needs
 
@@ -23,16 +33,16 @@ part-result-end : tie.Need-part-result-end
 part-result-end c = search needs
 
 returns : tie.Need-returns
-returns c = let s = c .before .before .before .before .before .before .before .before .before in vector-back (s .args .index) (lent s) (c .before .before .index-refusal .ensures) (c .before .if1 .taken) refl
+returns c = let s = start₁ c in vector-back (s .args .index) (lent s) (c .before .before .index-refusal .ensures) (c .before .if1 .taken) refl
 
 cast-dim : tie.Need-cast-dim
 cast-dim c = search needs
 
 live-vector-requires : tie.Need-live-vector-requires
-live-vector-requires c κs = let s = c .before .before .before .before .before .before .before .before .before in passed-bytes (passed (s .args .index) (lent s) tt (c .before .before .index-refusal .ensures) (c .before .if1 .left))
+live-vector-requires c κs = let s = start₂ c in passed-bytes (passed (s .args .index) (lent s) tt (c .before .before .index-refusal .ensures) (c .before .if1 .left))
 
 returns-2 : tie.Need-returns-2
-returns-2 c = let s = c .before .before .before .before .before .before .before .before .before .before in vector-on (s .args .index) (lent s) (c .before .before .before .index-refusal .ensures) (c .before .before .if1 .left) refl (c .live-vector .ensures)
+returns-2 c = let s = start₃ c in vector-on (s .args .index) (lent s) (c .before .before .before .index-refusal .ensures) (c .before .before .if1 .left) refl (c .live-vector .ensures)
 
 pub read-vector-spec : {M : Type 1} → statement M
 read-vector-spec =

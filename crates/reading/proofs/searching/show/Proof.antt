@@ -10,6 +10,13 @@ Inv-loop words n slots₀ dists₀ i₀ slots dists i = Showing words n slots₀
 abbrev μ-loop : tie.MeasureT-loop
 μ-loop words n slots₀ dists₀ i₀ slots dists i = n - i
 
+-- places before the needs below, each named by what was done last there
+abbrev start₁ : tie.After-id-at Inv-loop μ-loop → tie.Start Inv-loop μ-loop
+start₁ c = c .before .before .before .before .before .before .before
+
+abbrev start₂ : tie.After-new Inv-loop μ-loop → tie.Start Inv-loop μ-loop
+start₂ c = c .before .before .before .before .before .before .before .before
+
 loop-holds : tie.Need-loop-holds Inv-loop μ-loop
 loop-holds c = showing-none _ _ _ _
 
@@ -20,7 +27,7 @@ id-at-requires : tie.Need-id-at-requires Inv-loop μ-loop
 id-at-requires c κs = search needs
 
 new-requires : tie.Need-new-requires Inv-loop μ-loop
-new-requires c κs = rw (c .before .dist-at .ensures) (showing-small (c .before .before .before .loop .inv) (c .before .before .before .before .before .before .before .pre) (c .before .before .loop-test .taken))
+new-requires c κs = rw (c .before .dist-at .ensures) (showing-small (c .before .before .before .loop .inv) ((start₁ c) .pre) (c .before .before .loop-test .taken))
 
 mul-slots : tie.Need-mul-slots Inv-loop μ-loop
 mul-slots c = search needs
@@ -41,7 +48,7 @@ loop-less : tie.Need-loop-less Inv-loop μ-loop
 loop-less c = search needs
 
 loop-again : tie.Need-loop-again Inv-loop μ-loop
-loop-again c = showing-more (c .before .before .before .before .loop .inv) (c .before .before .before .before .before .before .before .before .pre) (c .before .before .before .loop-test .taken) (c .before .before .dist-at .ensures) (c .before .id-at .ensures) (c .new .ensures)
+loop-again c = showing-more (c .before .before .before .before .loop .inv) ((start₂ c) .pre) (c .before .before .before .loop-test .taken) (c .before .before .dist-at .ensures) (c .before .id-at .ensures) (c .new .ensures)
 
 same-length : tie.Need-same-length Inv-loop μ-loop
 same-length c = search needs

@@ -3,14 +3,24 @@ use borrow.Author.Needs.{needs}
 use Rattle.slots.proofs.making.write_new.Statement.{statement}
 use Rattle.slots.proofs.making.write_new.Tie as tie
 
+-- places before the needs below, each named by what was done last there
+abbrev start₁ : tie.After-lay-u8-arg → tie.Start
+start₁ c = c .before .before .before .before .before .before .before .before .before
+
+abbrev start₂ : tie.After-lay-u32-arg → tie.Start
+start₂ c = c .before .before .before .before .before .before .before .before .before .before .before .before .before
+
+abbrev mark-given₃ : tie.After-slice-known12 → tie.After-mark-given
+mark-given₃ c = c .before .before .before .before .before .before
+
 lay-u8-requires : tie.Need-lay-u8-requires
 lay-u8-requires c κs =
-    let st = c .before .before .before .before .before .before .before .before .before in
+    let st = start₁ c in
     fits-given (st .args .dim) (st .pre .room) (st .pre .bytes-long) (st .pre .vectors-long)
 
 lay-u32-requires : tie.Need-lay-u32-requires
 lay-u32-requires c κs =
-    let st = c .before .before .before .before .before .before .before .before .before .before .before .before .before in
+    let st = start₂ c in
     fits-given (st .args .degree) (st .pre .room) (st .pre .rows-long) (st .pre .targets-long)
 
 fill-u16-requires : tie.Need-fill-u16-requires
@@ -45,7 +55,7 @@ same-length-6 c = search needs
 
 returns : tie.Need-returns
 returns c =
-    let marked = c .before .before .before .before .before .before in
+    let marked = mark-given₃ c in
     let versioned = marked .before .before .before .before in
     let edged = versioned .before .before .before .before in
     let targeted = edged .before .before .before .before in

@@ -4,6 +4,10 @@ use borrow.Author.Needs.{needs}
 use Rattle.slots.proofs.ops.fill.Statement.{statement}
 use Rattle.slots.proofs.ops.fill.Tie as tie
 
+-- places before the needs below, each named by what was done last there
+abbrev write-vector₀ : tie.After-slice-known7 → tie.After-write-vector
+write-vector₀ c = c .before .before .before .before .before .before .before .before .before .before
+
 write-vector-requires : tie.Need-write-vector-requires
 write-vector-requires c κs = search needs
 
@@ -29,7 +33,7 @@ same-length-4 : tie.Need-same-length-4
 same-length-4 c = search needs
 
 returns : tie.Need-returns
-returns c = filled-by (c .before .before .before .before .before .before .before .before .before .before .write-vector .ensures) (c .before .before .before .before .write .ensures) refl
+returns c = filled-by ((write-vector₀ c) .write-vector .ensures) (c .before .before .before .before .write .ensures) refl
 
 pub fill-spec : {M : Type 1} → statement M
 fill-spec =

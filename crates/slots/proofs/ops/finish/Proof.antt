@@ -3,6 +3,10 @@ use borrow.Author.Needs.{needs}
 use Rattle.slots.proofs.ops.finish.Statement.{statement}
 use Rattle.slots.proofs.ops.finish.Tie as tie
 
+-- places before the needs below, each named by what was done last there
+abbrev next-version₀ : tie.After-slice-known6 → tie.After-next-version
+next-version₀ c = c .before .before .before .before .before .before .before .before .before .before .before
+
 next-version-requires : tie.Need-next-version-requires
 next-version-requires c κs = search needs
 
@@ -22,7 +26,7 @@ same-length-3 : tie.Need-same-length-3
 same-length-3 c = search needs
 
 returns : tie.Need-returns
-returns c = finished-by (c .before .before .before .before .before .before .before .before .before .before .before .next-version .ensures) (c .before .before .before .before .write .ensures)
+returns c = finished-by ((next-version₀ c) .next-version .ensures) (c .before .before .before .before .write .ensures)
 
 pub finish-spec : {M : Type 1} → statement M
 finish-spec =

@@ -12,6 +12,10 @@ Inv-loop degree targets₀ edges₀ versions s ids base place₀ targets edges p
 abbrev μ-loop : tie.MeasureT-loop
 μ-loop degree targets₀ edges₀ versions s ids base place₀ targets edges place = degree - place
 
+-- places before the needs below, each named by what was done last there
+abbrev start₀ : tie.After-edge-version Inv-loop μ-loop → tie.Start Inv-loop μ-loop
+start₀ c = c .before .before .before .before .before .before .before .before
+
 mul-base : tie.Need-mul-base Inv-loop μ-loop
 mul-base c = omega arith
 
@@ -47,7 +51,7 @@ loop-less c = omega arith
 
 loop-again : tie.Need-loop-again Inv-loop μ-loop
 loop-again c =
-    let st = c .before .before .before .before .before .before .before .before in
+    let st = start₀ c in
     writing-more (st .pre .0) (st .pre .1) (c .before .before .loop-test .taken) (c .before .id-at .ensures) (c .edge-version .ensures) (c .before .before .before .loop .inv)
 
 same-length : tie.Need-same-length Inv-loop μ-loop

@@ -3,6 +3,10 @@ use borrow.Author.Needs.{needs}
 use Rattle.slots.proofs.parts.write_vector.Statement.{statement}
 use Rattle.slots.proofs.parts.write_vector.Tie as tie
 
+-- places before the needs below, each named by what was done last there
+abbrev start₀ : tie.After-slice-known2 → tie.Start
+start₀ c = c .before .before .before .before .before .before
+
 mul-copy-u8 : tie.Need-mul-copy-u8
 mul-copy-u8 c = search needs
 
@@ -14,7 +18,7 @@ same-length c = search needs
 
 returns : tie.Need-returns
 returns c =
-    let st = c .before .before .before .before .before .before in
+    let st = start₀ c in
     copied-part (st .args .vectors .now) (st .args .s) (st .args .vector .now) (st .pre .0) (c .before .before .copy-u8 .ensures)
 
 pub write-vector-spec : {M : Type 1} → statement M

@@ -15,6 +15,25 @@ Inv-loop degree targets edges versions s id version base place₀ place = (place
 abbrev μ-loop : tie.MeasureT-loop
 μ-loop degree targets edges versions s id version base place₀ place = degree - place
 
+-- places before the needs below, each named by what was done last there
+abbrev start : tie.Else1 Inv-loop μ-loop → tie.Start Inv-loop μ-loop
+start c = c .before .before .before .before
+
+abbrev node-version₁ : tie.Then3 Inv-loop μ-loop → tie.After-node-version Inv-loop μ-loop
+node-version₁ c = c .before .before .before .before .before .before
+
+abbrev wide₁ : tie.Then3 Inv-loop μ-loop → tie.After-wide Inv-loop μ-loop
+wide₁ c = node-version₁ c .before
+
+abbrev else1₁ : tie.Then3 Inv-loop μ-loop → tie.Else1 Inv-loop μ-loop
+else1₁ c = wide₁ c .before
+
+abbrev start₁ : tie.Then3 Inv-loop μ-loop → tie.Start Inv-loop μ-loop
+start₁ c = start (else1₁ c)
+
+abbrev start₂ : tie.Joined2 Inv-loop μ-loop → tie.Start Inv-loop μ-loop
+start₂ c = start (c .before .before .before .before .before .before)
+
 returns : tie.Need-returns Inv-loop μ-loop
 returns c = looking-blank (c .if1 .taken) _ _ _ _ _
 
@@ -47,10 +66,10 @@ shared-slice-read-if3 c = omega arith
 
 returns-2 : tie.Need-returns-2 Inv-loop μ-loop
 returns-2 c =
-    let st = c .before .before .before .before .before .before .before .before .before .before .before .before in
+    let st = start₁ c in
     looking-found (st .pre .0) (st .pre .1) (c .before .before .before .before .loop-test .taken)
-    (c .before .before .before .before .before .before .node-version .ensures ∙ ap (λ k. getD (st .args .versions .now) k 0) (c .before .before .before .before .before .before .before .wide .ensures))
-    (c .before .before .before .before .before .loop .inv .1) (c .before .before .before .before .before .before .before .before .if1 .left) (c .before .before .if2 .taken) (c .if3 .taken)
+    ((node-version₁ c) .node-version .ensures ∙ ap (λ k. getD (st .args .versions .now) k 0) ((wide₁ c) .wide .ensures))
+    (c .before .before .before .before .before .loop .inv .1) ((else1₁ c) .if1 .left) (c .before .before .if2 .taken) (c .if3 .taken)
 
 add-place : tie.Need-add-place Inv-loop μ-loop
 add-place c = omega arith
@@ -60,7 +79,7 @@ loop-less c = omega arith
 
 loop-again : tie.Need-loop-again Inv-loop μ-loop
 loop-again c =
-    let st = c .before .before .before .before .before .before .before .before .before .before in
+    let st = start₂ c in
     let h = c .before .before .loop-test .taken in
     let e = c .before .before .before .before .node-version .ensures ∙ ap (λ k. getD (st .args .versions .now) k 0) (c .before .before .before .before .before .wide .ensures) in
     let l = c .before .before .before .loop .inv .1 in

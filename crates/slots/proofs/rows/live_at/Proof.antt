@@ -15,6 +15,25 @@ fit c = omega (arith, shape-fits (c .pre .0) (c .args .s) (c .pre .1 .0) .0, c .
 fit-edges : (c : tie.Start) → c .args .s * c .args .degree + c .args .place < length (c .args .edges .now)
 fit-edges c = omega (arith, shape-fits (c .pre .0) (c .args .s) (c .pre .1 .0) .1, c .pre .1 .1)
 
+-- places before the needs below, each named by what was done last there
+abbrev start : tie.After-wide → tie.Start
+start c = c .before .before .before .before .before .before
+
+abbrev start₁ : tie.After-shared-slice-known6 → tie.Start
+start₁ c = start (c .before .before)
+
+abbrev start₂ : tie.After-shared-slice-known7 → tie.Start
+start₂ c = start (c .before .before .before)
+
+abbrev start₃ : tie.After-shared-slice-known8 → tie.Start
+start₃ c = start (c .before .before .before .before)
+
+abbrev wide₄ : tie.Then3 → tie.After-wide
+wide₄ c = c .before .before .before .before .before .before
+
+abbrev wide₅ : tie.Else3 → tie.After-wide
+wide₅ c = c .before .before .before .before .before .before
+
 mul-at : tie.Need-mul-at
 mul-at c = omega (arith, fit (c .before .before .before .before))
 
@@ -34,24 +53,24 @@ shared-slice-read-mark : tie.Need-shared-slice-read-mark
 shared-slice-read-mark c = omega arith
 
 mul-version : tie.Need-mul-version
-mul-version c = omega (arith, c .before .before .before .before .before .before .before .before)
+mul-version c = omega (arith, (start₁ c))
 
 shared-slice-read-version : tie.Need-shared-slice-read-version
-shared-slice-read-version c = omega (arith, c .before .before .before .before .before .before .before .before .before)
+shared-slice-read-version c = omega (arith, (start₂ c))
 
 mul-edge : tie.Need-mul-edge
-mul-edge c = omega (arith, fit-edges (c .before .before .before .before .before .before .before .before .before), c .before .before .before .before .before .before .before .before .before)
+mul-edge c = omega (arith, fit-edges ((start₂ c)), (start₂ c))
 
 shared-slice-read-edge : tie.Need-shared-slice-read-edge
-shared-slice-read-edge c = omega (arith, fit-edges (c .before .before .before .before .before .before .before .before .before .before))
+shared-slice-read-edge c = omega (arith, fit-edges ((start₃ c)))
 
 returns : tie.Need-returns
 returns c =
-    let e = c .before .before .before .before .before .before .wide .ensures in
+    let e = (wide₄ c) .wide .ensures in
     λ dim vectors. ap At (sym e) ∙ ref-live _ _ _ e (c .before .if2 .taken) (c .if3 .taken)
 
 returns-2 : tie.Need-returns-2
-returns-2 c = λ dim vectors. ref-stale _ _ _ (c .before .before .before .before .before .before .wide .ensures) (c .if3 .left)
+returns-2 c = λ dim vectors. ref-stale _ _ _ ((wide₅ c) .wide .ensures) (c .if3 .left)
 
 returns-3 : tie.Need-returns-3
 returns-3 c = λ dim vectors. ref-unmarked _ _ _ (c .before .before .before .before .before .wide .ensures) (c .if2 .left)

@@ -4,6 +4,22 @@ use borrow.Author.Needs.{needs}
 use Rattle.walk.proofs.words.enter.Statement.{statement}
 use Rattle.walk.proofs.words.enter.Tie as tie
 
+-- places before the needs below, each named by what was done last there
+abbrev start₁ : tie.After-least → tie.Start
+start₁ c = c .before .before .before .before .before .before .before
+
+abbrev start₂ : tie.After-insert-ordered-arg2 → tie.Start
+start₂ c = c .before .before .before .before .before .before
+
+abbrev dist-at₃ : tie.After-least2 → tie.After-dist-at
+dist-at₃ c = c .before .before .before .before .before .before
+
+abbrev else1₃ : tie.After-least2 → tie.Else1
+else1₃ c = dist-at₃ c .before .before
+
+abbrev start₃ : tie.After-least2 → tie.Start
+start₃ c = else1₃ c .before .before
+
 insert-ordered-requires : tie.Need-insert-ordered-requires
 insert-ordered-requires c κs = search needs
 
@@ -17,7 +33,7 @@ same-length : tie.Need-same-length
 same-length c = search needs
 
 returns : tie.Need-returns
-returns c = entered-room (c .before .before .before .before .before .if1 .taken) (omega (arith, c .before .before .before .before .before .if1 .taken, c .before .before .before .before .before .before .before .pre .0 .most)) (c .before .before .before .before .before .before .before .pre .1) (c .before .before .before .insert-ordered .ensures) (c .least .ensures)
+returns c = entered-room (c .before .before .before .before .before .if1 .taken) (omega (arith, c .before .before .before .before .before .if1 .taken, (start₁ c) .pre .0 .most)) ((start₁ c) .pre .1) (c .before .before .before .insert-ordered .ensures) (c .least .ensures)
 
 sub-last : tie.Need-sub-last
 sub-last c = search needs
@@ -33,7 +49,7 @@ returns-2 c = entered-not (c .before .before .before .if1 .left) (omega (arith, 
 
 insert-ordered-requires-2 : tie.Need-insert-ordered-requires-2
 insert-ordered-requires-2 c κs =
-    let p = c .before .before .before .before .before .before .pre in
+    let p = (start₂ c) .pre in
     (omega (arith, p .0), p .2, less-small (omega (arith, p .0, c .before .before .before .before .if1 .left)) (p .0), less-order (omega (arith, p .0, c .before .before .before .before .if1 .left)) (p .0))
 
 least-requires-2 : tie.Need-least-requires-2
@@ -44,9 +60,9 @@ same-length-3 c = search needs
 
 returns-3 : tie.Need-returns-3
 returns-3 c =
-    let p = c .before .before .before .before .before .before .before .before .before .before .pre in
-    let h = c .before .before .before .before .before .before .before .before .if1 .left in
-    entered-full h (omega (arith, p .0)) (c .before .before .before .before .before .before .dist-at .ensures) (omega (arith, p .0)) (p .1) (c .before .before .before .before .before .if2 .left) (c .before .before .before .insert-ordered2 .ensures) (c .least2 .ensures)
+    let p = (start₃ c) .pre in
+    let h = (else1₃ c) .if1 .left in
+    entered-full h (omega (arith, p .0)) ((dist-at₃ c) .dist-at .ensures) (omega (arith, p .0)) (p .1) (c .before .before .before .before .before .if2 .left) (c .before .before .before .insert-ordered2 .ensures) (c .least2 .ensures)
 
 pub enter-spec : {M : Type 1} → statement M
 enter-spec =

@@ -14,6 +14,13 @@ Inv-loop scratch₀ capacity ids i₀ scratch i = (i ≤ length ids) × Leaving 
 abbrev μ-loop : tie.MeasureT-loop
 μ-loop scratch₀ capacity ids i₀ scratch i = length ids - i
 
+-- places before the needs below, each named by what was done last there
+abbrev start₁ : tie.Then1 Inv-loop μ-loop → tie.Start Inv-loop μ-loop
+start₁ c = c .before .before .before .before .before .before .before
+
+abbrev start₂ : tie.Joined1 Inv-loop μ-loop → tie.Start Inv-loop μ-loop
+start₂ c = c .before .before .before .before .before .before .before
+
 loop-holds : tie.Need-loop-holds Inv-loop μ-loop
 loop-holds c = (omega arith, leaving-none _ _ _)
 
@@ -30,7 +37,7 @@ add-scratch : tie.Need-add-scratch Inv-loop μ-loop
 add-scratch c = omega arith
 
 mul-scratch : tie.Need-mul-scratch Inv-loop μ-loop
-mul-scratch c = omega (arith, c .before .before .before .before .before .before .before .good)
+mul-scratch c = omega (arith, (start₁ c) .good)
 
 slice-write-scratch : tie.Need-slice-write-scratch Inv-loop μ-loop
 slice-write-scratch c = omega (arith, c .before .before .before .before .loop .inv .1 .size)
@@ -47,7 +54,7 @@ loop-again c =
     let h = c .before .before .before .loop-test .taken in
     ⊎-elim
     (λ w. (omega arith, rw (w .1) (leaving-slot l h (c .before .wide .ensures) (w .0 .taken))))
-    (λ w. (omega arith, rw (w .1) (leaving-other l h (c .before .wide .ensures) (c .before .before .before .before .before .before .before .pre) (w .0 .left))))
+    (λ w. (omega arith, rw (w .1) (leaving-other l h (c .before .wide .ensures) ((start₂ c) .pre) (w .0 .left))))
     (c .if1 .came)
 
 same-length : tie.Need-same-length Inv-loop μ-loop

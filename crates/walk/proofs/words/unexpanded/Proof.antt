@@ -18,6 +18,10 @@ Inv-loop scratch n from i₀ i = (i ≤ n) × All (λ c. mark scratch (c .id) �
 abbrev μ-loop : tie.MeasureT-loop
 μ-loop scratch n from i₀ i = n - i
 
+-- places before the needs below, each named by what was done last there
+abbrev start₀ : tie.After-shared-slice-known2 Inv-loop μ-loop → tie.Start Inv-loop μ-loop
+start₀ c = c .before .before .before .before .before .before
+
 loop-holds : tie.Need-loop-holds Inv-loop μ-loop
 loop-holds c = (c .before .pre .passed, c .before .pre .done)
 
@@ -34,7 +38,7 @@ mul-if1 : tie.Need-mul-if1 Inv-loop μ-loop
 mul-if1 c = omega (arith, c .before .id-at .ensures, cands-each (λ x. 2048 + x .id < length (c .before .before .before .before .before .args .scratch .now)) _ _ _ (c .before .before .before .before .before .pre .inside) (c .before .before .before .loop .i) (c .before .before .loop-test .taken), c .before .before .before .before .before .good)
 
 shared-slice-read-if1 : tie.Need-shared-slice-read-if1 Inv-loop μ-loop
-shared-slice-read-if1 c = omega (arith, c .before .before .id-at .ensures, cands-each (λ x. 2048 + x .id < length (c .before .before .before .before .before .before .args .scratch .now)) _ _ _ (c .before .before .before .before .before .before .pre .inside) (c .before .before .before .before .loop .i) (c .before .before .before .loop-test .taken))
+shared-slice-read-if1 c = omega (arith, c .before .before .id-at .ensures, cands-each (λ x. 2048 + x .id < length ((start₀ c) .args .scratch .now)) _ _ _ ((start₀ c) .pre .inside) (c .before .before .before .before .loop .i) (c .before .before .before .loop-test .taken))
 
 returns : tie.Need-returns Inv-loop μ-loop
 returns c = scan-found _ _ (c .before .before .before .before .loop-test .taken) (c .before .before .before .id-at .ensures) (c .before .before .wide .ensures) (c .if1 .taken) (c .before .before .before .before .before .loop .inv .1)
