@@ -154,6 +154,7 @@ fn index_bad(index: Index, marks: &[u8]) -> bool
 
 // The first of rows 1, 2, 3 and 6 that turns a call back, else 0; `wrong` is the call's own part of row 3.
 pub fn index_refusal(index: Index, lent: Lengths, marks: &[u8], wrong: bool) -> u32
+    requires { ⌜ lent .marks ≡ length (now marks) ⌝ }
     ensures { λ r. ⌜ Decided index (lengths-in lent) (now (marks .entry)) wrong [] r ⌝ }
 {
     if sizes_bad(index.dim, index.capacity, index.degree) {

@@ -14,7 +14,7 @@ use Rattle.lists.specs.Lists.{All, put-front}
 use Rattle.lists.proofs.All.{all-take}
 use Rattle.lists.proofs.Front.{front-map}
 use Rattle.slots.specs.Sizes.{Slices, Lengths, lengths-of, limits}
-use Rattle.slots.specs.Scratch.{size-answer}
+use Rattle.slots.specs.Scratch.{size-answer, marks-at}
 use Rattle.candidates.specs.Candidates.{Candidate, ids}
 use Rattle.vectors.specs.Distance.{f32}
 use Rattle.candidates.specs.contracts.Words.{cand, cands, Small}
@@ -156,7 +156,7 @@ module _ (index : Index) (s : Slices) (a : Search) (slots : List ℕ) (dists : L
     pub room : a .k ≤ min (length slots) (length dists)
     room = ltb-false (min (length slots) (length dists)) (a .k) (or-neither (ltb (limits .beam) (a .beam)) _ (own .0) .1)
 
-    words : 2048 + length (s .marks) ≤ length scratch
+    words : marks-at + length (s .marks) ≤ length scratch
     unfolding size-answer
     words = let h = ltb-false (length scratch) (size-answer (index .capacity)) (own .1) in omega (arith, h, passed-marks able)
 

@@ -13,6 +13,7 @@ ghost use mathlib.Core.Bool.{not, _||_};
 ghost use mathlib.Core.Path.{_≡_};
 ghost use Prim.Native.Nat.{min};
 ghost use lib.Dec.{eqb, ltb};
+ghost use lib.ListN.{length};
 ghost use Rattle.slots.specs.Sizes.{limits, slices};
 ghost use Rattle.slots.specs.Store.{arrays};
 ghost use Rattle.walk.specs.contracts.Scratch.{Ready, Pool};
@@ -46,6 +47,7 @@ fn search_refusal(
     dists: usize,
     scratch: usize,
 ) -> u32
+    requires { ⌜ lent .marks ≡ length (now marks) ⌝ }
     ensures { λ r. ⌜ Decided index (lengths-in lent) (now (marks .entry)) (not (eqb query (index .dim))) (search-tests (index .capacity) k beam slots dists scratch) r ⌝ }
 {
     let wrong = query != wide(index.dim);

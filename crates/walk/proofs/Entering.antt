@@ -14,6 +14,7 @@ use Rattle.candidates.specs.Candidates.{Candidate, before}
 use Rattle.candidates.specs.contracts.Words.{pair, cand, cands, Small, Inserted}
 use Rattle.candidates.proofs.Words.{cands-length, cands-take, cands-snoc, cands-init, cands-last, outside-none, outside-wide}
 use Rattle.walk.specs.Walk.{worst, enter, ends}
+use Rattle.slots.specs.Scratch.{marks-at}
 use Rattle.walk.specs.contracts.Scratch.{mark, Listed, Entered, Unexpanded, Next}
 
 pub worst-at : (w : List ℕ) (n : ℕ) → 0 < n → worst (cands w 0 n) ≡ cand w (0 + 2 * (n - 1)) .dist
@@ -34,7 +35,7 @@ module _ {beam : ℕ} {w : List ℕ} {n next d t : ℕ} where
         within = omega arith;
         front = front-part w w′ r next′ (omega arith) (f .front);
         size = f .holds .size;
-        same = outside-wide 0 (2 * (n + 1)) 0 2048 w w′ (f .holds .same) (omega arith) (omega arith);
+        same = outside-wide 0 (2 * (n + 1)) 0 marks-at w w′ (f .holds .same) (omega arith) (omega arith);
       }
 
   module _ (full : beam ≤ n) (some : 0 < n) {e : ℕ} (q : e ≡ cand w (0 + 2 * (n - 1)) .dist) where
@@ -51,7 +52,7 @@ module _ {beam : ℕ} {w : List ℕ} {n next d t : ℕ} where
           within = omega arith;
           front = front-part w w′ r next′ (omega arith) (f .front);
           size = f .holds .size;
-          same = outside-wide 0 (2 * n) 0 2048 w w′ same (omega arith) (omega arith);
+          same = outside-wide 0 (2 * n) 0 marks-at w w′ same (omega arith) (omega arith);
         }
 
     pub entered-not : next ≤ n → e ≤ d → Entered beam w n next (pair d t) w n next
@@ -63,7 +64,7 @@ module _ {beam : ℕ} {w : List ℕ} {n next d t : ℕ} where
           within = omega arith;
           front = refl;
           size = refl;
-          same = outside-none 0 2048 w;
+          same = outside-none 0 marks-at w;
         }
 
 -- the list without its last

@@ -17,6 +17,7 @@ use Rattle.walk.proofs.Ordered as Ordered
 use Rattle.walk.proofs.Ordered.{graph-search-inside, graph-search-found}
 use Rattle.walk.proofs.Seen.{near-inside, near-all, walk-view}
 use Rattle.walk.proofs.Same.{graph-search-same}
+use Rattle.slots.specs.Scratch.{work-at}
 use Rattle.walk.proofs.Without.{graph-search-without}
 
 pub begun-goes : {a : Arrays} {query : List ℕ} {start beam width d : ℕ} {ids w v : List ℕ} → Ready a query start beam w → width ≡ max 1 beam
@@ -41,7 +42,7 @@ found-by a {query} {start} {beam} {width} {d} {s} {ids} {w} {v} {w′} {r} f m e
       few = omega (arith, g .goes .listed .few);
       small = g .goes .listed .small;
       size = g .size ∙ b .size;
-      same = outside-then 0 (2048 + capacity) w v w′ (b .same) (g .same);
+      same = outside-then 0 (work-at capacity) w v w′ (b .same) (g .same);
     }
 
 -- leaving out none
@@ -94,5 +95,5 @@ module _ {a : Arrays} {query : List ℕ} {entry beam s : ℕ} {t : Bool} (q : s 
         few = omega arith;
         small = rw (cands-none w 0 0 refl) tt;
         size = refl;
-        same = outside-none 0 (2048 + length (a .marks)) w;
+        same = outside-none 0 (work-at (length (a .marks))) w;
       }

@@ -10,52 +10,53 @@ use lib.Seq.{getD-set-same, getD-set-other, getD-take, getD-drop, set-out, take-
 use Rattle.candidates.specs.Candidates.{Candidate}
 use Rattle.candidates.specs.contracts.Words.{pair, cands, put, Outside}
 use Rattle.candidates.proofs.Words.{cands-none, cands-kept, put-cand, put-length, put-outside, outside-none, outside-wide, outside-then, outside-set}
+use Rattle.slots.specs.Scratch.{list-words, marks-at, work-at}
 use Rattle.walk.specs.contracts.Scratch.{mark, marks-of, mark-all, Cleared, LeftOut, Begun}
 
-module _ (capacity : ℕ) (w : List ℕ) (h : 2048 + capacity ≤ length w) where
+module _ (capacity : ℕ) (w : List ℕ) (h : work-at capacity ≤ length w) where
   pub marks-length : length (marks-of capacity w) ≡ capacity
   marks-length = simp (length-take, length-drop) (omega arith)
 
-  pub marks-at : (s : ℕ) → s < capacity → getD (marks-of capacity w) s 0 ≡ mark w s
-  marks-at s k = rw (getD-take, getD-drop)
+  pub mark-at : (s : ℕ) → s < capacity → getD (marks-of capacity w) s 0 ≡ mark w s
+  mark-at s k = rw (getD-take, getD-drop)
 
   -- equal marks, one by one
   marks-by : (ms : List ℕ) → length ms ≡ capacity → ((s : ℕ) → s < capacity → mark w s ≡ getD ms s 0) → marks-of capacity w ≡ ms
   marks-by ms e f =
-      ext-getD 0 _ _ (marks-length ∙ sym e) (λ i k. let j : i < capacity = omega (arith, marks-length) in marks-at i j ∙ f i j)
+      ext-getD 0 _ _ (marks-length ∙ sym e) (λ i k. let j : i < capacity = omega (arith, marks-length) in mark-at i j ∙ f i j)
 
-pub marks-set : (capacity : ℕ) (w : List ℕ) (s v : ℕ) → s < capacity → marks-of capacity (set w (2048 + s) v) ≡ set (marks-of capacity w) s v
-marks-set capacity w s v k = rw (drop-set-add 2048 w s v, take-set-lt capacity (drop 2048 w) s v k)
+pub marks-set : (capacity : ℕ) (w : List ℕ) (s v : ℕ) → s < capacity → marks-of capacity (set w (marks-at + s) v) ≡ set (marks-of capacity w) s v
+marks-set capacity w s v k = rw (drop-set-add marks-at w s v, take-set-lt capacity (drop marks-at w) s v k)
 
 -- where only the list changed, and where only marks did
-pub marks-kept : (capacity : ℕ) (w w′ : List ℕ) → 2048 + capacity ≤ length w → length w′ ≡ length w → Outside 0 2048 w w′ → marks-of capacity w′ ≡ marks-of capacity w
+pub marks-kept : (capacity : ℕ) (w w′ : List ℕ) → work-at capacity ≤ length w → length w′ ≡ length w → Outside 0 list-words w w′ → marks-of capacity w′ ≡ marks-of capacity w
 marks-kept capacity w w′ h e f =
     marks-by capacity w′ (omega arith) (marks-of capacity w) (marks-length capacity w h)
-    (λ s k. f (2048 + s) (λ q. omega arith) ∙ sym (marks-at capacity w h s k))
+    (λ s k. f (marks-at + s) (λ q. omega arith) ∙ sym (mark-at capacity w h s k))
 
-pub list-kept : (capacity n : ℕ) (w w′ : List ℕ) → n ≤ 1024 → Outside 2048 capacity w w′ → cands w′ 0 n ≡ cands w 0 n
-list-kept capacity n w w′ h f = cands-kept 2048 capacity w w′ f 0 n (λ q. absurd (omega arith))
+pub list-kept : (capacity n : ℕ) (w w′ : List ℕ) → n ≤ 1024 → Outside marks-at capacity w w′ → cands w′ 0 n ≡ cands w 0 n
+list-kept capacity n w w′ h f = cands-kept marks-at capacity w w′ f 0 n (λ q. absurd (omega arith))
 
-pub outside-mark : (capacity : ℕ) (w w′ : List ℕ) (s v : ℕ) → s < capacity → Outside 2048 capacity w w′ → Outside 2048 capacity w (set w′ (2048 + s) v)
-outside-mark capacity w w′ s v h f = outside-set 2048 capacity w w′ (2048 + s) v f (omega arith) (omega arith)
+pub outside-mark : (capacity : ℕ) (w w′ : List ℕ) (s v : ℕ) → s < capacity → Outside marks-at capacity w w′ → Outside marks-at capacity w (set w′ (marks-at + s) v)
+outside-mark capacity w w′ s v h f = outside-set marks-at capacity w w′ (marks-at + s) v f (omega arith) (omega arith)
 
 -- ---- clearing: the marks below s are 0
 pub record Clearing (capacity : ℕ) (w₀ w : List ℕ) (s : ℕ) : Type 0 where
   pub zero : (t : ℕ) → t < s → mark w t ≡ 0
   pub size : length w ≡ length w₀
-  pub same : Outside 2048 capacity w₀ w
+  pub same : Outside marks-at capacity w₀ w
 
 pub clearing-none : (capacity : ℕ) (w : List ℕ) → Clearing capacity w w 0
-clearing-none capacity w = record { zero = λ t h. absurd (omega arith); size = refl; same = outside-none 2048 capacity w }
+clearing-none capacity w = record { zero = λ t h. absurd (omega arith); size = refl; same = outside-none marks-at capacity w }
 
-module _ {capacity : ℕ} {w₀ w : List ℕ} {s : ℕ} (room : 2048 + capacity ≤ length w₀) (f : Clearing capacity w₀ w s) where
-  pub clearing-more : s < capacity → Clearing capacity w₀ (set w (2048 + s) 0) (s + 1)
+module _ {capacity : ℕ} {w₀ w : List ℕ} {s : ℕ} (room : work-at capacity ≤ length w₀) (f : Clearing capacity w₀ w s) where
+  pub clearing-more : s < capacity → Clearing capacity w₀ (set w (marks-at + s) 0) (s + 1)
   clearing-more h =
-      record { zero = λ t k. go t k (decLt t s); size = length-set w (2048 + s) 0 ∙ f .size; same = outside-mark capacity w₀ w s 0 h (f .same) }
+      record { zero = λ t k. go t k (decLt t s); size = length-set w (marks-at + s) 0 ∙ f .size; same = outside-mark capacity w₀ w s 0 h (f .same) }
     where
-      go : (t : ℕ) → t < s + 1 → Dec (t < s) → mark (set w (2048 + s) 0) t ≡ 0
-      go t k (yes l) = getD-set-other w (2048 + s) (2048 + t) 0 0 (λ e. absurd (omega arith)) ∙ f .zero t l
-      go t k (no l) = let e : t ≡ s = omega arith in rw e (getD-set-same w (2048 + s) 0 0 (omega (arith, f .size)))
+      go : (t : ℕ) → t < s + 1 → Dec (t < s) → mark (set w (marks-at + s) 0) t ≡ 0
+      go t k (yes l) = getD-set-other w (marks-at + s) (marks-at + t) 0 0 (λ e. absurd (omega arith)) ∙ f .zero t l
+      go t k (no l) = let e : t ≡ s = omega arith in rw e (getD-set-same w (marks-at + s) 0 0 (omega (arith, f .size)))
 
   pub clearing-done : capacity ≤ s → Cleared capacity w₀ w
   clearing-done h =
@@ -70,27 +71,27 @@ module _ {capacity : ℕ} {w₀ w : List ℕ} {s : ℕ} (room : 2048 + capacity 
 pub record Leaving (capacity : ℕ) (ids w₀ w : List ℕ) (i : ℕ) : Type 0 where
   pub goes : mark-all (marks-of capacity w) (drop i ids) ≡ mark-all (marks-of capacity w₀) ids
   pub size : length w ≡ length w₀
-  pub same : Outside 2048 capacity w₀ w
+  pub same : Outside marks-at capacity w₀ w
 
 pub leaving-none : (capacity : ℕ) (ids w : List ℕ) → Leaving capacity ids w w 0
-leaving-none capacity ids w = record { goes = refl; size = refl; same = outside-none 2048 capacity w }
+leaving-none capacity ids w = record { goes = refl; size = refl; same = outside-none marks-at capacity w }
 
 module _ {capacity : ℕ} {ids w₀ w : List ℕ} {i : ℕ} (f : Leaving capacity ids w₀ w i) where
   module _ (h : i < length ids) {s : ℕ} (e : s ≡ getD ids i 0) where
     rest : mark-all (set (marks-of capacity w) s 1) (drop (i + 1) ids) ≡ mark-all (marks-of capacity w₀) ids
     rest = rw (e, add-one i) (rw (drop-cons ids i 0 h) at (f .goes))
 
-    pub leaving-slot : s < capacity → Leaving capacity ids w₀ (set w (2048 + s) 1) (i + 1)
+    pub leaving-slot : s < capacity → Leaving capacity ids w₀ (set w (marks-at + s) 1) (i + 1)
     leaving-slot k =
         record {
           goes = rw (marks-set capacity w s 1 k) rest;
-          size = length-set w (2048 + s) 1 ∙ f .size;
+          size = length-set w (marks-at + s) 1 ∙ f .size;
           same = outside-mark capacity w₀ w s 1 k (f .same);
         }
 
-    pub leaving-other : 2048 + capacity ≤ length w₀ → capacity ≤ s → Leaving capacity ids w₀ w (i + 1)
+    pub leaving-other : work-at capacity ≤ length w₀ → capacity ≤ s → Leaving capacity ids w₀ w (i + 1)
     leaving-other room k =
-        let l : 2048 + capacity ≤ length w = omega (arith, f .size) in
+        let l : work-at capacity ≤ length w = omega (arith, f .size) in
         let o : set (marks-of capacity w) s 1 ≡ marks-of capacity w = set-out (marks-of capacity w) s 1 (rw (marks-length capacity w l) k) in
         record { goes = rw o at rest; size = f .size; same = f .same }
 
@@ -98,26 +99,26 @@ module _ {capacity : ℕ} {ids w₀ w : List ℕ} {i : ℕ} (f : Leaving capacit
   leaving-done h = record { marks = rw (drop-of-length-le ids) at (f .goes); size = f .size; same = f .same }
 
 -- ---- the walk begins
-module _ {capacity : ℕ} (d start : ℕ) {ids w v u : List ℕ} (room : 2048 + capacity ≤ length w) (h : start < capacity) (f : Cleared capacity w v) (g : LeftOut capacity ids v u) where
-  long : length (set u (2048 + start) 1) ≡ length w
-  long = length-set u (2048 + start) 1 ∙ g .size ∙ f .size
+module _ {capacity : ℕ} (d start : ℕ) {ids w v u : List ℕ} (room : work-at capacity ≤ length w) (h : start < capacity) (f : Cleared capacity w v) (g : LeftOut capacity ids v u) where
+  long : length (set u (marks-at + start) 1) ≡ length w
+  long = length-set u (marks-at + start) 1 ∙ g .size ∙ f .size
 
-  first : cands (put (set u (2048 + start) 1) 0 d start) 0 1 ≡ pair d start ∷ []
+  first : cands (put (set u (marks-at + start) 1) 0 d start) 0 1 ≡ pair d start ∷ []
   unfolding cands
-  first = ap (λ (c : Candidate). c ∷ []) (put-cand (set u (2048 + start) 1) 0 d start (omega (arith, long)))
+  first = ap (λ (c : Candidate). c ∷ []) (put-cand (set u (marks-at + start) 1) 0 d start (omega (arith, long)))
 
-  all-marks : marks-of capacity (put (set u (2048 + start) 1) 0 d start) ≡ set (mark-all (replicate capacity 0) ids) start 1
+  all-marks : marks-of capacity (put (set u (marks-at + start) 1) 0 d start) ≡ set (mark-all (replicate capacity 0) ids) start 1
   all-marks =
-      marks-kept capacity (set u (2048 + start) 1) (put (set u (2048 + start) 1) 0 d start) (omega (arith, long)) (put-length (set u (2048 + start) 1) 0 d start)
-      (outside-wide 0 2 0 2048 (set u (2048 + start) 1) (put (set u (2048 + start) 1) 0 d start) (put-outside (set u (2048 + start) 1) 0 d start) (omega arith) (omega arith))
+      marks-kept capacity (set u (marks-at + start) 1) (put (set u (marks-at + start) 1) 0 d start) (omega (arith, long)) (put-length (set u (marks-at + start) 1) 0 d start)
+      (outside-wide 0 2 0 marks-at (set u (marks-at + start) 1) (put (set u (marks-at + start) 1) 0 d start) (put-outside (set u (marks-at + start) 1) 0 d start) (omega arith) (omega arith))
       ∙ marks-set capacity u start 1 h ∙ rw (g .marks, f .marks)
 
-  is-met : mark (put (set u (2048 + start) 1) 0 d start) start ≡ 1
-  is-met = put-outside (set u (2048 + start) 1) 0 d start (2048 + start) (λ z. omega arith) ∙ getD-set-same u (2048 + start) 1 0 (omega (arith, g .size, f .size))
+  is-met : mark (put (set u (marks-at + start) 1) 0 d start) start ≡ 1
+  is-met = put-outside (set u (marks-at + start) 1) 0 d start (marks-at + start) (λ z. omega arith) ∙ getD-set-same u (marks-at + start) 1 0 (omega (arith, g .size, f .size))
 
-  pub begun-first : d ≤ 16777216 → Begun capacity ids d start w (put (set u (2048 + start) 1) 0 d start)
+  pub begun-first : d ≤ 16777216 → Begun capacity ids d start w (put (set u (marks-at + start) 1) 0 d start)
   begun-first small =
-      let size : length (put (set u (2048 + start) 1) 0 d start) ≡ length w = put-length (set u (2048 + start) 1) 0 d start ∙ long in
+      let size : length (put (set u (marks-at + start) 1) 0 d start) ≡ length w = put-length (set u (marks-at + start) 1) 0 d start ∙ long in
       record {
         holds = rw (first, all-marks);
         goes = λ beam some most. record {
@@ -126,14 +127,14 @@ module _ {capacity : ℕ} (d start : ℕ) {ids w v u : List ℕ} (room : 2048 + 
           inside = rw first (h, tt);
           met = rw first ((λ z. omega (arith, is-met)), tt);
           passed = omega arith;
-          done = rw (cands-none (put (set u (2048 + start) 1) 0 d start) 0 0 refl) tt;
+          done = rw (cands-none (put (set u (marks-at + start) 1) 0 d start) 0 0 refl) tt;
         };
         size = size;
-        same = outside-then 0 (2048 + capacity) w (set u (2048 + start) 1) (put (set u (2048 + start) 1) 0 d start)
-            (outside-wide 2048 capacity 0 (2048 + capacity) w (set u (2048 + start) 1) (outside-mark capacity w u start 1 h (outside-then 2048 capacity w v u (f .same) (g .same))) (omega arith) (omega arith))
-            (outside-wide 0 2 0 (2048 + capacity) (set u (2048 + start) 1) (put (set u (2048 + start) 1) 0 d start) (put-outside (set u (2048 + start) 1) 0 d start) (omega arith) (omega arith));
+        same = outside-then 0 (work-at capacity) w (set u (marks-at + start) 1) (put (set u (marks-at + start) 1) 0 d start)
+            (outside-wide marks-at capacity 0 (work-at capacity) w (set u (marks-at + start) 1) (outside-mark capacity w u start 1 h (outside-then marks-at capacity w v u (f .same) (g .same))) (omega arith) (omega arith))
+            (outside-wide 0 2 0 (work-at capacity) (set u (marks-at + start) 1) (put (set u (marks-at + start) 1) 0 d start) (put-outside (set u (marks-at + start) 1) 0 d start) (omega arith) (omega arith));
       }
 
-pub begun : {capacity d start s : ℕ} {ids w v u w′ : List ℕ} → 2048 + capacity ≤ length w → start < capacity → d ≤ 16777216
-    → Cleared capacity w v → LeftOut capacity ids v u → s ≡ start → w′ ≡ put (set u (2048 + s) 1) 0 d start → Begun capacity ids d start w w′
+pub begun : {capacity d start s : ℕ} {ids w v u w′ : List ℕ} → work-at capacity ≤ length w → start < capacity → d ≤ 16777216
+    → Cleared capacity w v → LeftOut capacity ids v u → s ≡ start → w′ ≡ put (set u (marks-at + s) 1) 0 d start → Begun capacity ids d start w w′
 begun room h small f g q e = rw (e, q) (begun-first _ _ room h f g small)

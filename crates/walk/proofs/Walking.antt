@@ -17,39 +17,40 @@ use Rattle.candidates.proofs.Words.{cands-none, cands-length, cands-take, cands
 use Rattle.walk.specs.Walk.{State, unexpanded, enter, ends, meet, expand, turn, turns}
 use Rattle.walk.specs.contracts.Scratch.{mark, marks-of, state-of, Walkable, Scannable, Entered, Unexpanded, Next, Stepped}
 use Rattle.walk.proofs.Ordered.{all-enter, enter-ordered, enter-short, expanded}
-use Rattle.walk.proofs.Marks.{marks-at, marks-set, marks-kept, list-kept, outside-mark}
+use Rattle.slots.specs.Scratch.{marks-at, work-at}
+use Rattle.walk.proofs.Marks.{mark-at, marks-set, marks-kept, list-kept, outside-mark}
 
 -- what holds of the first n holds of the first k
 pub all-front : (P : Candidate → Type 0) (w : List ℕ) (n k : ℕ) → k ≤ n → All P (cands w 0 n) → All P (cands w 0 k)
 all-front P w n k h f = rw (cands-take w 0 n k h) at (all-take P k (cands w 0 n) f)
 
 -- ---- a slot is marked
-module _ (w : List ℕ) (s v t : ℕ) (P : ℕ → Type 0) (h : 2048 + s < length w) where
-  mark-cases : (t ≡ s → P v) → P (mark w t) → P (mark (set w (2048 + s) v) t)
+module _ (w : List ℕ) (s v t : ℕ) (P : ℕ → Type 0) (h : marks-at + s < length w) where
+  mark-cases : (t ≡ s → P v) → P (mark w t) → P (mark (set w (marks-at + s) v) t)
   mark-cases f g = go (eqb t s) refl
     where
-      go : (b : Bool) → eqb t s ≡ b → P (mark (set w (2048 + s) v) t)
-      go true e = let q = eqb-true t s e in rw (q, getD-set-same w (2048 + s) v 0 h) (f q)
-      go false e = rw (getD-set-other w (2048 + s) (2048 + t) v 0 (λ q. eqb-false t s e (omega arith))) g
+      go : (b : Bool) → eqb t s ≡ b → P (mark (set w (marks-at + s) v) t)
+      go true e = let q = eqb-true t s e in rw (q, getD-set-same w (marks-at + s) v 0 h) (f q)
+      go false e = rw (getD-set-other w (marks-at + s) (marks-at + t) v 0 (λ q. eqb-false t s e (omega arith))) g
 
 module _ {capacity beam : ℕ} {w : List ℕ} {n next : ℕ} (f : Walkable capacity beam w n next) (s v : ℕ) (h : s < capacity) where
   at-most : n ≤ 1024
   at-most = omega (arith, f .listed)
 
-  marked-list : (k : ℕ) → k ≤ n → cands (set w (2048 + s) v) 0 k ≡ cands w 0 k
-  marked-list k l = list-kept capacity k w (set w (2048 + s) v) (omega (arith, at-most)) (outside-mark capacity w w s v h (outside-none 2048 capacity w))
+  marked-list : (k : ℕ) → k ≤ n → cands (set w (marks-at + s) v) 0 k ≡ cands w 0 k
+  marked-list k l = list-kept capacity k w (set w (marks-at + s) v) (omega (arith, at-most)) (outside-mark capacity w w s v h (outside-none marks-at capacity w))
 
-  pub marked-state : state-of capacity (set w (2048 + s) v) n ≡ record { list = cands w 0 n; marks = set (marks-of capacity w) s v }
+  pub marked-state : state-of capacity (set w (marks-at + s) v) n ≡ record { list = cands w 0 n; marks = set (marks-of capacity w) s v }
   marked-state = rw (marked-list n (omega arith), marks-set capacity w s v h)
 
-  pub marked-goes : 1 ≤ v → (mark w s ≡ 2 → v ≡ 2) → Walkable capacity beam (set w (2048 + s) v) n next
+  pub marked-goes : 1 ≤ v → (mark w s ≡ 2 → v ≡ 2) → Walkable capacity beam (set w (marks-at + s) v) n next
   marked-goes o z =
-      let k : 2048 + s < length w = omega (arith, f .room) in
+      let k : marks-at + s < length w = omega (arith, f .room) in
       let e = marked-list n (omega arith) in
       record {
-        room = rw (length-set w (2048 + s) v) (f .room);
+        room = rw (length-set w (marks-at + s) v) (f .room);
         listed = record {
-          long = rw (length-set w (2048 + s) v) (f .listed .long);
+          long = rw (length-set w (marks-at + s) v) (f .listed .long);
           some = f .listed .some;
           most = f .listed .most;
           few = f .listed .few;
@@ -70,7 +71,7 @@ entered-goes {capacity} {beam} {w} {n} {next} {d} {t} {w′} {n′} {next′} f 
     let l = f .listed in
     let short : length (enter beam (cands w 0 n) (pair d t)) ≤ beam = enter-short beam (cands w 0 n) (pair d t) (l .some) (rw (cands-length w 0 n) (l .few)) in
     let long : length (enter beam (cands w 0 n) (pair d t)) ≡ n′ = rw (g .list) at (cands-length w′ 0 n′) in
-    let keeps : (s : ℕ) → mark w′ s ≡ mark w s = λ s. g .same (2048 + s) (λ q. omega arith) in
+    let keeps : (s : ℕ) → mark w′ s ≡ mark w s = λ s. g .same (marks-at + s) (λ q. omega arith) in
     record {
       room = omega (arith, f .room, g .size);
       listed = record {
@@ -88,37 +89,37 @@ entered-goes {capacity} {beam} {w} {n} {next} {d} {t} {w′} {n′} {next′} f 
     }
 
 pub met-goes : {capacity beam : ℕ} {w : List ℕ} {n next t s : ℕ} → Walkable capacity beam w n next → t < capacity → s ≡ t → mark w s ≡ 0
-    → Walkable capacity beam (set w (2048 + s) 1) n next
+    → Walkable capacity beam (set w (marks-at + s) 1) n next
 met-goes {s = s} f h q z = marked-goes f s 1 (omega arith) (omega arith) (λ y. absurd (omega arith))
 
 module _ {capacity beam : ℕ} (dist : ℕ → ℕ) (near : ℕ → List ℕ) {w : List ℕ} {n next t s : ℕ} (f : Walkable capacity beam w n next) (h : t < capacity) (q : s ≡ t) where
   pub met-old : (mark w s ≡ 0 → ⊥) → Stepped capacity beam w (meet beam dist near (state-of capacity w n) t) w n next
   unfolding meet
   met-old z =
-      let e : eqb (getD (marks-of capacity w) t 0) 0 ≡ false = ne-eqb _ _ (λ y. z (rw q (sym (marks-at capacity w (f .room) t h) ∙ y))) in
-      record { holds = rw e; goes = f; size = refl; same = outside-none 0 (2048 + capacity) w }
+      let e : eqb (getD (marks-of capacity w) t 0) 0 ≡ false = ne-eqb _ _ (λ y. z (rw q (sym (mark-at capacity w (f .room) t h) ∙ y))) in
+      record { holds = rw e; goes = f; size = refl; same = outside-none 0 (work-at capacity) w }
 
   module _ (z : mark w s ≡ 0) where
-    pub met-new : {d n′ next′ : ℕ} {w′ : List ℕ} → d ≡ dist s → d ≤ 16777216 → Entered beam (set w (2048 + s) 1) n next (pair d t) w′ n′ next′
+    pub met-new : {d n′ next′ : ℕ} {w′ : List ℕ} → d ≡ dist s → d ≤ 16777216 → Entered beam (set w (marks-at + s) 1) n next (pair d t) w′ n′ next′
         → Stepped capacity beam w (meet beam dist near (state-of capacity w n) t) w′ n′ next′
     unfolding meet
     met-new {d} {n′} {next′} {w′} p small g =
         let k : s < capacity = omega arith in
-        let e : eqb (getD (marks-of capacity w) t 0) 0 ≡ true = eq-eqb _ _ (marks-at capacity w (f .room) t h ∙ rw q at z) in
-        let list : cands (set w (2048 + s) 1) 0 n ≡ cands w 0 n = marked-list f s 1 k n (omega arith) in
+        let e : eqb (getD (marks-of capacity w) t 0) 0 ≡ true = eq-eqb _ _ (mark-at capacity w (f .room) t h ∙ rw q at z) in
+        let list : cands (set w (marks-at + s) 1) 0 n ≡ cands w 0 n = marked-list f s 1 k n (omega arith) in
         let own : d ≡ dist t = rw q at p in
-        let one : mark (set w (2048 + s) 1) t ≡ 1 = rw (← q) (getD-set-same w (2048 + s) 1 0 (omega (arith, f .room))) in
-        let long : length (set w (2048 + s) 1) ≡ length w = length-set w (2048 + s) 1 in
+        let one : mark (set w (marks-at + s) 1) t ≡ 1 = rw (← q) (getD-set-same w (marks-at + s) 1 0 (omega (arith, f .room))) in
+        let long : length (set w (marks-at + s) 1) ≡ length w = length-set w (marks-at + s) 1 in
         let marks : marks-of capacity w′ ≡ set (marks-of capacity w) t 1 =
-        marks-kept capacity (set w (2048 + s) 1) w′ (omega (arith, f .room)) (g .size) (g .same) ∙ marks-set capacity w s 1 k ∙ ap (λ (x : ℕ). set (marks-of capacity w) x 1) q in
+        marks-kept capacity (set w (marks-at + s) 1) w′ (omega (arith, f .room)) (g .size) (g .same) ∙ marks-set capacity w s 1 k ∙ ap (λ (x : ℕ). set (marks-of capacity w) x 1) q in
         record {
           holds = rw (e, g .list, list, marks, own);
           goes = entered-goes (met-goes f h q z) h small (λ y. omega arith)
               (rw list (all-map _ _ (λ c m i. m (rw (i, ← q) z)) (cands w 0 n) (f .met))) g;
           size = g .size ∙ long;
-          same = outside-then 0 (2048 + capacity) w (set w (2048 + s) 1) w′
-              (outside-wide 2048 capacity 0 (2048 + capacity) w (set w (2048 + s) 1) (outside-mark capacity w w s 1 k (outside-none 2048 capacity w)) (omega arith) (omega arith))
-              (outside-wide 0 2048 0 (2048 + capacity) (set w (2048 + s) 1) w′ (g .same) (omega arith) (omega arith));
+          same = outside-then 0 (work-at capacity) w (set w (marks-at + s) 1) w′
+              (outside-wide marks-at capacity 0 (work-at capacity) w (set w (marks-at + s) 1) (outside-mark capacity w w s 1 k (outside-none marks-at capacity w)) (omega arith) (omega arith))
+              (outside-wide 0 marks-at 0 (work-at capacity) (set w (marks-at + s) 1) w′ (g .same) (omega arith) (omega arith));
         }
 
 -- ---- the neighbours of a slot are met, ts to come
@@ -126,12 +127,12 @@ pub record Meeting (capacity beam : ℕ) (dist : ℕ → ℕ) (near : ℕ → Li
   pub meets : foldl (meet beam dist near) (state-of capacity w n) ts ≡ to
   pub goes : Walkable capacity beam w n next
   pub size : length w ≡ length w₀
-  pub same : Outside 0 (2048 + capacity) w₀ w
+  pub same : Outside 0 (work-at capacity) w₀ w
 
 pub meeting-none : {capacity beam : ℕ} (dist : ℕ → ℕ) (near : ℕ → List ℕ) {w : List ℕ} {n next : ℕ} {us ts : List ℕ} → Walkable capacity beam w n next → us ≡ ts
     → Meeting capacity beam dist near w (foldl (meet beam dist near) (state-of capacity w n) us) ts w n next
 meeting-none {capacity} {beam} dist near {w} {n} f e =
-    record { meets = ap (foldl (meet beam dist near) (state-of capacity w n)) (sym e); goes = f; size = refl; same = outside-none 0 (2048 + capacity) w }
+    record { meets = ap (foldl (meet beam dist near) (state-of capacity w n)) (sym e); goes = f; size = refl; same = outside-none 0 (work-at capacity) w }
 
 -- rows have no part in it
 meet-any : (beam : ℕ) (dist : ℕ → ℕ) (near near′ : ℕ → List ℕ) (st : State) (t : ℕ) → meet beam dist near st t ≡ meet beam dist near′ st t
@@ -146,7 +147,7 @@ module _ {capacity beam : ℕ} {dist : ℕ → ℕ} {near : ℕ → List ℕ} {w
         meets = rw (g .holds, meet-any beam dist (λ _. []) near (state-of capacity w n) t) (rw e at (m .meets));
         goes = g .goes;
         size = g .size ∙ m .size;
-        same = outside-then 0 (2048 + capacity) w₀ w w′ (m .same) (g .same);
+        same = outside-then 0 (work-at capacity) w₀ w w′ (m .same) (g .same);
       }
 
   pub meeting-dead : {us : List ℕ} → ts ≡ us → Meeting capacity beam dist near w₀ to us w n next
@@ -160,11 +161,11 @@ module _ {capacity beam : ℕ} {w : List ℕ} {n next s t : ℕ} (f : Walkable c
   pub expands-inside : s < capacity
   expands-inside = rw (q, p) (cands-each (λ c. c .id < capacity) w 0 n (f .inside) next h)
 
-  pub expands-goes : Walkable capacity beam (set w (2048 + s) 2) n next
+  pub expands-goes : Walkable capacity beam (set w (marks-at + s) 2) n next
   expands-goes = marked-goes f s 2 expands-inside (omega arith) (λ _. refl)
 
   pub expanded-by : (dist : ℕ → ℕ) (near : ℕ → List ℕ) {w′ : List ℕ} {n′ next′ : ℕ}
-      → Stepped capacity beam (set w (2048 + s) 2) (foldl (meet beam dist near) (state-of capacity (set w (2048 + s) 2) n) (near s)) w′ n′ next′
+      → Stepped capacity beam (set w (marks-at + s) 2) (foldl (meet beam dist near) (state-of capacity (set w (marks-at + s) 2) n) (near s)) w′ n′ next′
       → Stepped capacity beam w (expand beam dist near (state-of capacity w n) (cand w (2 * next))) w′ n′ next′
   unfolding expand
   expanded-by dist near {w′} g =
@@ -174,9 +175,9 @@ module _ {capacity beam : ℕ} {w : List ℕ} {n next s t : ℕ} (f : Walkable c
         holds = g .holds ∙ ap (λ (st : State). foldl (meet beam dist near) st (near s)) (marked-state f s 2 expands-inside)
             ∙ ap (λ (x : ℕ). foldl (meet beam dist near) (record { list = cands w 0 n; marks = set (marks-of capacity w) x 2 }) (near x)) i;
         goes = g .goes;
-        size = g .size ∙ length-set w (2048 + s) 2;
-        same = outside-then 0 (2048 + capacity) w (set w (2048 + s) 2) w′
-            (outside-wide 2048 capacity 0 (2048 + capacity) w (set w (2048 + s) 2) (outside-mark capacity w w s 2 expands-inside (outside-none 2048 capacity w)) (omega arith) (omega arith))
+        size = g .size ∙ length-set w (marks-at + s) 2;
+        same = outside-then 0 (work-at capacity) w (set w (marks-at + s) 2) w′
+            (outside-wide marks-at capacity 0 (work-at capacity) w (set w (marks-at + s) 2) (outside-mark capacity w w s 2 expands-inside (outside-none marks-at capacity w)) (omega arith) (omega arith))
             (g .same);
       }
 
@@ -199,7 +200,7 @@ module _ {capacity beam : ℕ} {w : List ℕ} {n next : ℕ} (f : Walkable capac
   passes =
       ap (unexpanded (marks-of capacity w)) (cands-split w 0 n r (x .within))
       ∙ unexpanded-skip (marks-of capacity w) (cands w 0 r) (cands w (0 + 2 * r) (n - r))
-      (all-map _ _ (λ c h. marks-at capacity w (f .room) (c .id) (h .0) ∙ h .1) (cands w 0 r)
+      (all-map _ _ (λ c h. mark-at capacity w (f .room) (c .id) (h .0) ∙ h .1) (cands w 0 r)
       (all-both (λ c. c .id < capacity) (λ c. mark w (c .id) ≡ 2) (cands w 0 r) (all-front _ w n r (x .within) (f .inside)) (x .done)))
 
   next-all : r ≡ n → unexpanded (marks-of capacity w) (cands w 0 n) ≡ []
@@ -210,7 +211,7 @@ module _ {capacity beam : ℕ} {w : List ℕ} {n next : ℕ} (f : Walkable capac
       let z : 0 + 2 * r ≡ 2 * r = omega arith in
       let i : cand w (2 * r) .id < capacity = rw z at (cands-each (λ c. c .id < capacity) w 0 n (f .inside) r h) in
       passes ∙ ap (unexpanded (marks-of capacity w)) (cands-cons w 0 n r h)
-      ∙ rw z (unexpanded-here (marks-of capacity w) (cand w (2 * r)) _ (λ y. x .stops h (sym (marks-at capacity w (f .room) _ i) ∙ y)))
+      ∙ rw z (unexpanded-here (marks-of capacity w) (cand w (2 * r)) _ (λ y. x .stops h (sym (mark-at capacity w (f .room) _ i) ∙ y)))
 
 -- what the search for it asks
 pub next-ready : {capacity beam : ℕ} {w : List ℕ} {n next : ℕ} → Walkable capacity beam w n next → Scannable w n next
@@ -254,12 +255,12 @@ pub record Walking (capacity beam : ℕ) (dist : ℕ → ℕ) (near : ℕ → Li
   pub turns-left : turns beam dist near left (state-of capacity w n) ≡ to
   pub goes : Walkable capacity beam w n next
   pub size : length w ≡ length w₀
-  pub same : Outside 0 (2048 + capacity) w₀ w
+  pub same : Outside 0 (work-at capacity) w₀ w
 
 pub walking-none : {capacity beam : ℕ} (dist : ℕ → ℕ) (near : ℕ → List ℕ) (all : ℕ) {left : ℕ} {w : List ℕ} {n next : ℕ} → left ≡ all → Walkable capacity beam w n next
     → Walking capacity beam dist near w (turns beam dist near all (state-of capacity w n)) left w n next
 walking-none {capacity} {beam} dist near all {w = w} {n} e f =
-    record { turns-left = ap (λ (k : ℕ). turns beam dist near k (state-of capacity w n)) e; goes = f; size = refl; same = outside-none 0 (2048 + capacity) w }
+    record { turns-left = ap (λ (k : ℕ). turns beam dist near k (state-of capacity w n)) e; goes = f; size = refl; same = outside-none 0 (work-at capacity) w }
 
 -- the cursor at the front
 from-front : {capacity beam : ℕ} {w : List ℕ} {n next : ℕ} → Walkable capacity beam w n next → Walkable capacity beam w n 0
@@ -313,5 +314,5 @@ module _ {capacity beam : ℕ} {dist : ℕ → ℕ} {near : ℕ → List ℕ} {w
                 ∙ sym (turns-more beam dist near more st) ∙ ap (λ (m : ℕ). turns beam dist near m st) (sym s) ∙ g .turns-left;
             goes = y .goes;
             size = y .size ∙ g .size;
-            same = outside-then 0 (2048 + capacity) w₀ w w′ (g .same) (y .same);
+            same = outside-then 0 (work-at capacity) w₀ w w′ (g .same) (y .same);
           }

@@ -3,12 +3,12 @@ mod words;
 
 use slots::marks::is_valid;
 use slots::marks::wide;
+use slots::scratch::MARKS;
 use slots::rows::Ref;
 use slots::rows::live_at;
 use vectors::query_distance;
 use words::EXPANDED;
 use words::Held;
-use words::MARKS;
 use words::MET;
 ghost use mathlib.Core.Bool.{false};
 ghost use mathlib.Core.Path.{_≡_};

@@ -1,18 +1,18 @@
-// What a walk keeps in lent words. The list lies in words 0 to 2,047, two words for each of at most 1,024 candidates. From word 2,048 on there is a
-// mark for each slot: 0 before it is met, 1 when it is met, 2 when it is expanded. The words behind the marks are not touched.
+// What a walk keeps in the scratch (its map: slots::scratch): the list, and a mark for each slot, which is 0 before the slot is met, 1 when it is met and
+// 2 when it is expanded. The words behind the marks are not touched.
 use candidates::dist_at;
 use candidates::id_at;
 use candidates::insert_ordered;
 use candidates::put;
 use slots::marks::wide;
+use slots::scratch::MARKS;
 ghost use mathlib.Core.Path.{_≡_};
 ghost use Prim.Native.Nat.{_+_, _*_, min, _<_, _≤_};
 ghost use lib.ListN.{length};
 ghost use Rattle.candidates.specs.contracts.Words.{pair, cand, cands};
 ghost use Rattle.walk.specs.Walk as Walk;
+ghost use Rattle.slots.specs.Scratch.{work-at};
 ghost use Rattle.walk.specs.contracts.Scratch.{Listed, Scannable, Entered, Unexpanded, Next, Cleared, LeftOut, Begun};
-
-pub const MARKS: usize = 2048;
 
 pub const MET: u32 = 1;
 
@@ -33,7 +33,7 @@ fn least(a: usize, b: usize) -> usize
 
 // Marks no slot as met.
 fn clear(scratch: &mut [u32], capacity: usize)
-    requires { ⌜ 2048 + capacity ≤ length (now scratch) ⌝ }
+    requires { ⌜ work-at capacity ≤ length (now scratch) ⌝ }
     ensures { λ _. ⌜ Cleared capacity (now (scratch .entry)) (now (scratch .exit)) ⌝ }
 {
     let mut s: usize = 0;
@@ -45,7 +45,7 @@ fn clear(scratch: &mut [u32], capacity: usize)
 
 // Marks those of `ids` that are slots as met, so that the walk leaves them out.
 fn leave_out(scratch: &mut [u32], capacity: usize, ids: &[u32])
-    requires { ⌜ 2048 + capacity ≤ length (now scratch) ⌝ }
+    requires { ⌜ work-at capacity ≤ length (now scratch) ⌝ }
     ensures { λ _. ⌜ LeftOut capacity (now (ids .entry)) (now (scratch .entry)) (now (scratch .exit)) ⌝ }
 {
     let mut i: usize = 0;
@@ -60,7 +60,7 @@ fn leave_out(scratch: &mut [u32], capacity: usize, ids: &[u32])
 
 // Puts the start into the list, alone, and marks it and `ids` as met.
 pub fn begin(scratch: &mut [u32], capacity: usize, ids: &[u32], dist: u32, start: u32)
-    requires { ⌜ (2048 + capacity ≤ length (now scratch)) × (start < capacity) × (dist ≤ 16777216) ⌝ }
+    requires { ⌜ (work-at capacity ≤ length (now scratch)) × (start < capacity) × (dist ≤ 16777216) ⌝ }
     ensures { λ _. ⌜ Begun capacity (now (ids .entry)) dist start (now (scratch .entry)) (now (scratch .exit)) ⌝ }
 {
     clear(scratch, capacity);

@@ -8,7 +8,7 @@ use lib.Ieee.{Float}
 use lib.ListN.{length}
 use Rattle.lists.specs.Lists.{put-front}
 use Rattle.slots.specs.Sizes.{limits}
-use Rattle.slots.specs.Scratch.{size-answer}
+use Rattle.slots.specs.Scratch.{size-answer, list-words}
 use Rattle.candidates.specs.Candidates.{ids}
 use Rattle.candidates.specs.contracts.Words.{cands, Small}
 use Rattle.calls.specs.Outputs.{distances}
@@ -22,7 +22,7 @@ search-tests capacity k beam slots dists scratch =
 -- n candidates in the words, and room for them
 pub record Fits (words : List ℕ) (n : ℕ) (slots : List ℕ) (dists : List Float) : Type 0 where
   pub few : n ≤ 1024
-  pub long : 2048 ≤ length words
+  pub long : list-words ≤ length words
   pub small : Small (cands words 0 n)
   pub slots-long : n ≤ length slots
   pub dists-long : n ≤ length dists

@@ -1,5 +1,5 @@
--- The walk in lent words: what its functions ask of the words, and what they leave in them. The list lies from word 0 on; from word 2,048 on there is
--- a mark for each slot. Assumes nothing.
+-- The walk in lent words: what its functions ask of the words, and what they leave in them. The regions are those of `slots` (Scratch): the list, and a
+-- mark for each slot. Assumes nothing.
 use Prim.Native.Nat.{ℕ, _+_, _*_, max, _≤_, _<_}
 use mathlib.Core.Bool.{true, false, not}
 use mathlib.Core.List.{List, [], _∷_}
@@ -12,6 +12,7 @@ use Rattle.candidates.specs.contracts.Words.{pair, cand, cands, Small, Outside}
 use Rattle.slots.specs.Store.{Arrays, Store, is-valid, refs-of, store-view}
 use Rattle.slots.specs.contracts.Rows.{RowShape}
 use Rattle.walk.specs.Walk.{State, enter, ends, graph-search, search-pool}
+use Rattle.slots.specs.Scratch.{list-words, marks-at, work-at}
 use Rattle.walk.specs.Walk as Walk
 
 -- ---- what the walk sees of the lent slices: the `live-neighbors` of a view (`walk-view`)
@@ -25,11 +26,11 @@ near-but ids a s = filter (λ t. not (elem t ids)) (near-of a s)
 -- ---- the words
 -- the mark of slot s
 abbrev pub mark : List ℕ → ℕ → ℕ
-mark w s = getD w (2048 + s) 0
+mark w s = getD w (marks-at + s) 0
 
 -- the marks of all slots
 abbrev pub marks-of : ℕ → List ℕ → List ℕ
-marks-of capacity w = take capacity (drop 2048 w)
+marks-of capacity w = take capacity (drop marks-at w)
 
 -- the state of the walk that the words hold: n candidates, and the marks
 abbrev pub state-of : ℕ → List ℕ → ℕ → State
@@ -55,7 +56,7 @@ first-state capacity ids d start = record { list = pair d start ∷ []; marks = 
 
 -- n candidates in order, which one can enter
 pub record Listed (beam : ℕ) (w : List ℕ) (n : ℕ) : Type 0 where
-  pub long : 2048 ≤ length w
+  pub long : list-words ≤ length w
   pub some : 1 ≤ beam
   pub most : beam ≤ 1024
   pub few : n ≤ beam
@@ -64,7 +65,7 @@ pub record Listed (beam : ℕ) (w : List ℕ) (n : ℕ) : Type 0 where
 
 -- words with which the walk can go on: each candidate's slot is inside and met, and those of the first `next` are expanded
 pub record Walkable (capacity beam : ℕ) (w : List ℕ) (n next : ℕ) : Type 0 where
-  pub room : 2048 + capacity ≤ length w
+  pub room : work-at capacity ≤ length w
   pub listed : Listed beam w n
   pub inside : All (λ c. c .id < capacity) (cands w 0 n)
   pub met : All (λ c. mark w (c .id) ≡ 0 → ⊥) (cands w 0 n)
@@ -73,9 +74,9 @@ pub record Walkable (capacity beam : ℕ) (w : List ℕ) (n next : ℕ) : Type 0
 
 -- n candidates with marks, of which the first `next` are expanded
 pub record Scannable (w : List ℕ) (n next : ℕ) : Type 0 where
-  pub long : 2048 ≤ length w
+  pub long : list-words ≤ length w
   pub most : n ≤ 1024
-  pub inside : All (λ c. 2048 + c .id < length w) (cands w 0 n)
+  pub inside : All (λ c. marks-at + c .id < length w) (cands w 0 n)
   pub passed : next ≤ n
   pub done : All (λ c. mark w (c .id) ≡ 2) (cands w 0 next)
 
@@ -87,7 +88,7 @@ pub record Entered (beam : ℕ) (w : List ℕ) (n next : ℕ) (x : Candidate) (w
   pub within : next′ ≤ n′
   pub front : cands w′ 0 next′ ≡ cands w 0 next′
   pub size : length w′ ≡ length w
-  pub same : Outside 0 2048 w w′
+  pub same : Outside 0 list-words w w′
 
 -- the first of n candidates whose slot is not expanded is at r; where all are, r is n
 pub record Unexpanded (w : List ℕ) (n r : ℕ) : Type 0 where
@@ -106,27 +107,27 @@ pub record Next (beam : ℕ) (w : List ℕ) (n r : ℕ) : Type 0 where
 pub record Cleared (capacity : ℕ) (w w′ : List ℕ) : Type 0 where
   pub marks : marks-of capacity w′ ≡ replicate capacity 0
   pub size : length w′ ≡ length w
-  pub same : Outside 2048 capacity w w′
+  pub same : Outside marks-at capacity w w′
 
 -- some slots are met, too
 pub record LeftOut (capacity : ℕ) (ids w w′ : List ℕ) : Type 0 where
   pub marks : marks-of capacity w′ ≡ mark-all (marks-of capacity w) ids
   pub size : length w′ ≡ length w
-  pub same : Outside 2048 capacity w w′
+  pub same : Outside marks-at capacity w w′
 
 -- the walk begins
 pub record Begun (capacity : ℕ) (ids : List ℕ) (d start : ℕ) (w w′ : List ℕ) : Type 0 where
   pub holds : state-of capacity w′ 1 ≡ first-state capacity ids d start
   pub goes : (beam : ℕ) → 1 ≤ beam → beam ≤ 1024 → Walkable capacity beam w′ 1 0
   pub size : length w′ ≡ length w
-  pub same : Outside 0 (2048 + capacity) w w′
+  pub same : Outside 0 (work-at capacity) w w′
 
 -- the words w have come to w′, which hold the state `to`
 pub record Stepped (capacity beam : ℕ) (w : List ℕ) (to : State) (w′ : List ℕ) (n next : ℕ) : Type 0 where
   pub holds : state-of capacity w′ n ≡ to
   pub goes : Walkable capacity beam w′ n next
   pub size : length w′ ≡ length w
-  pub same : Outside 0 (2048 + capacity) w w′
+  pub same : Outside 0 (work-at capacity) w w′
 
 -- ---- the calls
 -- vectors for all slots, and a query
@@ -145,7 +146,7 @@ pub record Ready (a : Arrays) (query : List ℕ) (start beam : ℕ) (w : List �
   pub lent : Lent a query
   pub start-inside : start < length (a .marks)
   pub beam-most : beam ≤ 1024
-  pub room : 2048 + length (a .marks) ≤ length w
+  pub room : work-at (length (a .marks)) ≤ length w
 
 -- what a walk leaves: r candidates, those of `graph-search`; `near` is `near-of`, or `near-but` some slots
 pub record Found (a : Arrays) (query : List ℕ) (near : Arrays → ℕ → List ℕ) (start beam : ℕ) (w w′ : List ℕ) (r : ℕ) : Type 0 where
@@ -153,7 +154,7 @@ pub record Found (a : Arrays) (query : List ℕ) (near : Arrays → ℕ → List
   pub few : r ≤ max 1 beam
   pub small : Small (cands w′ 0 r)
   pub size : length w′ ≡ length w
-  pub same : Outside 0 (2048 + length (a .marks)) w w′
+  pub same : Outside 0 (work-at (length (a .marks))) w w′
 
 -- `search-pool`
 pub record Pool (a : Arrays) (query : List ℕ) (entry beam : ℕ) (w w′ : List ℕ) (r : ℕ) : Type 0 where
@@ -161,4 +162,4 @@ pub record Pool (a : Arrays) (query : List ℕ) (entry beam : ℕ) (w w′ : Lis
   pub few : r ≤ max 1 beam
   pub small : Small (cands w′ 0 r)
   pub size : length w′ ≡ length w
-  pub same : Outside 0 (2048 + length (a .marks)) w w′
+  pub same : Outside 0 (work-at (length (a .marks))) w w′

@@ -10,6 +10,7 @@ use Rattle.candidates.proofs.Words.{cands-each}
 use Rattle.walk.specs.contracts.Scratch.{mark}
 use Rattle.walk.proofs.Entering.{scan-more, scan-found, scan-none}
 use Rattle.walk.proofs.words.unexpanded.Statement.{statement}
+use Rattle.slots.specs.Scratch.{marks-at}
 use Rattle.walk.proofs.words.unexpanded.Tie as tie
 
 abbrev Inv-loop : tie.InvT-loop
@@ -32,13 +33,13 @@ wide-requires : tie.Need-wide-requires Inv-loop μ-loop
 wide-requires c κs = search needs
 
 add-if1 : tie.Need-add-if1 Inv-loop μ-loop
-add-if1 c = omega (arith, c .before .id-at .ensures, cands-each (λ x. 2048 + x .id < length (c .before .before .before .before .before .args .scratch .now)) _ _ _ (c .before .before .before .before .before .pre .inside) (c .before .before .before .loop .i) (c .before .before .loop-test .taken), c .before .before .before .before .before .good)
+add-if1 c = omega (arith, c .before .id-at .ensures, cands-each (λ x. marks-at + x .id < length (c .before .before .before .before .before .args .scratch .now)) _ _ _ (c .before .before .before .before .before .pre .inside) (c .before .before .before .loop .i) (c .before .before .loop-test .taken), c .before .before .before .before .before .good)
 
 mul-if1 : tie.Need-mul-if1 Inv-loop μ-loop
-mul-if1 c = omega (arith, c .before .id-at .ensures, cands-each (λ x. 2048 + x .id < length (c .before .before .before .before .before .args .scratch .now)) _ _ _ (c .before .before .before .before .before .pre .inside) (c .before .before .before .loop .i) (c .before .before .loop-test .taken), c .before .before .before .before .before .good)
+mul-if1 c = omega (arith, c .before .id-at .ensures, cands-each (λ x. marks-at + x .id < length (c .before .before .before .before .before .args .scratch .now)) _ _ _ (c .before .before .before .before .before .pre .inside) (c .before .before .before .loop .i) (c .before .before .loop-test .taken), c .before .before .before .before .before .good)
 
 shared-slice-read-if1 : tie.Need-shared-slice-read-if1 Inv-loop μ-loop
-shared-slice-read-if1 c = omega (arith, c .before .before .id-at .ensures, cands-each (λ x. 2048 + x .id < length ((start₀ c) .args .scratch .now)) _ _ _ ((start₀ c) .pre .inside) (c .before .before .before .before .loop .i) (c .before .before .before .loop-test .taken))
+shared-slice-read-if1 c = omega (arith, c .before .before .id-at .ensures, cands-each (λ x. marks-at + x .id < length ((start₀ c) .args .scratch .now)) _ _ _ ((start₀ c) .pre .inside) (c .before .before .before .before .loop .i) (c .before .before .before .loop-test .taken))
 
 returns : tie.Need-returns Inv-loop μ-loop
 returns c = scan-found _ _ (c .before .before .before .before .loop-test .taken) (c .before .before .before .id-at .ensures) (c .before .before .wide .ensures) (c .if1 .taken) (c .before .before .before .before .before .loop .inv .1)
