@@ -7,12 +7,11 @@ work=target/compare-search-and-prune
 rm -rf "$work"
 mkdir -p "$work/crates/exports/src"
 cp -r crates/lists crates/vectors crates/candidates crates/slots crates/walk crates/prune "$work/crates/"
-{ grep -E '^(lists|vectors|candidates|slots|walk|prune):' crates.txt; echo 'exports: lists vectors candidates slots walk prune'; } > "$work/crates.txt"
+{ grep -E '^(lists|vectors|slots|candidates|walk|prune):' crates.txt; echo 'exports: lists vectors slots candidates walk prune'; } > "$work/crates.txt"
 cat > "$work/crates/exports/src/lib.rt" <<'RT'
-ghost use Rattle.slots.specs.Rows.{arrays};
-ghost use Rattle.slots.specs.Store.{is-valid};
-ghost use Rattle.walk.specs.Scratch as Scratch;
-ghost use Rattle.prune.specs.Selecting as Selecting;
+ghost use Rattle.slots.specs.Store.{arrays};
+ghost use Rattle.walk.specs.contracts.Scratch as Scratch;
+ghost use Rattle.prune.specs.contracts.Selecting as Selecting;
 
 #[no_mangle]
 pub extern "C" fn exported_search(

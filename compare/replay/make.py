@@ -81,9 +81,9 @@ class Dump:
         self.alpha = ((alpha & 0x7FFFFF) | 0x800000) * 2 ** ((alpha >> 23) - 126)  # of [1, 2], times 2^24
 
 
-def scratch_words(capacity, degree):
+def scratch_words(capacity):
     """The library's own size answer."""
-    return 81920 + 4 * capacity + 2048 * degree
+    return 169984 + capacity
 
 
 # ---------------------------------------------------------------- document 01's table
@@ -139,7 +139,7 @@ class Book:
             return refused
         if beam > 1024 or k > self.lent[6] or k > self.lent[7]:
             return 7
-        if self.lent[8] < scratch_words(*self.sizes[1:]):
+        if self.lent[8] < scratch_words(self.sizes[1]):
             return 8
         return 0
 
@@ -159,7 +159,7 @@ class List:
         self.put("lend", *lengths)
 
     def lend_for(self, sizes, slots=1024, dists=1024, words=None):
-        fit = scratch_words(*sizes[1:]) if words is None else words
+        fit = scratch_words(sizes[1]) if words is None else words
         self.lend(*exact(*sizes), slots, dists, fit)
 
     def give(self, given, rows):
@@ -471,7 +471,7 @@ def refused_calls(out):
             attempts(query=(1,), beam=1025)
         out.set(field, kept)
         attempts()
-    fit = exact(*book.sizes) + [12, 10, scratch_words(*book.sizes[1:])]
+    fit = exact(*book.sizes) + [12, 10, scratch_words(book.sizes[1])]
     for i in range(9):
         out.lend(*[n - (j == i) for j, n in enumerate(fit)])
         attempts(k=9)
@@ -489,7 +489,7 @@ def refused_calls(out):
 def size_answers(out):
     for sizes in ([1, 1, 1], [256, 65536, 64], [3, 100, 7], [0, 1, 1], [257, 1, 1], [1, 0, 1], [1, 65537, 1], [1, 1, 0], [1, 1, 65], [BLANK] * 3):
         refused = sizes_bad(*sizes)
-        out.put("words", *sizes, int(refused), 0 if refused else scratch_words(*sizes[1:]))
+        out.put("words", *sizes, int(refused), 0 if refused else scratch_words(sizes[1]))
 
 
 def main():

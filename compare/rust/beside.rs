@@ -113,7 +113,7 @@ fn searches(search: Search, live: Live, call: Call) {
         let book = built(dim, capacity, degree, 1.2, &cloud, &mut rng);
         let s = slices(&book);
         let queries: Vec<Vec<u8>> = (0..400).map(|_| cloud.draw(&mut rng)).collect();
-        let mut scratch = vec![0xdead_beefu32; 81_920 + 4 * capacity + 2_048 * degree];
+        let mut scratch = vec![0xdead_beefu32; 169_984 + capacity];
         let mut out = Outputs { slots: vec![0; 1024], dists: vec![0.0; 1024], found: 0 };
         let mut best = [f64::MAX; 2];
         for _ in 0..20 {

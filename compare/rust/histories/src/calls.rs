@@ -35,7 +35,7 @@ pub const KINDS: &[Kind] = &[
     Kind { name: "entry", weight: 5, run: reading!(finder_entry, |b, _| b.rust.entry()) },
     Kind { name: "live count", weight: 5, run: reading!(finder_live, |b, _| b.rust.live()) },
     Kind { name: "mark", weight: 5, run: reading!(finder_mark, |b, a| b.rust.is_live(a.slot) as u32, slot) },
-    Kind { name: "version", weight: 5, run: reading!(finder_version, version, slot) },
+    Kind { name: "version", weight: 5, run: reading!(finder_slot_version, version, slot) },
     Kind { name: "target", weight: 7, run: reading!(finder_target, target, slot, place) },
     Kind { name: "vector", weight: 5, run: vector },
     Kind { name: "search", weight: 38, run: search },
@@ -60,7 +60,7 @@ pub fn begin(seed: u64) -> History {
     let six = Six::junk(table::exact(1, 1, 1), &mut rng);
     let mut both = Both { rust: Rust::make(1, 1, 1, 1.0, 0, &[], &[]).unwrap(), words, six, values: vec![0, 1] };
     both.load();
-    let scratch = Lent::junk(table::scratch_words(1, 1) as usize + 64, &mut rng);
+    let scratch = Lent::junk(table::scratch_words(1) as usize + 64, &mut rng);
     History { rng, both, scratch }
 }
 
@@ -74,7 +74,7 @@ fn size_answer(h: &mut History) -> Outcome {
     let mut words = Lent::junk(1, &mut h.rng);
     let number = table::size_answer(s[0], s[1], s[2]);
     if number == 0 {
-        words.expect(&[table::scratch_words(s[1], s[2]) as u32]);
+        words.expect(&[table::scratch_words(s[1]) as u32]);
     }
     let got = unsafe { finder::finder_scratch_words(s[0], s[1], s[2], words.mut_ptr()) };
     outcome(number, compare(number as u64, got as u64, vec![("words", &mut words)]), || format!("finder_scratch_words {s:?}"))
@@ -185,7 +185,7 @@ fn making(h: &mut History) -> Outcome {
         (h.both.rust, h.both.values) = (made, values);
         if let Some((six, words)) = fresh {
             (h.both.six, h.both.words) = (six, words);
-            h.scratch = Lent::junk(table::scratch_words(s[1], s[2]) as usize + 64, &mut h.rng);
+            h.scratch = Lent::junk(table::scratch_words(s[1]) as usize + 64, &mut h.rng);
         }
     }
     outcome
@@ -314,7 +314,7 @@ fn search(h: &mut History) -> Outcome {
     let mut beam = rng.pick(&[0, 1, 2, 3, 4, 6, 8, 12, 20, 64, 300, 1_024]);
     let mut k = rng.pick(&[0, 1, 2, 3, 5, 10, 30, beam, beam, beam + 1]);
     let mut out = [k as usize + rng.pick(&[0, 0, 1, 9]), k as usize + rng.pick(&[0, 0, 1, 9])];
-    let need = table::scratch_words(a.own[1], a.own[2]) as usize;
+    let need = table::scratch_words(a.own[1]) as usize;
     let mut words = need + rng.pick(&[0, 0, 1, 64]);
     for _ in 0..rng.pick(&[0, 0, 0, 0, 0, 0, 1, 1, 2]) {
         match rng.below(6) {

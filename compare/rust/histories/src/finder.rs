@@ -20,7 +20,7 @@ on_index! {
     finder_entry(*mut u32) -> u32;
     finder_live(*mut u32) -> u32;
     finder_mark(u32, *mut u32) -> u32;
-    finder_version(u32, *mut u32) -> u32;
+    finder_slot_version(u32, *mut u32) -> u32;
     finder_target(u32, u32, *mut u32) -> u32;
     finder_vector(u32) -> usize;
     finder_search(*const u8, usize, u32, u32, *mut u32, usize, *mut u32, usize, *mut u32, usize, *mut u32) -> u32;

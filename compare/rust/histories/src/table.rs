@@ -9,8 +9,8 @@ pub type Lengths = [usize; 6];
 
 pub const BLANK: u32 = u32::MAX;
 /// The library's own size answer, as it documents it.
-pub fn scratch_words(capacity: u32, degree: u32) -> u64 {
-    81_920 + 4 * capacity as u64 + 2_048 * degree as u64
+pub fn scratch_words(capacity: u32) -> u64 {
+    169_984 + capacity as u64
 }
 
 fn first(rows: &[(u32, bool)]) -> u32 {
@@ -74,7 +74,7 @@ pub fn reading(i: &Words, lent: &Lengths, marks: &[u8]) -> u32 {
 #[allow(clippy::too_many_arguments)]
 pub fn search(i: &Words, lent: &Lengths, marks: &[u8], query: usize, k: u32, beam: u32, out: [usize; 2], scratch: usize) -> u32 {
     let over = beam > 1_024 || k as usize > out[0] || k as usize > out[1];
-    let short = (scratch as u64) < scratch_words(i[1], i[2]);
+    let short = (scratch as u64) < scratch_words(i[1]);
     on_index(i, lent, marks, query != i[0] as usize, &[(7, over), (8, short)])
 }
 
