@@ -12,3 +12,9 @@ pub front-map : {A B : Type 0} (f : A → B) (xs : List A) (x : A) (l : List B) 
 front-map f xs x [] h = absurd (omega (arith, h))
 front-map f [] x (y ∷ l) h = refl
 front-map f (z ∷ xs) x (y ∷ l) h = ap (λ r. f z ∷ r) (front-map f xs x l (omega (arith, h)))
+
+-- one more, as it is
+pub front-snoc : {A : Type 0} (xs : List A) (x : A) (l : List A) → length xs < length l → set (put-front xs l) (length xs) x ≡ put-front (xs ++ (x ∷ [])) l
+front-snoc xs x [] h = absurd (omega (arith, h))
+front-snoc [] x (y ∷ l) h = refl
+front-snoc (z ∷ xs) x (y ∷ l) h = ap (λ r. z ∷ r) (front-snoc xs x l (omega (arith, h)))

@@ -12,3 +12,8 @@ pub mod Firsts
 pub mod Merging
 pub mod Members
 pub mod Front
+pub mod Ranges
+pub mod Least
+pub mod Taking
+pub mod Filtered
+pub mod Alike
