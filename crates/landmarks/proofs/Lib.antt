@@ -1,0 +1,5 @@
+pub mod Looking
+pub mod Sampling
+pub mod Drawing
+pub mod Choosing
+pub mod Selecting
