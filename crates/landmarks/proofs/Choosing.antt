@@ -28,7 +28,7 @@ comparing-none w a n =
     let g : a + 2 * 0 ≡ a = omega arith in
     record { bound = omega arith; goes = rw (e, g) }
 
-step-farther : (a c : Candidate) (cs : List Candidate) → ltb (c .dist) (a .dist) ≡ false → farthest-from a (c ∷ cs) ≡ farthest-from c cs
+pub step-farther : (a c : Candidate) (cs : List Candidate) → ltb (c .dist) (a .dist) ≡ false → farthest-from a (c ∷ cs) ≡ farthest-from c cs
 step-farther a c cs e = ap (λ (b : Bool). farthest-from (cond b a c) cs) e
 
 step-nearer : (a c : Candidate) (cs : List Candidate) → ltb (c .dist) (a .dist) ≡ true → farthest-from a (c ∷ cs) ≡ farthest-from a cs

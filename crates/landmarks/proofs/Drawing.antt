@@ -7,15 +7,15 @@ use native.Mathlib.Omega.{arith}
 use borrow.Author.Tests.{eq-eqb, ne-eqb}
 use lib.Dec.{eqb}
 use lib.ListN.{length, take, drop, getD}
-use Rattle.lists.specs.Lists.{All, filter, elem, foldl, least-of}
+use Rattle.lists.specs.Lists.{All, filter, elem, least-of}
 use Rattle.lists.proofs.All.{by-cases, all-append}
 use Rattle.lists.proofs.Filtered.{filter-all}
 use Rattle.lists.proofs.Least.{least-with, least-cons, least-min}
-use Rattle.lists.proofs.Taking.{left-cons, left-none, taken-at}
+use Rattle.lists.proofs.Taking.{left-cons, left-none}
 use Rattle.lists.proofs.Unique.{or-false-l, or-false-r}
 use Rattle.vectors.specs.Space.{Measured}
 use Rattle.candidates.specs.Candidates.{Candidate, scored}
-use Rattle.candidates.specs.Words.{pair, cand, cands, put}
+use Rattle.candidates.specs.Words.{pair, cands, put}
 use Rattle.candidates.proofs.Words.{cands-none, cands-cons, cands-put, cands-push, put-length}
 use Rattle.landmarks.specs.contracts.Samples.{far}
 use Rattle.landmarks.specs.contracts.Choices.{drawn, drawn-all, Held, Listed, Drew}

@@ -1,17 +1,16 @@
 -- The landmarks that are selected: the sample, drawn to the references, and the choice from it. Assumes nothing.
-use Prim.Native.Nat.{ℕ, _+_, _*_, _≤_, _<_}
+use Prim.Native.Nat.{ℕ, _≤_, _<_}
 use mathlib.Core.Bool.{Bool, true, false, not, _&&_, true≢false}
-use mathlib.Core.Path.{_≡_, refl, ap, sym, _∙_}
+use mathlib.Core.Path.{_≡_, refl, sym}
 use mathlib.Core.List.{List, [], _∷_}
 use native.Mathlib.Omega.{arith}
 use lib.ListN.{length, take}
 use Rattle.lists.specs.Lists.{All, filter, elem, range, least-of}
 use Rattle.lists.proofs.All.{all-map, filter-test}
 use Rattle.lists.proofs.Parts.{fits-in}
-use Rattle.vectors.specs.Vector.{Bytes}
 use Rattle.candidates.specs.Candidates.{scored}
 use Rattle.candidates.specs.Words.{cands}
-use Rattle.landmarks.specs.contracts.Samples.{far, free, on-stride, sampled, stride-of, sample-by, References, Taken}
+use Rattle.landmarks.specs.contracts.Samples.{far, free, on-stride, sampled, stride-of, sample-by, Taken}
 use Rattle.landmarks.specs.contracts.Choices.{drawn-all, chosen, landmarks-by, Held, Listed, Selectable, Drew, Appended}
 use Rattle.landmarks.proofs.Sampling.{sample-all, sample-inside}
 use Rattle.landmarks.proofs.Drawing.{drawn-sample}

@@ -5,6 +5,5 @@ mod select;
 mod staying;
 
 pub use select::select_landmarks;
-pub use staying::contains;
 pub use staying::narrow;
 pub use staying::stays;

@@ -3,7 +3,6 @@ use super::staying::contains;
 use super::staying::narrow;
 use super::staying::stays;
 use candidates::put;
-use slots::marks::wide;
 ghost use mathlib.Core.List.{_∷_};
 ghost use mathlib.Core.Path.{_≡_};
 ghost use Prim.Native.Nat.{_+_, _*_, _<_, _≤_};

@@ -3,7 +3,6 @@ use super::choose::choose;
 use super::choose::draw_all;
 use super::sample::take_sample;
 use slots::scratch::MARKS;
-ghost use mathlib.Core.Path.{_≡_};
 ghost use lib.ListN.{length, take};
 ghost use Rattle.vectors.specs.Space as Space;
 ghost use Rattle.vectors.specs.Space.{space};

@@ -7,7 +7,7 @@ use mathlib.Core.List.{List, [], _∷_, _++_}
 use native.Mathlib.Omega.{arith}
 use borrow.Author.Tests.{ltb-true, ltb-false, eqb-true}
 use lib.Dec.{eqb, ltb}
-use Rattle.lists.specs.Lists.{elem, foldl, least-from, least-of}
+use Rattle.lists.specs.Lists.{elem, foldl, least-of}
 
 module _ (m : ℕ → ℕ) where
   -- the least of k and the measures of a list

@@ -6,38 +6,27 @@ use Rattle.landmarks.proofs.Sampling.{taken-few, taken-more}
 use borrow.Author.Needs.{needs}
 use Rattle.landmarks.proofs.sample.take_sample.Statement.{statement}
 use Rattle.landmarks.proofs.sample.take_sample.Tie as tie
-use Rattle.landmarks.proofs.sample.take_sample.Reads as reads
-use Rattle.landmarks.proofs.sample.take_sample.Lts as lts
-use Rattle.landmarks.proofs.sample.sample_slots.Reads as sample-slots-reads
-use Rattle.landmarks.proofs.sample.stride_of.Reads as stride-of-reads
 
--- src/sample.rt:113:9
 stride-of-requires : tie.Need-stride-of-requires
 stride-of-requires c κs = search needs
 
--- src/sample.rt:114:9
 sample-slots-requires : tie.Need-sample-slots-requires
 sample-slots-requires c κs = search needs
 
--- src/sample.rt:116:9
 sample-slots-requires-2 : tie.Need-sample-slots-requires-2
 sample-slots-requires-2 c κs = search needs
 
--- src/sample.rt:116:9
 same-length : tie.Need-same-length
 same-length c = c .before .before .sample-slots2 .ensures .size ∙ c .before .before .before .before .before .before .before .sample-slots .ensures .size
 
--- src/sample.rt:116:9
 returns : tie.Need-returns
 returns c =
     let a = c .before .before .before .before .before .before .before .before .before .before .before .before .before .before .args in
     taken-more (free (remains (a .marks .now) (a .ids .now)) (a .entry ∷ take (a .kept) (a .list .now))) (c .before .before .before .before .before .before .before .before .before .stride-of .ensures) (c .before .before .before .before .before .before .before .sample-slots .ensures) (c .before .before .before .before .before .before .before .before .before .before .before .before .before .before .pre .3) (c .before .before .before .before .before .before .before .before .before .before .before .before .before .before .pre .4) (c .before .before .before .before .if1 .taken) (c .before .before .sample-slots2 .ensures)
 
--- src/sample.rt:99:1
 same-length-2 : tie.Need-same-length-2
 same-length-2 c = c .before .before .before .sample-slots .ensures .size
 
--- src/sample.rt:99:1
 returns-2 : tie.Need-returns-2
 returns-2 c =
     let a = c .before .before .before .before .before .before .before .before .before .before .args in

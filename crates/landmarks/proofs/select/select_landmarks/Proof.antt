@@ -5,45 +5,32 @@ use Rattle.landmarks.proofs.Selecting.{selectable-entry, selectable-lis
 use borrow.Author.Needs.{needs}
 use Rattle.landmarks.proofs.select.select_landmarks.Statement.{statement}
 use Rattle.landmarks.proofs.select.select_landmarks.Tie as tie
-use Rattle.landmarks.proofs.select.select_landmarks.Reads as reads
-use Rattle.landmarks.proofs.select.select_landmarks.Lts as lts
-use Rattle.landmarks.proofs.choose.choose.Reads as choose-reads
-use Rattle.landmarks.proofs.choose.draw_all.Reads as draw-all-reads
-use Rattle.landmarks.proofs.sample.take_sample.Reads as take-sample-reads
 
--- src/select.rt:31:9
 returns : tie.Need-returns
 returns c =
     let a = c .before .before .before .before .before .before .args in
     selected-none (c .before .before .before .before .before .before .pre) (slot-distance (space (a .dim) (a .vectors .now))) (remains (a .marks .now) (a .ids .now)) (c .if1 .taken)
 
--- src/select.rt:33:13
 add-a : tie.Need-add-a
 add-a c = search needs
 
--- src/select.rt:34:9
 take-sample-requires : tie.Need-take-sample-requires
 take-sample-requires c κs = search needs
 
--- src/select.rt:35:9
 draw-all-requires : tie.Need-draw-all-requires
 draw-all-requires c κs = let p = c .before .before .before .before .before .before .before .before .before .before .before .before .before .pre in (taken-listed p (c .before .before .before .before .take-sample .ensures), selectable-entry p, p .references .within, selectable-list p)
 
--- src/select.rt:36:5
 choose-requires : tie.Need-choose-requires
 choose-requires c κs =
     let a = c .before .before .before .before .before .before .before .before .before .before .before .before .before .before .before .before .before .before .args in
     (drawn-listed (c .before .before .before .before .before .before .before .before .before .before .before .before .before .before .before .before .before .before .pre) (slot-distance (space (a .dim) (a .vectors .now))) (remains (a .marks .now) (a .ids .now)) (c .before .before .before .before .before .before .before .before .before .take-sample .ensures) (c .before .before .before .before .draw-all .ensures), c .before .before .before .before .before .before .before .before .before .before .before .before .before .before .before .before .before .before .pre .list-long)
 
--- src/select.rt:15:1
 same-length : tie.Need-same-length
 same-length c = c .before .before .before .before .choose .kept .1 .1 .1 .0
 
--- src/select.rt:15:1
 same-length-2 : tie.Need-same-length-2
 same-length-2 c = c .before .before .before .before .choose .kept .1 .1 .1 .1 .1 .0 ∙ c .before .before .before .before .before .before .before .before .before .draw-all .ensures .size ∙ c .before .before .before .before .before .before .before .before .before .before .before .before .before .before .take-sample .ensures .size
 
--- src/select.rt:15:1
 returns-2 : tie.Need-returns-2
 returns-2 c =
     let a = c .before .before .before .before .before .before .before .before .before .before .before .before .before .before .before .before .before .before .before .before .before .before .before .args in
