@@ -1,0 +1,3 @@
+pub mod Pools
+pub mod Trials
+pub mod Reports
