@@ -3,3 +3,4 @@ pub mod Tests
 pub mod History
 pub mod Runs
 pub mod Instances
+pub mod Enabling
