@@ -1,6 +1,7 @@
 -- Of the candidates before `i` the farthest is the pair of `best` and `id`.
 use Prim.Native.Nat.{_-_}
 use mathlib.Core.Logic.{⊎-elim}
+use native.Mathlib.Omega.{arith}
 use borrow.Author.Needs.{needs}
 use Rattle.landmarks.proofs.Choosing.{Comparing, comparing-none, comparing-farther, comparing-nearer, comparing-done}
 use Rattle.landmarks.proofs.choose.farthest_id.Statement.{statement}
@@ -32,7 +33,7 @@ loop-again c =
     let l = c .before .before .before .loop .inv in
     let h = c .before .before .loop-test .taken in
     ⊎-elim
-    (λ w. rw (w .2, w .3) (comparing-farther l h (c .before .dist-at .ensures) (w .1 .ensures) (w .0 .taken)))
+    (λ w. rw (w .2, w .3) (comparing-farther l h (c .before .dist-at .ensures) (w .1 .ensures) (omega (arith, w .0 .taken))))
     (λ w. rw (w .1, w .2) (comparing-nearer l h (c .before .dist-at .ensures) (w .0 .left)))
     (c .if1 .came)
 
