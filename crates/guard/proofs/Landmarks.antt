@@ -23,6 +23,8 @@ use Rattle.landmarks.specs.contracts.Choices as Choices
 use Rattle.landmarks.proofs.Drawing.{drawn-scored, scored-among}
 use Rattle.landmarks.proofs.Choosing.{step-farther}
 use Rattle.guard.specs.Guard.{greatest-from, stays, eligible, sample, farthest, select-landmarks}
+-- so that the examples are checked first
+use Rattle.guard.proofs.Cases
 
 -- ---- the references
 -- the entry, where it is not one of the others, stands behind them
