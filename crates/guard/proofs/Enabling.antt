@@ -1,7 +1,7 @@
 -- Row 13 of the table: with a live slot, the landmark pool that enabling chooses is empty exactly where one slot is live (docs/DECISIONS.md, D-23).
 -- Assumes nothing.
-use Prim.Native.Nat.{ℕ, zero, suc, _+_, _%_, _<_}
-use mathlib.Core.Bool.{Bool, true, false, not, _&&_, _||_, cond}
+use Prim.Native.Nat.{ℕ, zero, suc, _+_, _%_, _≤_, _<_}
+use mathlib.Core.Bool.{Bool, true, false, not, _&&_, cond, and-true, or-false}
 use mathlib.Core.Path.{_≡_, refl, ap, sym, _∙_}
 use mathlib.Core.List.{List, [], _∷_, _++_}
 use mathlib.Core.Option.{some}
@@ -15,9 +15,11 @@ use Rattle.lists.proofs.Filtered.{count-cons, count-without}
 use Rattle.lists.proofs.Firsts.{filter-same}
 use Rattle.lists.proofs.Ranges.{filtered-below, times-once}
 use Rattle.vectors.specs.Space.{slot-distance}
-use Rattle.slots.specs.View.{View, live-slots}
+use Rattle.slots.specs.View.{View, live-slots, emptied}
+use Rattle.slots.specs.Store.{Store, store-view}
 use Rattle.landmarks.specs.contracts.Samples.{free, sampled, stride-of, sample-by}
 use Rattle.guard.specs.Guard.{Config, greatest-from, normalized, stays, sample, farthest, select-landmarks, residual-entry, landmark-pool}
+use Rattle.guard.specs.contracts.Pools.{or-blank, Entered}
 use Rattle.guard.proofs.Landmarks.{sample-view}
 
 -- ---- how many are sampled
@@ -68,13 +70,7 @@ module _ (v : View) where
 
   -- live, and not the slot e
   left-of : (e : ℕ) → filter (free (stays v []) (e ∷ [])) slots ≡ filter (λ s. v .live s && not (eqb s e)) slots
-  left-of e = filter-same (free (stays v []) (e ∷ [])) (λ s. v .live s && not (eqb s e)) (λ s. same (v .live s) (eqb s e)) slots
-    where
-      same : (a b : Bool) → ((a && not false) && not (b || false)) ≡ (a && not b)
-      same true true = refl
-      same true false = refl
-      same false true = refl
-      same false false = refl
+  left-of e = filter-same (free (stays v []) (e ∷ [])) (λ s. v .live s && not (eqb s e)) (λ s. rw (and-true (v .live s), or-false (eqb s e))) slots
 
   module _ (e : ℕ) (live : v .live e ≡ true) (inside : e < v .sizes .capacity) where
     live-count : length (live-slots v) ≡ length (filter (free (stays v []) (e ∷ [])) slots) + 1
@@ -109,12 +105,8 @@ module _ (v : View) where
   unfolding residual-entry
   enters h k = go (v .live (v .entry)) refl (filter (stays v []) slots) refl
     where
-      same : (a : Bool) → (a && not false) ≡ a
-      same true = refl
-      same false = refl
-
       all : filter (stays v []) slots ≡ live-slots v
-      all = filter-same (stays v []) (v .live) (λ s. same (v .live s)) slots
+      all = filter-same (stays v []) (v .live) (λ s. and-true (v .live s)) slots
 
       good : All (λ s. (v .live s ≡ true) × (s < v .sizes .capacity)) (live-slots v)
       good = all-both _ _ (live-slots v) (filter-test (v .live) slots) (filtered-below (v .live) (v .sizes .capacity))
@@ -125,3 +117,12 @@ module _ (v : View) where
       go false e (s ∷ l) g =
           let a = rw (sym all ∙ g) at good in
           record { slot = s; is = rw (e, g); live = a .0 .0; inside = a .0 .1 }
+
+-- what enabling finds: a slot inside
+pub entered-live : (b : Store) {marks : List ℕ} {entry start : ℕ} → Entered marks [] entry start → b .arrays .marks ≡ marks → b .capacity ≡ length marks → b .entry ≡ entry
+    → length marks ≤ 65536 → entry < length marks → 0 < length (live-slots (store-view b)) → (residual-entry (store-view b) [] ≡ some start) × (start < length marks)
+unfolding store-view emptied
+entered-live b {marks} {entry} {start} f x y z few inside live =
+    let e = enters (store-view b) (omega (arith, y, z)) live in
+    let s : start ≡ e .slot = f .does b x y z ∙ ap or-blank (e .is) in
+    (rw s (e .is), omega (arith, s, y, e .inside))

@@ -1,13 +1,15 @@
 -- The residual entry: the entry, or the first slot that stays. Assumes nothing.
 use Prim.Native.Nat.{ℕ, _+_, _-_, _≤_, _<_}
-use mathlib.Core.Bool.{Bool, true, false, not, _&&_, cond, true≢false}
+use mathlib.Core.Bool.{Bool, true, false, not, cond}
 use mathlib.Core.Path.{_≡_, refl, ap, sym, _∙_}
 use mathlib.Core.List.{List, [], _∷_}
 use mathlib.Core.Option.{Option, none, some}
 use native.Mathlib.Omega.{arith}
+use borrow.Author.Tests.{not-true}
 use lib.ListN.{length}
 use Rattle.lists.specs.Lists.{All, filter, elem, range}
 use Rattle.lists.proofs.All.{filter-test}
+use Rattle.lists.proofs.Bools.{and-both}
 use Rattle.lists.proofs.Ranges.{range-cons, range-none}
 use Rattle.slots.specs.View.{View, emptied}
 use Rattle.slots.specs.Store.{Store, blank, is-valid, store-view}
@@ -64,24 +66,15 @@ module _ (marks ids : List ℕ) (entry : ℕ) {u : Bool} (v : u ≡ remains mark
     passing-done h = entered marks ids entry (rw (not-kept, ← f .goes, range-none (length marks) s h)) (λ n. absurd (n refl))
 
 -- ---- a slot that stays
-and-left : (a b : Bool) → (a && b) ≡ true → a ≡ true
-and-left true b e = refl
-and-left false b e = e
-
-and-right : (a b : Bool) → (a && not b) ≡ true → b ≡ false
-and-right true true e = sym e
-and-right true false e = refl
-and-right false b e = absurd (true≢false (sym e))
-
 module _ (marks out : List ℕ) (s : ℕ) (e : remains marks out s ≡ true) where
   pub remains-live : is-valid marks s ≡ true
-  remains-live = and-left (is-valid marks s) (not (elem s out)) e
+  remains-live = and-both (is-valid marks s) (not (elem s out)) e .0
 
   pub remains-inside : s < length marks
   remains-inside = live-inside marks s remains-live
 
   pub remains-out : elem s out ≡ false
-  remains-out = and-right (is-valid marks s) (elem s out) e
+  remains-out = not-true (elem s out) (and-both (is-valid marks s) (not (elem s out)) e .1)
 
 -- ---- the residual entry of a view: none, or a slot that stays
 pub data Entry (p : ℕ → Bool) (o : Option ℕ) : Type 0 where

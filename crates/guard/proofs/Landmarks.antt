@@ -1,6 +1,6 @@
 -- The landmarks that are selected by least distances that each sampled slot keeps are those of the definition. Assumes nothing.
 use Prim.Native.Nat.{ℕ, zero, suc, _%_, min}
-use mathlib.Core.Bool.{Bool, true, false, not, _&&_, _||_, cond}
+use mathlib.Core.Bool.{Bool, true, false, not, _&&_, _||_, cond, and-assoc, or-comm}
 use mathlib.Core.Path.{_≡_, refl, ap, sym, _∙_}
 use mathlib.Core.List.{List, [], _∷_, _++_}
 use native.Mathlib.Omega.{arith}
@@ -34,19 +34,13 @@ references entry existing = cond (elem entry existing) existing (existing ++ (en
 elem-references : (s entry : ℕ) (existing : List ℕ) → elem s (references entry existing) ≡ elem s (entry ∷ existing)
 elem-references s entry existing = go (elem entry existing) refl
   where
-    both : (a b : Bool) → (a || b) ≡ (b || a)
-    both true true = refl
-    both true false = refl
-    both false true = refl
-    both false false = refl
-
     one : (b : Bool) → eqb s entry ≡ b → elem entry existing ≡ true → elem s existing ≡ (b || elem s existing)
     one true e h = rw (eqb-true s entry e) h
     one false e h = refl
 
     go : (b : Bool) → elem entry existing ≡ b → elem s (cond b existing (existing ++ (entry ∷ []))) ≡ (eqb s entry || elem s existing)
     go true h = one (eqb s entry) refl h
-    go false h = elem-snoc s existing entry ∙ both (elem s existing) (eqb s entry)
+    go false h = elem-snoc s existing entry ∙ or-comm (elem s existing) (eqb s entry)
 
 least-references : (m : ℕ → ℕ) (entry : ℕ) (existing : List ℕ) → least-of m (entry ∷ existing) ≡ least-of m (references entry existing)
 least-references m entry [] = refl
@@ -109,10 +103,6 @@ module _ (v : View) (deleted : List ℕ) where
   chosen-from n l xs f = rw (f .is) (chosen-farthest n (f .head) (f .tail) xs)
 
 -- ---- the sample
-and-assoc : (a b c : Bool) → ((a && b) && c) ≡ (a && (b && c))
-and-assoc true b c = refl
-and-assoc false b c = refl
-
 -- what is not in the strided part, and stays, is off the stride
 off-stride : (a b c : Bool) → ((not (a && (b && c)) && b) && c) ≡ (not a && (b && c))
 off-stride true true true = refl

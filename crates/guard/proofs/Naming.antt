@@ -2,7 +2,7 @@
 use Prim.Native.Nat.{ℕ, _+_, _-_, _≤_, _<_}
 use mathlib.Core.Bool.{Bool, true, false, not, _&&_, _||_, cond}
 use mathlib.Core.Path.{_≡_, refl, ap, _∙_}
-use mathlib.Core.List.{List, [], _∷_, _++_, map, append-nil}
+use mathlib.Core.List.{List, [], _∷_, _++_, map, map-id, append-nil}
 use native.Mathlib.Numerals.{add-one}
 use native.Mathlib.Omega.{arith}
 use borrow.Author.Tests.{eqb-true}
@@ -10,7 +10,7 @@ use lib.Dec.{eqb}
 use lib.ListN.{length, take, drop, getD, drop-of-length-le}
 use lib.Seq.{take-suc, drop-cons}
 use Rattle.lists.specs.Lists.{filter, elem, distinct-by, sorted-set}
-use Rattle.lists.proofs.Alike.{self, map-self, sorted-many}
+use Rattle.lists.proofs.Alike.{self, sorted-many}
 use Rattle.lists.proofs.Filter.{filter-every}
 use Rattle.lists.proofs.Filtered.{filter-snoc}
 use Rattle.lists.proofs.Firsts.{filter-same, fresh, fresh-first, fresh-again}
@@ -42,7 +42,7 @@ fresh-met ks y l e = filter-same _ _ (λ z. ap not (same z)) l
     one z false i = or-false (elem z ks)
 
     same : (z : ℕ) → elem z (map self (ks ++ (y ∷ []))) ≡ elem z (map self ks)
-    same z = rw (map-self (ks ++ (y ∷ [])), map-self ks, elem-snoc z ks y) (one z (eqb z y) refl)
+    same z = rw (map-id (ks ++ (y ∷ [])), map-id ks, elem-snoc z ks y) (one z (eqb z y) refl)
 
 module _ {p : ℕ → Bool} {ids : List ℕ} {c i : ℕ} (f : Naming p ids c i) where
   naming-by : (h : i < length ids) (a b : Bool) → p (getD ids i 0) ≡ a → elem (getD ids i 0) (take i ids) ≡ b
@@ -60,7 +60,7 @@ module _ {p : ℕ → Bool} {ids : List ℕ} {c i : ℕ} (f : Naming p ids c i) 
       z = rw (add-one, drop-cons ids i 0 h)
 
       among : (v : Bool) → elem (getD ids i 0) (take i ids) ≡ v → elem (getD ids i 0) (map self (met p ids i)) ≡ v
-      among v q = ap (elem (getD ids i 0)) (map-self (met p ids i)) ∙ elem-filter p (getD ids i 0) e (take i ids) ∙ q
+      among v q = ap (elem (getD ids i 0)) (map-id (met p ids i)) ∙ elem-filter p (getD ids i 0) e (take i ids) ∙ q
 
       was : c + length (fresh self (met p ids i) (distinct-by self (getD ids i 0 ∷ filter p (drop (i + 1) ids)))) ≡ length (distinct-by self (filter p ids))
       was = rw (z, e) at (f .goes)

@@ -14,7 +14,7 @@ use Rattle.lists.proofs.Front.{front-snoc}
 use Rattle.candidates.specs.Candidates.{Candidate}
 use Rattle.candidates.specs.Words.{pair, cand, cands}
 use Rattle.candidates.proofs.Words.{cands-none, cands-cons, cands-length}
-use Rattle.landmarks.specs.contracts.Choices.{farthest-from, farthest, drawn, chosen, Held, Listed, Drew, Appended}
+use Rattle.landmarks.specs.contracts.Choices.{farthest-from, farthest, drawn, chosen, HasVector, Listed, Drew, Appended}
 use Rattle.landmarks.proofs.Drawing.{all-drawn, drew-listed}
 
 -- ---- the farthest: of the candidates before place i it is the pair of best and id
@@ -69,8 +69,8 @@ farthest-in P [] h k = absurd (omega arith)
 farthest-in P (c ∷ cs) h k =
     subst (λ (x : Candidate). P (x .id)) (sym (step-farther (pair 0 0) c cs (le-ltb (c .dist) 0 (omega arith)))) (farthest-all (λ c. P (c .id)) c cs (k .0) (k .1))
 
-pub farthest-held : {dim : ℕ} {vectors : List ℕ} {a : ℕ} {w : List ℕ} {m next : ℕ} → Listed dim vectors a w m → (m ≡ 0 → ⊥) → next ≡ farthest (cands w a m) → Held dim vectors next
-farthest-held {dim} {vectors} {a} {w} {m} f h e = rw e (farthest-in (Held dim vectors) (cands w a m) (omega (arith, cands-length w a m, h)) (f .held))
+pub farthest-inside : {dim : ℕ} {vectors : List ℕ} {a : ℕ} {w : List ℕ} {m next : ℕ} → Listed dim vectors a w m → (m ≡ 0 → ⊥) → next ≡ farthest (cands w a m) → HasVector dim vectors next
+farthest-inside {dim} {vectors} {a} {w} {m} f h e = rw e (farthest-in (HasVector dim vectors) (cands w a m) (omega (arith, cands-length w a m, h)) (f .inside))
 
 -- ---- k landmarks are chosen, m candidates left
 pub record Choosing (dim : ℕ) (vectors : List ℕ) (d : ℕ → ℕ → ℕ) (wanted at a n : ℕ) (l₀ w₀ l w : List ℕ) (m k : ℕ) : Type 0 where

@@ -18,7 +18,7 @@ use Rattle.candidates.specs.Candidates.{Candidate, scored}
 use Rattle.candidates.specs.Words.{pair, cands, put}
 use Rattle.candidates.proofs.Words.{cands-none, cands-cons, cands-put, cands-push, put-length}
 use Rattle.landmarks.specs.contracts.Samples.{far}
-use Rattle.landmarks.specs.contracts.Choices.{drawn, drawn-all, Held, Listed, Drew}
+use Rattle.landmarks.specs.contracts.Choices.{drawn, drawn-all, HasVector, Listed, Drew}
 
 pub all-drawn : (P : ℕ → Type 0) (d : ℕ → ℕ → ℕ) (next : ℕ) (cs : List Candidate) → All (λ c. P (c .id)) cs → All (λ c. P (c .id)) (drawn d next cs)
 all-drawn P d next [] h = tt
@@ -31,7 +31,7 @@ pub record Drawing (dim : ℕ) (vectors : List ℕ) (d : ℕ → ℕ → ℕ) (n
   pub within : m ≤ k
   pub bound : k ≤ n
   pub goes : cands w a m ++ drawn d next (cands w (a + 2 * k) (n - k)) ≡ drawn d next (cands w₀ a n)
-  pub held : All (λ c. Held dim vectors (c .id)) (cands w (a + 2 * k) (n - k))
+  pub inside : All (λ c. HasVector dim vectors (c .id)) (cands w (a + 2 * k) (n - k))
   pub near : All (λ c. c .dist ≤ 16646400) (cands w a m)
   pub size : length w ≡ length w₀
 
@@ -40,11 +40,11 @@ pub drawing-none : {dim : ℕ} {vectors : List ℕ} (d : ℕ → ℕ → ℕ) (n
 drawing-none d next {a} {w} {n} f =
     let e : n - 0 ≡ n = omega arith in
     let g : a + 2 * 0 ≡ a = omega arith in
-    record { within = omega arith; bound = omega arith; goes = rw (cands-none w a 0 refl, e, g); held = rw (e, g) (f .held); near = rw (cands-none w a 0 refl) tt; size = refl }
+    record { within = omega arith; bound = omega arith; goes = rw (cands-none w a 0 refl, e, g); inside = rw (e, g) (f .inside); near = rw (cands-none w a 0 refl) tt; size = refl }
 
 module _ {dim : ℕ} {vectors : List ℕ} {d : ℕ → ℕ → ℕ} {next a : ℕ} {w₀ : List ℕ} {n : ℕ} {w : List ℕ} {m k : ℕ} (f : Drawing dim vectors d next a w₀ n w m k) where
-  pub drawing-held : {id s : ℕ} → k < n → id ≡ getD w (a + 2 * k + 1) 0 → s ≡ id → Held dim vectors s
-  drawing-held h e g = rw (g, e) ((rw (cands-cons w a n k h) at (f .held)) .0)
+  pub drawing-inside : {id s : ℕ} → k < n → id ≡ getD w (a + 2 * k + 1) 0 → s ≡ id → HasVector dim vectors s
+  drawing-inside h e g = rw (g, e) ((rw (cands-cons w a n k h) at (f .inside)) .0)
 
   pub drawing-take : {dist id y x s t : ℕ} → a + 2 * n ≤ length w₀ → k < n → dist ≡ getD w (a + 2 * k) 0 → id ≡ getD w (a + 2 * k + 1) 0 → (id ≡ next → ⊥)
       → s ≡ id → t ≡ next → Measured (d s t) y → x ≡ min dist y → Drawing dim vectors d next a w₀ n (put w (a + 2 * m) x id) (m + 1) (k + 1)
@@ -59,7 +59,7 @@ module _ {dim : ℕ} {vectors : List ℕ} {d : ℕ → ℕ → ℕ} {next a : �
         within = omega (arith, f .within);
         bound = omega arith;
         goes = rw (cands-push w x id a m i, append-assoc, o, x-is, g) (rw (cands-cons w a n k h, z) at (f .goes));
-        held = rw o ((rw (cands-cons w a n k h) at (f .held)) .1);
+        inside = rw o ((rw (cands-cons w a n k h) at (f .inside)) .1);
         near = rw (cands-push w x id a m i) (all-append (λ c. c .dist ≤ 16646400) (cands w a m) (pair x id ∷ []) (f .near) (small, tt));
         size = put-length w (a + 2 * m) x id ∙ f .size;
       }
@@ -71,7 +71,7 @@ module _ {dim : ℕ} {vectors : List ℕ} {d : ℕ → ℕ → ℕ} {next a : �
         within = omega (arith, f .within);
         bound = omega arith;
         goes = rw (cands-cons w a n k h, z) at (f .goes);
-        held = (rw (cands-cons w a n k h) at (f .held)) .1;
+        inside = (rw (cands-cons w a n k h) at (f .inside)) .1;
         near = f .near;
         size = f .size;
       }
@@ -85,7 +85,7 @@ module _ {dim : ℕ} {vectors : List ℕ} {d : ℕ → ℕ → ℕ} {next a : �
 pub drew-listed : {dim : ℕ} {vectors : List ℕ} (d : ℕ → ℕ → ℕ) (next : ℕ) {a : ℕ} {w : List ℕ} {n : ℕ} {w′ : List ℕ} {r : ℕ} → Listed dim vectors a w n
     → Drew w a n (drawn d next (cands w a n)) w′ r → Listed dim vectors a w′ r
 drew-listed {dim} {vectors} d next {a} {w} {n} f g =
-    record { small = f .small; room = omega (arith, f .room, g .within, g .size); held = rw (g .list) (all-drawn (Held dim vectors) d next (cands w a n) (f .held)) }
+    record { small = f .small; room = omega (arith, f .room, g .within, g .size); inside = rw (g .list) (all-drawn (HasVector dim vectors) d next (cands w a n) (f .inside)) }
 
 -- ---- all references: those of the first k before place i have drawn near
 pub record Drawing-all (dim : ℕ) (vectors : List ℕ) (d : ℕ → ℕ → ℕ) (l : List ℕ) (k a : ℕ) (w₀ : List ℕ) (n : ℕ) (w : List ℕ) (m i : ℕ) : Type 0 where

@@ -13,7 +13,7 @@ ghost use Rattle.lists.specs.Lists.{All};
 ghost use Rattle.vectors.specs.Space as Space;
 ghost use Rattle.vectors.specs.Space.{space};
 ghost use Rattle.candidates.specs.Words.{cands};
-ghost use Rattle.landmarks.specs.contracts.Choices.{farthest, drawn, drawn-all, chosen, Held, Listed, Drew, Appended};
+ghost use Rattle.landmarks.specs.contracts.Choices.{farthest, drawn, drawn-all, chosen, HasVector, Listed, Drew, Appended};
 
 // The lesser of two distances.
 fn lesser(a: u32, b: u32) -> u32
@@ -43,7 +43,7 @@ fn farthest_id(words: &[u32], a: usize, n: usize) -> u32
 
 // Slot `next` becomes a reference: it leaves the `n` candidates at `a`, and the others' least distances fall. Returns how many are left.
 fn draw_near(dim: usize, vectors: &[u8], next: u32, words: &mut [u32], a: usize, n: usize) -> usize
-    requires { ⌜ Listed dim (now vectors) a (now words) n × Held dim (now vectors) next ⌝ }
+    requires { ⌜ Listed dim (now vectors) a (now words) n × HasVector dim (now vectors) next ⌝ }
     ensures { λ r. ⌜ Drew (now (words .entry)) a n (drawn (Space.slot-distance (space dim (now (vectors .entry)))) next (cands (now (words .entry)) a n)) (now (words .exit)) r ⌝ }
 {
     let mut m: usize = 0;
@@ -72,7 +72,7 @@ pub fn draw_all(
     a: usize,
     n: usize,
 ) -> usize
-    requires { ⌜ Listed dim (now vectors) a (now words) n × Held dim (now vectors) entry × (kept ≤ length (now list)) × All (Held dim (now vectors)) (take kept (now list)) ⌝ }
+    requires { ⌜ Listed dim (now vectors) a (now words) n × HasVector dim (now vectors) entry × (kept ≤ length (now list)) × All (HasVector dim (now vectors)) (take kept (now list)) ⌝ }
     ensures { λ r. ⌜ Drew (now (words .entry)) a n (drawn-all (Space.slot-distance (space dim (now (vectors .entry)))) (entry ∷ take kept (now (list .entry))) (cands (now (words .entry)) a n)) (now (words .exit)) r ⌝ }
 {
     let mut m = draw_near(dim, vectors, entry, words, a, n);

@@ -3,7 +3,7 @@
 use Prim.Native.Nat.{ℕ, suc}
 use mathlib.Core.Bool.{Bool, true, false, not, _&&_, _||_, cond, true≢false}
 use mathlib.Core.Path.{_≡_, refl, ap, sym, _∙_, subst}
-use mathlib.Core.List.{List, [], _∷_, map}
+use mathlib.Core.List.{List, [], _∷_, map-id}
 use borrow.Author.Tests.{eqb-true, eq-eqb}
 use lib.Dec.{eqb, ltb}
 use lib.ListN.{length}
@@ -14,16 +14,11 @@ use Rattle.lists.proofs.Unique.{Unique, unique-filter, unique-distinct,
 abbrev pub self : ℕ → ℕ
 self x = x
 
--- a list is the list of its own keys
-pub map-self : (l : List ℕ) → map self l ≡ l
-map-self [] = refl
-map-self (x ∷ l) = ap (λ (m : List ℕ). x ∷ m) (map-self l)
-
 unique-left : (p : ℕ → Bool) (l : List ℕ) → Unique l → Unique (filter p l)
-unique-left p l u = subst Unique (map-self (filter p l)) (unique-filter self p l (subst Unique (sym (map-self l)) u))
+unique-left p l u = subst Unique (map-id (filter p l)) (unique-filter self p l (subst Unique (sym (map-id l)) u))
 
 unique-firsts : (l : List ℕ) → Unique (distinct-by self l)
-unique-firsts l = subst Unique (map-self (distinct-by self l)) (unique-distinct self l)
+unique-firsts l = subst Unique (map-id (distinct-by self l)) (unique-distinct self l)
 
 -- ---- a list without one of its elements
 abbrev without : ℕ → List ℕ → List ℕ

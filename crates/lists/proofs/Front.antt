@@ -1,7 +1,7 @@
 -- A list whose first elements are replaced, one by one. Assumes nothing.
 use Prim.Native.Nat.{_<_}
 use mathlib.Core.Path.{_≡_, refl, ap}
-use mathlib.Core.List.{List, [], _∷_, _++_, map}
+use mathlib.Core.List.{List, [], _∷_, _++_, map, map-id}
 use native.Mathlib.Omega.{arith}
 use lib.ListN.{length, set}
 use Rattle.lists.specs.Lists.{put-front}
@@ -15,6 +15,4 @@ front-map f (z ∷ xs) x (y ∷ l) h = ap (λ r. f z ∷ r) (front-map f xs x l 
 
 -- one more, as it is
 pub front-snoc : {A : Type 0} (xs : List A) (x : A) (l : List A) → length xs < length l → set (put-front xs l) (length xs) x ≡ put-front (xs ++ (x ∷ [])) l
-front-snoc xs x [] h = absurd (omega (arith, h))
-front-snoc [] x (y ∷ l) h = refl
-front-snoc (z ∷ xs) x (y ∷ l) h = ap (λ r. z ∷ r) (front-snoc xs x l (omega (arith, h)))
+front-snoc {A} xs x l h = rw (map-id xs, map-id (xs ++ (x ∷ []))) at (front-map (λ (y : A). y) xs x l h)

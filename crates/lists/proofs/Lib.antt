@@ -17,3 +17,4 @@ pub mod Least
 pub mod Taking
 pub mod Filtered
 pub mod Alike
+pub mod Bools

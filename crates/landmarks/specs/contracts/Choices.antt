@@ -47,14 +47,14 @@ module _ (d : ℕ → ℕ → ℕ) where
 
 -- ---- what the functions ask
 -- the bytes hold the vector of slot s
-abbrev pub Held : ℕ → List ℕ → ℕ → Type 0
-Held dim vectors s = s * dim + dim ≤ length vectors
+abbrev pub HasVector : ℕ → List ℕ → ℕ → Type 0
+HasVector dim vectors s = s * dim + dim ≤ length vectors
 
 -- n candidates at a whose vectors the bytes hold
 pub record Listed (dim : ℕ) (vectors : List ℕ) (a : ℕ) (w : List ℕ) (n : ℕ) : Type 0 where
   pub small : dim ≤ 256
   pub room : a + 2 * n ≤ length w
-  pub held : All (λ c. Held dim vectors (c .id)) (cands w a n)
+  pub inside : All (λ c. HasVector dim vectors (c .id)) (cands w a n)
 
 -- slices that belong together; room behind the first `kept` of the list, and for the sample in the work region of the scratch
 pub record Selectable (dim : ℕ) (vectors marks : List ℕ) (entry wanted sample : ℕ) (list : List ℕ) (kept : ℕ) (w : List ℕ) : Type 0 where

@@ -1,7 +1,7 @@
 use Prim.Native.Nat.{_-_}
 use native.Mathlib.Omega.{arith}
 use Rattle.vectors.specs.Space.{slot-distance, space}
-use Rattle.landmarks.proofs.Choosing.{Choosing, farthest-held, choosing-none, choosing-more, choosing-empty, choosing-done}
+use Rattle.landmarks.proofs.Choosing.{Choosing, farthest-inside, choosing-none, choosing-more, choosing-empty, choosing-done}
 use Rattle.landmarks.proofs.choose.choose.Statement.{statement}
 use Rattle.landmarks.proofs.choose.choose.Tie as tie
 
@@ -36,7 +36,7 @@ slice-write-list : tie.Need-slice-write-list Inv-loop μ-loop
 slice-write-list c = omega (arith, c .before .before .before .before .before .before .before .before .pre .1, c .before .before .before .before .loop .inv .list-size)
 
 draw-near-requires : tie.Need-draw-near-requires Inv-loop μ-loop
-draw-near-requires c κs = (c .before .before .before .before .before .loop .inv .listed, farthest-held (c .before .before .before .before .before .loop .inv .listed) (c .before .before .before .if1 .left) (c .before .farthest-id .ensures))
+draw-near-requires c κs = (c .before .before .before .before .before .loop .inv .listed, farthest-inside (c .before .before .before .before .before .loop .inv .listed) (c .before .before .before .if1 .left) (c .before .farthest-id .ensures))
 
 add-k : tie.Need-add-k Inv-loop μ-loop
 add-k c = omega (arith, c .before .before .before .before .before .before .before .before .before .before .before .before .pre .1)

@@ -3,7 +3,7 @@ use mathlib.Core.Path.{refl, _∙_}
 use native.Mathlib.Omega.{arith}
 use Rattle.lists.proofs.Taking.{taken-at}
 use Rattle.vectors.specs.Space.{slot-distance, space}
-use Rattle.landmarks.specs.contracts.Choices.{Held}
+use Rattle.landmarks.specs.contracts.Choices.{HasVector}
 use Rattle.landmarks.proofs.Drawing.{Drawing-all, drawing-first, drawing-next, drawn-done}
 use Rattle.landmarks.proofs.choose.draw_all.Statement.{statement}
 use Rattle.landmarks.proofs.choose.draw_all.Tie as tie
@@ -27,7 +27,7 @@ shared-slice-read-draw-near : tie.Need-shared-slice-read-draw-near Inv-loop μ-l
 shared-slice-read-draw-near c = omega (arith, c .before .before .before .before .before .before .before .before .before .before .pre .2)
 
 draw-near-requires-2 : tie.Need-draw-near-requires-2 Inv-loop μ-loop
-draw-near-requires-2 c κs = (c .before .before .before .loop .inv .listed, taken-at (Held (c .before .before .before .before .before .before .before .before .before .before .before .args .dim) (c .before .before .before .before .before .before .before .before .before .before .before .args .vectors .now)) (c .before .before .before .before .before .before .before .before .before .before .before .args .list .now) (c .before .before .before .before .before .before .before .before .before .before .before .args .kept) _ (c .before .before .before .before .before .before .before .before .before .before .before .pre .2) (c .before .before .before .before .before .before .before .before .before .before .before .pre .3) (c .before .before .loop-test .taken))
+draw-near-requires-2 c κs = (c .before .before .before .loop .inv .listed, taken-at (HasVector (c .before .before .before .before .before .before .before .before .before .before .before .args .dim) (c .before .before .before .before .before .before .before .before .before .before .before .args .vectors .now)) (c .before .before .before .before .before .before .before .before .before .before .before .args .list .now) (c .before .before .before .before .before .before .before .before .before .before .before .args .kept) _ (c .before .before .before .before .before .before .before .before .before .before .before .pre .2) (c .before .before .before .before .before .before .before .before .before .before .before .pre .3) (c .before .before .loop-test .taken))
 
 add-i : tie.Need-add-i Inv-loop μ-loop
 add-i c = omega (arith, c .before .before .before .before .before .before .before .before .before .before .before .before .before .before .pre .2)

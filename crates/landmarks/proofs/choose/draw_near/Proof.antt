@@ -3,7 +3,7 @@ use mathlib.Core.Logic.{⊎-elim}
 use native.Mathlib.Omega.{arith}
 use borrow.Author.Needs.{needs}
 use Rattle.vectors.specs.Space.{slot-distance, space}
-use Rattle.landmarks.proofs.Drawing.{Drawing, drawing-none, drawing-held, drawing-take, drawing-skip, drawing-done}
+use Rattle.landmarks.proofs.Drawing.{Drawing, drawing-none, drawing-inside, drawing-take, drawing-skip, drawing-done}
 use Rattle.landmarks.proofs.choose.draw_near.Statement.{statement}
 use Rattle.landmarks.proofs.choose.draw_near.Tie as tie
 
@@ -29,7 +29,7 @@ wide-requires-2 : tie.Need-wide-requires-2 Inv-loop μ-loop
 wide-requires-2 c κs = search needs
 
 slot-distance-requires : tie.Need-slot-distance-requires Inv-loop μ-loop
-slot-distance-requires c κs = let p = c .before .before .before .before .before .before .before .before .before .before .before .pre in (drawing-held (c .before .before .before .before .before .before .before .before .loop .inv) (c .before .before .before .before .before .before .before .loop-test .taken) (c .before .before .before .id-at .ensures) (c .before .wide .ensures), rw (c .wide2 .ensures) (p .1), p .0 .small)
+slot-distance-requires c κs = let p = c .before .before .before .before .before .before .before .before .before .before .before .pre in (drawing-inside (c .before .before .before .before .before .before .before .before .loop .inv) (c .before .before .before .before .before .before .before .loop-test .taken) (c .before .before .before .id-at .ensures) (c .before .wide .ensures), rw (c .wide2 .ensures) (p .1), p .0 .small)
 
 mul-put : tie.Need-mul-put Inv-loop μ-loop
 mul-put c = omega (arith, c .before .before .before .before .before .before .before .before .before .before .before .before .before .pre .0 .room, c .before .before .before .before .before .before .before .before .before .before .loop .inv .size, c .before .before .before .before .before .before .before .before .before .before .loop .inv .within)
