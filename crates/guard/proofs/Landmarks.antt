@@ -15,7 +15,7 @@ use Rattle.lists.proofs.Ranges.{range-elem}
 use Rattle.lists.proofs.Unique.{elem-snoc}
 use Rattle.vectors.specs.Space.{slot-distance}
 use Rattle.candidates.specs.Candidates.{Candidate, scored}
-use Rattle.candidates.specs.Words.{pair}
+use Rattle.candidates.specs.contracts.Words.{pair}
 use Rattle.slots.specs.View.{View}
 use Rattle.landmarks.specs.contracts.Samples.{free, sampled, stride-of, sample-by}
 use Rattle.landmarks.specs.contracts.Choices.{farthest-from, drawn, chosen, landmarks-by}

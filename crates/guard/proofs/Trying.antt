@@ -11,9 +11,9 @@ use Rattle.lists.proofs.Parts.{fits-in}
 use Rattle.lists.proofs.Taking.{left-cons, left-none}
 use Rattle.vectors.proofs.Distances.{length-part}
 use Rattle.candidates.specs.Candidates.{ids}
-use Rattle.candidates.specs.Words.{cands}
+use Rattle.candidates.specs.contracts.Words.{cands}
 use Rattle.slots.specs.Store.{Arrays}
-use Rattle.walk.specs.Scratch.{near-but, Ready, Found}
+use Rattle.walk.specs.contracts.Scratch.{near-but, Ready, Found}
 use Rattle.guard.specs.contracts.Trials.{meets, lost-of, Walks, Noted, Tried}
 use Rattle.guard.proofs.Pooling.{Counting, counting-done}
 

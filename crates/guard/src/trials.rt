@@ -10,7 +10,7 @@ ghost use mathlib.Core.Path.{_≡_};
 ghost use Prim.Native.Nat.{_<_, _≤_};
 ghost use lib.ListN.{length, take};
 ghost use Rattle.lists.specs.Lists.{All, elem};
-ghost use Rattle.slots.specs.Rows.{arrays};
+ghost use Rattle.slots.specs.Store.{arrays};
 ghost use Rattle.guard.specs.contracts.Trials.{meets, Walks, Noted, Tried};
 
 // Whether a trial walk from `entry` that leaves `ids` out finds the landmark.

@@ -12,7 +12,7 @@ use Rattle.lists.specs.Lists.{All, put-front}
 use Rattle.lists.proofs.All.{by-cases}
 use Rattle.lists.proofs.Front.{front-snoc}
 use Rattle.candidates.specs.Candidates.{Candidate}
-use Rattle.candidates.specs.Words.{pair, cand, cands}
+use Rattle.candidates.specs.contracts.Words.{pair, cand, cands}
 use Rattle.candidates.proofs.Words.{cands-none, cands-cons, cands-length}
 use Rattle.landmarks.specs.contracts.Choices.{farthest-from, farthest, drawn, chosen, HasVector, Listed, Drew, Appended}
 use Rattle.landmarks.proofs.Drawing.{all-drawn, drew-listed}

@@ -15,7 +15,7 @@ use Rattle.lists.proofs.Taking.{left-cons, left-none}
 use Rattle.lists.proofs.Unique.{or-false-l, or-false-r}
 use Rattle.vectors.specs.Space.{Measured}
 use Rattle.candidates.specs.Candidates.{Candidate, scored}
-use Rattle.candidates.specs.Words.{pair, cands, put}
+use Rattle.candidates.specs.contracts.Words.{pair, cands, put}
 use Rattle.candidates.proofs.Words.{cands-none, cands-cons, cands-put, cands-push, put-length}
 use Rattle.landmarks.specs.contracts.Samples.{far}
 use Rattle.landmarks.specs.contracts.Choices.{drawn, drawn-all, HasVector, Listed, Drew}

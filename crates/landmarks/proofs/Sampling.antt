@@ -11,7 +11,7 @@ use Rattle.lists.specs.Lists.{All, filter, range}
 use Rattle.lists.proofs.All.{by-cases, all-append}
 use Rattle.lists.proofs.Ranges.{range-cons, range-none, filtered-below}
 use Rattle.candidates.specs.Candidates.{Candidate, scored}
-use Rattle.candidates.specs.Words.{cands, put}
+use Rattle.candidates.specs.contracts.Words.{cands, put}
 use Rattle.candidates.proofs.Words.{cands-none, cands-length, cands-push, put-length}
 use Rattle.landmarks.specs.contracts.Samples.{far, sampled, sample-by, sample-words, Sampled, Taken}
 

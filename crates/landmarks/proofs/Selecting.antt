@@ -11,7 +11,7 @@ use Rattle.lists.proofs.All.{all-map, filter-test}
 use Rattle.lists.proofs.Bools.{and-both}
 use Rattle.lists.proofs.Parts.{fits-in}
 use Rattle.candidates.specs.Candidates.{scored}
-use Rattle.candidates.specs.Words.{cands}
+use Rattle.candidates.specs.contracts.Words.{cands}
 use Rattle.landmarks.specs.contracts.Samples.{far, free, on-stride, sampled, stride-of, sample-by, Taken}
 use Rattle.landmarks.specs.contracts.Choices.{drawn-all, chosen, landmarks-by, HasVector, Listed, Selectable, Drew, Appended}
 use Rattle.landmarks.proofs.Sampling.{sample-all, sample-inside}

@@ -12,7 +12,7 @@ ghost use lib.ListN.{length, take};
 ghost use Rattle.lists.specs.Lists.{All};
 ghost use Rattle.vectors.specs.Space as Space;
 ghost use Rattle.vectors.specs.Space.{space};
-ghost use Rattle.candidates.specs.Words.{cands};
+ghost use Rattle.candidates.specs.contracts.Words.{cands};
 ghost use Rattle.landmarks.specs.contracts.Choices.{farthest, drawn, drawn-all, chosen, HasVector, Listed, Drew, Appended};
 
 // The lesser of two distances.

@@ -3,9 +3,9 @@ mod words;
 
 use slots::marks::is_valid;
 use slots::marks::wide;
-use slots::scratch::MARKS;
 use slots::rows::Ref;
 use slots::rows::live_at;
+use slots::scratch::MARKS;
 use vectors::query_distance;
 use words::EXPANDED;
 use words::Held;

@@ -9,7 +9,7 @@ use lib.ListN.{length, take}
 use Rattle.lists.specs.Lists.{filter, put-front}
 use Rattle.vectors.specs.Vector.{Bytes}
 use Rattle.slots.specs.Store.{Arrays, Store, store-view}
-use Rattle.slots.specs.Rows.{RowShape}
+use Rattle.slots.specs.contracts.Rows.{RowShape}
 use Rattle.guard.specs.Guard.{config, Report, assess-delete-admission}
 use Rattle.guard.specs.contracts.Pools.{guard-words, or-blank}
 use Rattle.guard.specs.contracts.Trials.{lost-of}

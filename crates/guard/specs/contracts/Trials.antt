@@ -10,9 +10,9 @@ use Rattle.vectors.specs.Vector.{Bytes}
 use Rattle.candidates.specs.Candidates.{ids}
 use Rattle.slots.specs.Scratch.{work-at}
 use Rattle.slots.specs.Store.{Arrays}
-use Rattle.slots.specs.Rows.{RowShape}
+use Rattle.slots.specs.contracts.Rows.{RowShape}
 use Rattle.walk.specs.Walk.{graph-search}
-use Rattle.walk.specs.Scratch.{near-but}
+use Rattle.walk.specs.contracts.Scratch.{near-but}
 
 -- `reaches`: a walk that leaves some slots out finds the landmark
 unfoldable pub meets : Arrays → List ℕ → ℕ → ℕ → ℕ → Bool

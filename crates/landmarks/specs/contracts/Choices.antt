@@ -9,7 +9,7 @@ use lib.Dec.{eqb, ltb}
 use Rattle.lists.specs.Lists.{All, foldl, least-of, put-front}
 use Rattle.vectors.specs.Vector.{Bytes}
 use Rattle.candidates.specs.Candidates.{Candidate, scored}
-use Rattle.candidates.specs.Words.{pair, cands}
+use Rattle.candidates.specs.contracts.Words.{pair, cands}
 use Rattle.slots.specs.Scratch.{work-at}
 use Rattle.landmarks.specs.contracts.Samples.{free, stride-of, sample-by, sample-words, References}
 

@@ -7,7 +7,7 @@ use lib.ListN.{length, take}
 use lib.Dec.{eqb, ltb}
 use Rattle.lists.specs.Lists.{All, filter, elem, range}
 use Rattle.candidates.specs.Candidates.{scored}
-use Rattle.candidates.specs.Words.{cands}
+use Rattle.candidates.specs.contracts.Words.{cands}
 use Rattle.slots.specs.Store.{blank, is-valid}
 
 -- slot s is live and none of the ids

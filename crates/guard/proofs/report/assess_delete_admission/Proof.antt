@@ -1,5 +1,5 @@
 use lib.ListN.{take}
-use Rattle.slots.specs.Rows.{arrays}
+use Rattle.slots.specs.Store.{arrays}
 use Rattle.guard.proofs.Entering.{remains-inside, remains-out}
 use Rattle.guard.proofs.Reporting.{assessed-none, assessed-gone, assessed-some}
 use borrow.Author.Needs.{needs}

@@ -4,7 +4,7 @@ use mathlib.Core.Path.{_≡_, refl, _∙_}
 use native.Mathlib.Omega.{arith}
 use lib.ListN.{length}
 use Rattle.lists.proofs.Taking.{taken-at}
-use Rattle.slots.specs.Rows.{arrays}
+use Rattle.slots.specs.Store.{arrays}
 use Rattle.guard.specs.contracts.Trials.{meets}
 use Rattle.guard.proofs.Pooling.{Counting, counting-none, counting-next}
 use Rattle.guard.proofs.Trying.{Losing, losing-none, losing-next, tried, walks-again}
