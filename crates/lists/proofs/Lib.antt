@@ -18,3 +18,4 @@ pub mod Taking
 pub mod Filtered
 pub mod Alike
 pub mod Bools
+pub mod Sweep

@@ -8,3 +8,4 @@ pub mod Count
 mod Made
 pub mod Agree
 pub mod New
+pub mod Writes

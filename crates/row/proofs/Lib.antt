@@ -1,0 +1,3 @@
+pub mod Scored
+pub mod Written
+pub mod Kept

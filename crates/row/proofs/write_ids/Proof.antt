@@ -1,0 +1,57 @@
+use Rattle.row.proofs.Written.{ids-room, wrote-ids}
+use borrow.Author.Needs.{needs}
+use Rattle.row.proofs.write_ids.Statement.{statement}
+use Rattle.row.proofs.write_ids.Tie as tie
+
+copy-ids-requires : tie.Need-copy-ids-requires
+copy-ids-requires c κs = search needs
+
+add-end : tie.Need-add-end
+add-end c = search needs
+
+wide-requires : tie.Need-wide-requires
+wide-requires c κs = search needs
+
+mul-write : tie.Need-mul-write
+mul-write c = search needs
+
+sub-write : tie.Need-sub-write
+sub-write c = search needs
+
+part-write-start : tie.Need-part-write-start
+part-write-start c = search needs
+
+part-write-end : tie.Need-part-write-end
+part-write-end c = search needs
+
+write-requires : tie.Need-write-requires
+write-requires c κs = ids-room (c .before .before .before .before .before .before .before .before .before .before .before .before .before .pre) (c .before .before .wide .ensures) (c .before .before .before .before .before .before .before .copy-ids .ensures)
+
+same-length : tie.Need-same-length
+same-length c = search needs
+
+same-length-2 : tie.Need-same-length-2
+same-length-2 c = search needs
+
+same-length-3 : tie.Need-same-length-3
+same-length-3 c = search needs
+
+returns : tie.Need-returns
+returns c = wrote-ids (c .before .before .before .before .before .before .before .before .before .before .before .before .before .before .before .before .before .before .pre) (c .before .before .before .before .before .before .before .wide .ensures) (c .before .before .before .before .before .before .before .before .before .before .before .before .copy-ids .ensures) (c .before .before .before .before .write .ensures)
+
+pub write-ids-spec : {M : Type 1} → statement M
+write-ids-spec =
+    tie.close
+    (tie.spec
+    copy-ids-requires
+    add-end
+    wide-requires
+    mul-write
+    sub-write
+    part-write-start
+    part-write-end
+    write-requires
+    same-length
+    same-length-2
+    same-length-3
+    returns)
