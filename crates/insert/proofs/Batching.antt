@@ -15,17 +15,16 @@ use Rattle.lists.proofs.Parts.{part-part}
 use Rattle.lists.proofs.Places.{all-at}
 use Rattle.lists.proofs.Chunks.{chunks-enough}
 use Rattle.lists.proofs.Ranges.{length-range, range-below}
-use Rattle.slots.specs.Scratch.{work-at, work-words, size-answer}
-use Rattle.slots.specs.View.{View, free-slots}
+use Rattle.slots.specs.Scratch.{work-at, size-answer}
+use Rattle.slots.specs.View.{free-slots}
 use Rattle.slots.specs.Store.{Arrays, Store, is-valid, store-view, store-ops, with-arrays}
 use Rattle.slots.specs.Rows.{arrays}
-use Rattle.row.specs.Row.{Together, index-of}
-use Rattle.row.proofs.Kept.{index-with}
+use Rattle.row.specs.Row.{index-of}
 use Rattle.insert.specs.Insert.{Filling, fillings, insert-chunk, insert-batch}
 use Rattle.insert.specs.Batch.{insert-words, Insertable, Inserted}
 use Rattle.insert.specs.contracts.Filling.{filling-at, fillings-from, chunk-of, Fillable}
 use Rattle.insert.specs.contracts.Chunk.{Walkable, ChunkInserted, Slots, ChunksInserted}
-use Rattle.insert.proofs.Filled.{AsLong, as-long, as-long-then, together-as}
+use Rattle.insert.proofs.Filled.{AsLong, as-long, as-long-then}
 use Rattle.insert.proofs.Linking.{walkable-kept}
 
 -- insert's share of the size answer is enough

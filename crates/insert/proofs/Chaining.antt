@@ -10,11 +10,10 @@ use lib.Dec.{eqb}
 use lib.ListN.{length, getD, set, length-set}
 use lib.Seq.{getD-set-same, getD-set-other}
 use Rattle.slots.specs.Scratch.{marks-at}
-use Rattle.candidates.specs.Candidates.{Candidate}
 use Rattle.candidates.specs.Words.{cand, cands, put, Outside}
 use Rattle.candidates.proofs.Words.{cands-push, put-length, put-outside, outside-none, outside-put}
 use Rattle.insert.specs.declared.layout.Layout.{Layout}
-use Rattle.insert.specs.contracts.Chains.{Repeated, head, at-slot, Chain, end, link, Chains, Chainable, Chained, incoming-at, Takeable, Took}
+use Rattle.insert.specs.contracts.Chains.{Repeated, head, at-slot, Chain, end, link, Chainable, Chained, incoming-at, Takeable, Took}
 
 -- ---- a word repeated
 pub record Repeating (w₀ : List ℕ) (p k x : ℕ) (w : List ℕ) (i : ℕ) : Type 0 where

@@ -1,17 +1,15 @@
 -- The slots that a batch fills: the lowest free ones are found, and each gets its vector. Assumes nothing.
 use Prim.Native.Nat.{ℕ, suc, _+_, _-_, _*_, _≤_, _<_}
-use mathlib.Core.Bool.{Bool, true, false, not, cond}
+use mathlib.Core.Bool.{Bool, true, false, not}
 use mathlib.Core.Path.{_≡_, refl, ap, sym, _∙_}
 use mathlib.Core.List.{List, [], _∷_, _++_, append-assoc, append-nil}
 use native.Mathlib.Numerals.{add-one}
 use native.Mathlib.Omega.{arith}
-use denote.Ref.{RefT}
 use lib.ListN.{length, take, drop, getD, set, length-set, take-append-drop}
 use lib.Seq.{length-take-le, take-suc-set, drop-set-lt, drop-drop, take-nil}
 use lib.Ieee.{Float}
 use Rattle.lists.specs.Lists.{filter, range, part, put-front}
 use Rattle.lists.proofs.Parts.{fits-in}
-use Rattle.vectors.specs.Vector.{VectorAt}
 use Rattle.vectors.proofs.Distances.{length-part}
 use Rattle.slots.specs.Store.{Arrays, Store, is-valid, store-ops}
 use Rattle.slots.specs.Rows.{arrays}
@@ -19,7 +17,7 @@ use Rattle.slots.specs.Writing.{SlotIn, Done}
 use Rattle.slots.proofs.Places.{shape-fits}
 use Rattle.row.specs.Row.{Together, index-of}
 use Rattle.row.proofs.Kept.{together-kept, index-with}
-use Rattle.insert.specs.contracts.Filling.{filling-at, fillings-from, fill-all, Noted, Fillable, ChunkFilled}
+use Rattle.insert.specs.contracts.Filling.{fillings-from, fill-all, Noted, Fillable, ChunkFilled}
 
 -- ---- free slots
 abbrev free : List ℕ → ℕ → Bool

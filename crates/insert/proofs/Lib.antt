@@ -10,3 +10,4 @@ pub mod Order
 pub mod Read
 pub mod Linking
 pub mod Batching
+pub mod Free

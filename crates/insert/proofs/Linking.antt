@@ -1,37 +1,35 @@
 -- A chunk as its functions leave it, and as `insert-chunk` does: its plans chained, and its rows written. Assumes nothing.
-use Prim.Native.Nat.{ℕ, zero, suc, _+_, _-_, _*_, max, _≤_, _<_}
+use Prim.Native.Nat.{ℕ, zero, suc, _+_, _-_, _*_, _≤_, _<_}
 use mathlib.Core.Bool.{Bool, true, false, not, cond}
-use mathlib.Core.Path.{_≡_, refl, ap, ap₂, sym, _∙_}
+use mathlib.Core.Path.{_≡_, refl, ap, _∙_}
 use mathlib.Core.List.{List, [], _∷_, _++_, map}
 use native.Mathlib.Nat.{mul-le-mul-right}
 use native.Mathlib.Omega.{arith}
 use lib.Dec.{ltb}
 use lib.ListN.{length, getD}
 use lib.Ieee.{Float}
-use Rattle.lists.specs.Lists.{filter, foldl, range, elem, part, sorted-set}
+use Rattle.lists.specs.Lists.{filter, foldl, range, elem, sorted-set}
 use Rattle.lists.proofs.Ranges.{foldl-same}
-use Rattle.slots.specs.Scratch.{marks-at}
 use Rattle.slots.specs.Store.{Arrays, Store, store-view, store-ops}
 use Rattle.slots.specs.Rows.{arrays}
 use Rattle.slots.specs.Ops.{Row, write-rows}
 use Rattle.slots.proofs.Places.{shape-fits}
 use Rattle.slots.proofs.Writes.{Whole}
-use Rattle.candidates.specs.Candidates.{Candidate, ids}
+use Rattle.candidates.specs.Candidates.{ids}
 use Rattle.candidates.specs.Words.{cands}
-use Rattle.prune.specs.Prune.{prune}
 use Rattle.prune.proofs.Chosen.{chosen-few}
-use Rattle.row.specs.Row.{Together, index-of, live-scored}
+use Rattle.row.specs.Row.{Together, index-of}
 use Rattle.row.proofs.Kept.{together-shaped}
 use Rattle.insert.specs.declared.layout.Layout.{Layout}
 use Rattle.insert.specs.Insert.{Plan, Filling, plan, outgoing-row, target-row, chunk-rows, insert-chunk}
 use Rattle.insert.specs.contracts.Layout.{Spread, Parts}
-use Rattle.insert.specs.contracts.Chains.{head, at-slot, Chainable, Chained, incoming-at}
-use Rattle.insert.specs.contracts.Filling.{filling-at, fillings-from, chunk-of, fill-all, Fillable, ChunkFilled}
+use Rattle.insert.specs.contracts.Chains.{head, Chainable, Chained}
+use Rattle.insert.specs.contracts.Filling.{filling-at, fillings-from, chunk-of, Fillable, ChunkFilled}
 use Rattle.insert.specs.contracts.Plans.{start-of, plan-cands, Laid, AllPlanned}
 use Rattle.insert.specs.contracts.Outgoing.{own-row, own-at, Leavable, Left}
 use Rattle.insert.specs.contracts.Targets.{renewed-at, Renewable, AllRenewed}
 use Rattle.insert.specs.contracts.Chunk.{Walkable, plan-at, Linked, RowsWritten, RowsInserted, ChunkInserted}
-use Rattle.insert.proofs.Chaining.{Agrees, slots-agree}
+use Rattle.insert.proofs.Chaining.{slots-agree}
 use Rattle.insert.proofs.Plans.{AgreeUpTo, laid-agree}
 use Rattle.insert.proofs.Targeting.{renewable-kept, sweep-kept}
 use Rattle.insert.proofs.Order.{named, free-row, write-row, renew, rows-at-once}

@@ -1,5 +1,5 @@
 -- Rows that are worked out and written at once leave the same index as `chunk-rows`, all worked out before the first is written. Assumes nothing.
-use Prim.Native.Nat.{ℕ, zero, suc, _+_, _≤_, _<_}
+use Prim.Native.Nat.{ℕ, zero, suc, _≤_, _<_}
 use mathlib.Core.Bool.{Bool, true, false, cond, not, _||_, true≢false}
 use mathlib.Core.Path.{_≡_, refl, ap, sym, _∙_, fun-ext}
 use mathlib.Core.List.{List, [], _∷_, _++_, map}

@@ -1,8 +1,8 @@
 -- The plans of a chunk in the words: one plan, and one after the other. Assumes nothing.
 use Prim.Native.Nat.{ℕ, zero, suc, _+_, _-_, _*_, max, _≤_, _<_}
 use mathlib.Core.Path.{_≡_, refl, ap, sym, _∙_, subst}
-use mathlib.Core.Logic.{_⊎_, inl, inr}
-use mathlib.Core.List.{List, [], _∷_}
+use mathlib.Core.Logic.{inl}
+use mathlib.Core.List.{List}
 use native.Mathlib.Decide.{decLt}
 use native.Mathlib.Numerals.{add-one}
 use native.Mathlib.Omega.{arith}
@@ -13,11 +13,9 @@ use Rattle.lists.specs.Lists.{All, part}
 use Rattle.lists.proofs.Parts.{before-next, fits-in}
 use Rattle.vectors.specs.Space.{slot-distance, space}
 use Rattle.vectors.proofs.Distances.{length-part}
-use Rattle.slots.specs.Scratch.{marks-at}
 use Rattle.slots.specs.View.{View}
 use Rattle.slots.specs.Store.{Arrays, is-valid, store-view}
-use Rattle.candidates.specs.Candidates.{Candidate}
-use Rattle.candidates.specs.Words.{cands, Small, Outside}
+use Rattle.candidates.specs.Words.{cands, Small}
 use Rattle.candidates.proofs.Words.{cands-agree}
 use Rattle.walk.specs.Scratch as Walk
 use Rattle.walk.specs.Scratch.{Pool}
@@ -29,7 +27,7 @@ use Rattle.insert.specs.declared.layout.Layout.{Layout}
 use Rattle.insert.specs.Insert.{Plan, plan}
 use Rattle.insert.specs.contracts.Layout.{Spread, Parts}
 use Rattle.insert.specs.contracts.Chains.{Repeated}
-use Rattle.insert.specs.contracts.Filling.{filling-at, Fillable}
+use Rattle.insert.specs.contracts.Filling.{Fillable}
 use Rattle.insert.specs.contracts.Plans.{selects, Plannable, Planned, start-of, Lies, Laid, AllPlanned}
 use Rattle.insert.specs.contracts.Chunk.{Walkable, plan-at}
 use Rattle.insert.proofs.Chaining.{Agrees}

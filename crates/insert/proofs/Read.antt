@@ -4,18 +4,19 @@ use mathlib.Core.Bool.{Bool, true, false, _||_, cond, true≢false}
 use mathlib.Core.Path.{_≡_, refl, ap, ap₂, sym, _∙_, subst}
 use mathlib.Core.List.{List, [], _∷_, _++_, map}
 use native.Mathlib.Omega.{arith}
-use borrow.Author.Tests.{eqb-true, eqb-false, eq-eqb, ne-eqb, lt-ltb, le-ltb}
+use borrow.Author.Tests.{eqb-true, lt-ltb, le-ltb}
 use lib.Dec.{eqb, ltb}
 use lib.ListN.{length, getD}
 use Rattle.lists.specs.Lists.{All, filter, range, concat-map, elem}
 use Rattle.lists.proofs.All.{all-append}
+use Rattle.lists.proofs.Firsts.{eqb-comm}
 use Rattle.candidates.specs.Candidates.{Candidate, ids}
 use Rattle.candidates.specs.Words.{pair, cand, cands, Small}
 use Rattle.candidates.proofs.Words.{cands-append, cands-each}
 use Rattle.insert.specs.declared.layout.Layout.{Layout}
 use Rattle.insert.specs.Insert.{Plan, incoming}
 use Rattle.insert.specs.contracts.Chains.{at-slot, Chain, end, link, incoming-at}
-use Rattle.insert.specs.contracts.Plans.{start-of, Lies, Laid}
+use Rattle.insert.specs.contracts.Plans.{start-of, Laid}
 use Rattle.insert.proofs.Order.{named}
 
 -- ---- the candidates of all plans
@@ -137,19 +138,12 @@ chain-some : {w : List ℕ} {at : Layout} {n : ℕ} (from x : ℕ) (l : List ℕ
 chain-some {n = n} from x [] end = let h : n ≤ n = omega arith in le-ltb _ _ h
 chain-some from x (y ∷ l) (link g m c) = lt-ltb _ _ m
 
-eqb-same : (a b : ℕ) → eqb a b ≡ eqb b a
-eqb-same a b = go (eqb b a) refl
-  where
-    go : (c : Bool) → eqb b a ≡ c → eqb a b ≡ c
-    go true e = eq-eqb a b (sym (eqb-true b a e))
-    go false e = ne-eqb a b (λ z. eqb-false b a e (sym z))
-
 some-named : (w : List ℕ) (at : Layout) (t i k : ℕ) → some (at-slot w at t i k) ≡ elem t (ids (cands w (at .plans + 2 * i) k))
 unfolding at-slot cands
 some-named w at t i zero = refl
 some-named w at t i (suc k) =
     let y : at .plans + 2 * i + 2 ≡ at .plans + 2 * suc i = omega arith in
-    rw (y, eqb-same t (getD w (at .plans + 2 * i + 1) 0)) (go (eqb (getD w (at .plans + 2 * i + 1) 0) t) (some-named w at t (suc i) k))
+    rw (y, eqb-comm t (getD w (at .plans + 2 * i + 1) 0)) (go (eqb (getD w (at .plans + 2 * i + 1) 0) t) (some-named w at t (suc i) k))
   where
     go : (b : Bool) → some (at-slot w at t (suc i) k) ≡ elem t (ids (cands w (at .plans + 2 * suc i) k))
         → some (cond b (i ∷ at-slot w at t (suc i) k) (at-slot w at t (suc i) k)) ≡ b || elem t (ids (cands w (at .plans + 2 * suc i) k))

@@ -4,7 +4,7 @@ use super::layout::Layout;
 use vectors::vector;
 use walk::search_pool;
 ghost use mathlib.Core.Path.{_≡_};
-ghost use Prim.Native.Nat.{max, _<_, _≤_};
+ghost use Prim.Native.Nat.{max};
 ghost use lib.ListN.{length};
 ghost use Rattle.slots.specs.Store.{store-view};
 ghost use Rattle.slots.specs.Rows.{arrays};

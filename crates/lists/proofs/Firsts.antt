@@ -13,7 +13,7 @@ pub filter-same : {A : Type 0} (p q : A → Bool) → ((x : A) → p x ≡ q x) 
 filter-same p q h [] = refl
 filter-same p q h (x ∷ l) = rw (h x, filter-same p q h l)
 
-eqb-comm : (a b : ℕ) → eqb a b ≡ eqb b a
+pub eqb-comm : (a b : ℕ) → eqb a b ≡ eqb b a
 eqb-comm a b = go (eqb a b) refl
   where
     go : (c : Bool) → eqb a b ≡ c → c ≡ eqb b a

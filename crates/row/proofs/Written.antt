@@ -1,7 +1,7 @@
 -- A row is written: the slots of candidates, and a selection from them. Assumes nothing.
 use Prim.Native.Nat.{ℕ, _+_, _-_, _*_, _≤_, _<_}
 use mathlib.Core.Path.{_≡_, refl, ap, _∙_}
-use mathlib.Core.Logic.{_⊎_, inl, inr}
+use mathlib.Core.Logic.{inl}
 use mathlib.Core.List.{List}
 use native.Mathlib.Omega.{arith}
 use lib.ListN.{length, take, drop}
@@ -9,7 +9,7 @@ use lib.Ieee.{Float}
 use Rattle.vectors.specs.Space.{slot-distance, space}
 use Rattle.candidates.specs.Candidates.{ids}
 use Rattle.candidates.specs.Words.{cands, Clear, Copied}
-use Rattle.slots.specs.Store.{Arrays, is-valid, store-view, store-ops}
+use Rattle.slots.specs.Store.{Arrays, is-valid, store-ops}
 use Rattle.slots.specs.Rows.{arrays}
 use Rattle.slots.specs.Writing.{Wrote}
 use Rattle.slots.proofs.Places.{shape-fits}

@@ -12,7 +12,7 @@ use Rattle.walk.specs.Walk.{search-pool}
 use Rattle.prune.specs.Prune.{prune}
 use Rattle.insert.specs.declared.layout.Layout.{Layout}
 use Rattle.insert.specs.Insert.{Plan}
-use Rattle.insert.specs.contracts.Layout.{Spread, Parts}
+use Rattle.insert.specs.contracts.Layout.{Spread}
 
 -- ---- one plan
 -- what slot id with a vector selects after a walk of this width
