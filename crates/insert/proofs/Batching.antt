@@ -17,8 +17,7 @@ use Rattle.lists.proofs.Chunks.{chunks-enough}
 use Rattle.lists.proofs.Ranges.{length-range, range-below}
 use Rattle.slots.specs.Scratch.{work-at, size-answer}
 use Rattle.slots.specs.View.{free-slots}
-use Rattle.slots.specs.Store.{Arrays, Store, is-valid, store-view, store-ops, with-arrays}
-use Rattle.slots.specs.Rows.{arrays}
+use Rattle.slots.specs.Store.{Arrays, Store, is-valid, store-view, store-ops, with-arrays, arrays}
 use Rattle.row.specs.Row.{index-of}
 use Rattle.insert.specs.Insert.{Filling, fillings, insert-chunk, insert-batch}
 use Rattle.insert.specs.Batch.{insert-words, Insertable, Inserted}

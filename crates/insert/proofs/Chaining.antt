@@ -10,7 +10,7 @@ use lib.Dec.{eqb}
 use lib.ListN.{length, getD, set, length-set}
 use lib.Seq.{getD-set-same, getD-set-other}
 use Rattle.slots.specs.Scratch.{marks-at}
-use Rattle.candidates.specs.Words.{cand, cands, put, Outside}
+use Rattle.candidates.specs.contracts.Words.{cand, cands, put, Outside}
 use Rattle.candidates.proofs.Words.{cands-push, put-length, put-outside, outside-none, outside-put}
 use Rattle.insert.specs.declared.layout.Layout.{Layout}
 use Rattle.insert.specs.contracts.Chains.{Repeated, head, at-slot, Chain, end, link, Chainable, Chained, incoming-at, Takeable, Took}

@@ -11,9 +11,8 @@ use lib.Ieee.{Float}
 use Rattle.lists.specs.Lists.{filter, range, part, put-front}
 use Rattle.lists.proofs.Parts.{fits-in}
 use Rattle.vectors.proofs.Distances.{length-part}
-use Rattle.slots.specs.Store.{Arrays, Store, is-valid, store-ops}
-use Rattle.slots.specs.Rows.{arrays}
-use Rattle.slots.specs.Writing.{SlotIn, Done}
+use Rattle.slots.specs.Store.{Arrays, Store, is-valid, store-ops, arrays}
+use Rattle.slots.specs.contracts.Writing.{SlotIn, Done}
 use Rattle.slots.proofs.Places.{shape-fits}
 use Rattle.row.specs.Row.{Together, index-of}
 use Rattle.row.proofs.Kept.{together-kept, index-with}

@@ -10,9 +10,8 @@ use lib.ListN.{length, getD}
 use lib.Ieee.{Float}
 use Rattle.lists.specs.Lists.{foldl, range}
 use Rattle.slots.specs.Scratch.{marks-at}
-use Rattle.slots.specs.Store.{Store}
-use Rattle.slots.specs.Rows.{arrays}
-use Rattle.candidates.specs.Words.{cands}
+use Rattle.slots.specs.Store.{Store, arrays}
+use Rattle.candidates.specs.contracts.Words.{cands}
 use Rattle.candidates.proofs.Words.{cands-agree}
 use Rattle.row.specs.Row.{index-of, WroteIds}
 use Rattle.insert.specs.declared.layout.Layout.{Layout}

@@ -10,13 +10,12 @@ use lib.ListN.{length, getD}
 use lib.Ieee.{Float}
 use Rattle.lists.specs.Lists.{filter, foldl, range, elem, sorted-set}
 use Rattle.lists.proofs.Ranges.{foldl-same}
-use Rattle.slots.specs.Store.{Arrays, Store, store-view, store-ops}
-use Rattle.slots.specs.Rows.{arrays}
+use Rattle.slots.specs.Store.{Arrays, Store, store-view, store-ops, arrays}
 use Rattle.slots.specs.Ops.{Row, write-rows}
 use Rattle.slots.proofs.Places.{shape-fits}
 use Rattle.slots.proofs.Writes.{Whole}
 use Rattle.candidates.specs.Candidates.{ids}
-use Rattle.candidates.specs.Words.{cands}
+use Rattle.candidates.specs.contracts.Words.{cands}
 use Rattle.prune.proofs.Chosen.{chosen-few}
 use Rattle.row.specs.Row.{Together, index-of}
 use Rattle.row.proofs.Kept.{together-shaped}

@@ -15,12 +15,12 @@ use Rattle.vectors.specs.Space.{slot-distance, space}
 use Rattle.vectors.proofs.Distances.{length-part}
 use Rattle.slots.specs.View.{View}
 use Rattle.slots.specs.Store.{Arrays, is-valid, store-view}
-use Rattle.candidates.specs.Words.{cands, Small}
+use Rattle.candidates.specs.contracts.Words.{cands, Small}
 use Rattle.candidates.proofs.Words.{cands-agree}
-use Rattle.walk.specs.Scratch as Walk
-use Rattle.walk.specs.Scratch.{Pool}
+use Rattle.walk.specs.contracts.Scratch as Walk
+use Rattle.walk.specs.contracts.Scratch.{Pool}
 use Rattle.prune.specs.Prune.{prune-scored}
-use Rattle.prune.specs.Selecting.{Ready, Pruned}
+use Rattle.prune.specs.contracts.Selecting.{Ready, Pruned}
 use Rattle.prune.proofs.Pruned.{pruned-view, pruned-inside}
 use Rattle.row.specs.Row.{Together, index-of}
 use Rattle.insert.specs.declared.layout.Layout.{Layout}

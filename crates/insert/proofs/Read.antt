@@ -11,7 +11,7 @@ use Rattle.lists.specs.Lists.{All, filter, range, concat-map, elem}
 use Rattle.lists.proofs.All.{all-append}
 use Rattle.lists.proofs.Firsts.{eqb-comm}
 use Rattle.candidates.specs.Candidates.{Candidate, ids}
-use Rattle.candidates.specs.Words.{pair, cand, cands, Small}
+use Rattle.candidates.specs.contracts.Words.{pair, cand, cands, Small}
 use Rattle.candidates.proofs.Words.{cands-append, cands-each}
 use Rattle.insert.specs.declared.layout.Layout.{Layout}
 use Rattle.insert.specs.Insert.{Plan, incoming}

@@ -13,10 +13,9 @@ use Rattle.lists.specs.Lists.{foldl, range}
 use Rattle.lists.proofs.All.{all-append}
 use Rattle.lists.proofs.Ranges.{foldl-same}
 use Rattle.slots.specs.Scratch.{marks-at}
-use Rattle.slots.specs.Store.{Arrays, Store, store-view, store-ops}
-use Rattle.slots.specs.Rows.{arrays}
+use Rattle.slots.specs.Store.{Arrays, Store, store-view, store-ops, arrays}
 use Rattle.candidates.specs.Candidates.{Candidate, ids}
-use Rattle.candidates.specs.Words.{cands, Small}
+use Rattle.candidates.specs.contracts.Words.{cands, Small}
 use Rattle.prune.specs.Prune.{prune}
 use Rattle.row.specs.Row.{Together, index-of, live-scored, LiveScored, Prunable, WrotePruned}
 use Rattle.row.proofs.Kept.{together-kept}

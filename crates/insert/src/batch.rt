@@ -4,7 +4,7 @@ use super::filling::free_slots;
 ghost use mathlib.Core.Path.{_≡_};
 ghost use Prim.Native.Nat.{_+_, _-_, min, _<_, _≤_};
 ghost use lib.ListN.{length};
-ghost use Rattle.slots.specs.Rows.{arrays};
+ghost use Rattle.slots.specs.Store.{arrays};
 ghost use Rattle.row.specs.Row.{Together};
 ghost use Rattle.insert.specs.Batch.{Insertable, Inserted};
 ghost use Rattle.insert.specs.contracts.Chunk.{Walkable, ChunkInserted, Slots, ChunksInserted};

@@ -7,7 +7,7 @@ use super::outgoing::write_outgoing;
 use super::planning::plan_all;
 use super::targets::write_named;
 ghost use lib.ListN.{length};
-ghost use Rattle.slots.specs.Rows.{arrays};
+ghost use Rattle.slots.specs.Store.{arrays};
 ghost use Rattle.row.specs.Row.{Together};
 ghost use Rattle.insert.specs.contracts.Layout.{Parts};
 ghost use Rattle.insert.specs.contracts.Filling.{Inside, Fillable};

@@ -7,8 +7,7 @@ ghost use mathlib.Core.Path.{_≡_};
 ghost use Prim.Native.Nat.{_<_, _≤_};
 ghost use lib.ListN.{length, take};
 ghost use Rattle.lists.specs.Lists.{filter, range, put-front};
-ghost use Rattle.slots.specs.Store.{is-valid};
-ghost use Rattle.slots.specs.Rows.{arrays};
+ghost use Rattle.slots.specs.Store.{is-valid, arrays};
 ghost use Rattle.row.specs.Row.{Together};
 ghost use Rattle.insert.specs.contracts.Filling.{Noted, Fillable, ChunkFilled};
 

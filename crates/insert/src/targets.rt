@@ -7,7 +7,7 @@ use slots::marks::wide;
 use slots::scratch::MARKS;
 ghost use Prim.Native.Nat.{_<_};
 ghost use lib.ListN.{length};
-ghost use Rattle.slots.specs.Rows.{arrays};
+ghost use Rattle.slots.specs.Store.{arrays};
 ghost use Rattle.row.specs.Row.{Together};
 ghost use Rattle.insert.specs.contracts.Targets.{Renewable, Renewed, AllRenewed};
 

@@ -7,8 +7,7 @@ use lib.Ieee.{Float}
 use Rattle.vectors.specs.Space.{slot-distance}
 use Rattle.candidates.specs.Candidates.{Candidate, scored}
 use Rattle.slots.specs.View.{live-neighbors}
-use Rattle.slots.specs.Store.{Arrays, Shaped, Store, vector-of, store-view, store-ops, with-arrays, write-neighbors}
-use Rattle.slots.specs.Rows.{arrays}
+use Rattle.slots.specs.Store.{Arrays, Shaped, Store, vector-of, store-view, store-ops, with-arrays, write-neighbors, arrays}
 use Rattle.slots.proofs.Writes.{Whole, after-write, neighbors-kept}
 use Rattle.prune.specs.Prune.{prune}
 use Rattle.row.specs.Row.{Together, index-of, live-scored}

@@ -9,10 +9,10 @@ use Rattle.lists.proofs.All.{all-append}
 use Rattle.lists.proofs.Parts.{fits-in}
 use Rattle.vectors.specs.Space.{slot-distance, space, Measured}
 use Rattle.candidates.specs.Candidates.{scored}
-use Rattle.candidates.specs.Words.{pair, cands, put, Small, Outside}
+use Rattle.candidates.specs.contracts.Words.{pair, cands, put, Small, Outside}
 use Rattle.candidates.proofs.Words.{cands-push, put-length, outside-none, outside-put}
 use Rattle.slots.specs.Store.{Arrays, vector-of, store-view}
-use Rattle.slots.specs.Rows.{ref-at, live-from}
+use Rattle.slots.specs.contracts.Rows.{ref-at, live-from}
 use Rattle.slots.specs.declared.rows.Ref.{Ref}
 use Rattle.slots.specs.declared.rows.Ref.the-variants.{At, Dead}
 use Rattle.slots.proofs.Places.{live-from-whole, live-from-end, live-from-at, live-from-dead, ref-inside}

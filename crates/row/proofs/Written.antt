@@ -8,12 +8,11 @@ use lib.ListN.{length, take, drop}
 use lib.Ieee.{Float}
 use Rattle.vectors.specs.Space.{slot-distance, space}
 use Rattle.candidates.specs.Candidates.{ids}
-use Rattle.candidates.specs.Words.{cands, Clear, Copied}
-use Rattle.slots.specs.Store.{Arrays, is-valid, store-ops}
-use Rattle.slots.specs.Rows.{arrays}
-use Rattle.slots.specs.Writing.{Wrote}
+use Rattle.candidates.specs.contracts.Words.{cands, Clear, Copied}
+use Rattle.slots.specs.Store.{Arrays, is-valid, store-ops, arrays}
+use Rattle.slots.specs.contracts.Writing.{Wrote}
 use Rattle.slots.proofs.Places.{shape-fits}
-use Rattle.prune.specs.Selecting.{Ready, Pruned}
+use Rattle.prune.specs.contracts.Selecting.{Ready, Pruned}
 use Rattle.prune.proofs.Pruned.{pruned-view}
 use Rattle.row.specs.Row.{Together, index-of, Writable, WroteIds, Prunable, WrotePruned}
 

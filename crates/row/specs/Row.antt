@@ -8,12 +8,12 @@ use Rattle.vectors.specs.Space.{slot-distance}
 use Rattle.vectors.specs.Vector.{Bytes}
 use Rattle.slots.specs.View.{View, live-neighbors}
 use Rattle.slots.specs.Store.{Arrays, Store, store-view, store-ops}
-use Rattle.slots.specs.Rows.{RowShape}
-use Rattle.slots.specs.Writing.{Wrote}
+use Rattle.slots.specs.contracts.Rows.{RowShape}
+use Rattle.slots.specs.contracts.Writing.{Wrote}
 use Rattle.candidates.specs.Candidates.{Candidate, scored, ids}
-use Rattle.candidates.specs.Words.{cands, Small, Outside, Clear}
+use Rattle.candidates.specs.contracts.Words.{cands, Small, Outside, Clear}
 use Rattle.prune.specs.Prune.{prune}
-use Rattle.prune.specs.Selecting.{Room}
+use Rattle.prune.specs.contracts.Selecting.{Room}
 
 -- slices that belong together, within the limits
 pub record Together (a : Arrays) : Type 0 where

@@ -4,7 +4,7 @@ use slots::rows::Ref;
 use slots::rows::live_at;
 ghost use Prim.Native.Nat.{_+_, _*_, _<_, _≤_};
 ghost use lib.ListN.{length};
-ghost use Rattle.slots.specs.Rows.{arrays};
+ghost use Rattle.slots.specs.Store.{arrays};
 ghost use Rattle.row.specs.Row.{Together, LiveScored, Writable, WroteIds, Prunable, WrotePruned};
 
 // The live row of slot `s`, each target with its distance to `s`, as candidates at `at`. Returns how many they are.

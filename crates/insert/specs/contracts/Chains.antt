@@ -7,7 +7,7 @@ use lib.Dec.{eqb}
 use lib.ListN.{length, getD}
 use Rattle.slots.specs.Scratch.{marks-at}
 use Rattle.candidates.specs.Candidates.{Candidate}
-use Rattle.candidates.specs.Words.{pair, cands, Outside}
+use Rattle.candidates.specs.contracts.Words.{pair, cands, Outside}
 use Rattle.insert.specs.declared.layout.Layout.{Layout}
 use Rattle.insert.specs.contracts.Layout.{Spread}
 

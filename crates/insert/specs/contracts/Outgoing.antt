@@ -8,10 +8,9 @@ use lib.Ieee.{Float}
 use lib.ListN.{length, getD}
 use Rattle.lists.specs.Lists.{foldl, range}
 use Rattle.slots.specs.Scratch.{marks-at}
-use Rattle.slots.specs.Store.{Store, store-ops}
-use Rattle.slots.specs.Rows.{arrays}
+use Rattle.slots.specs.Store.{Store, store-ops, arrays}
 use Rattle.candidates.specs.Candidates.{Candidate, ids}
-use Rattle.candidates.specs.Words.{cands}
+use Rattle.candidates.specs.contracts.Words.{cands}
 use Rattle.row.specs.Row.{index-of, Writable}
 use Rattle.insert.specs.declared.layout.Layout.{Layout}
 use Rattle.insert.specs.contracts.Layout.{Spread}

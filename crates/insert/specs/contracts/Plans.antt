@@ -7,7 +7,7 @@ use Rattle.lists.specs.Lists.{All}
 use Rattle.slots.specs.Scratch.{marks-at}
 use Rattle.slots.specs.View.{View}
 use Rattle.candidates.specs.Candidates.{Candidate}
-use Rattle.candidates.specs.Words.{cands, Small}
+use Rattle.candidates.specs.contracts.Words.{cands, Small}
 use Rattle.walk.specs.Walk.{search-pool}
 use Rattle.prune.specs.Prune.{prune}
 use Rattle.insert.specs.declared.layout.Layout.{Layout}

@@ -2,7 +2,7 @@ use Rattle.row.proofs.Scored.{Reading, reading-none, reading-near, read
 use Prim.Native.Nat.{_-_}
 use mathlib.Core.Logic.{⊎-elim}
 use native.Mathlib.Omega.{arith}
-use Rattle.slots.specs.Rows.{arrays}
+use Rattle.slots.specs.Store.{arrays}
 use borrow.Author.Needs.{needs}
 use Rattle.row.proofs.live_scored.Statement.{statement}
 use Rattle.row.proofs.live_scored.Tie as tie

@@ -5,7 +5,7 @@ use native.Mathlib.Omega.{arith}
 use mathlib.Core.Path.{_≡_, refl, _∙_}
 use Prim.Native.Nat.{_-_}
 use lib.ListN.{length}
-use Rattle.slots.specs.Rows.{arrays}
+use Rattle.slots.specs.Store.{arrays}
 use borrow.Author.Needs.{needs}
 use Rattle.insert.proofs.batch.insert_chunks.Statement.{statement}
 use Rattle.insert.proofs.batch.insert_chunks.Tie as tie

@@ -3,7 +3,7 @@ use native.Mathlib.Omega.{arith}
 use mathlib.Core.Path.{refl}
 use Prim.Native.Nat.{_-_, _≤_}
 use lib.ListN.{length}
-use Rattle.slots.specs.Rows.{arrays}
+use Rattle.slots.specs.Store.{arrays}
 use Rattle.insert.specs.contracts.Plans.{AllPlanned}
 use Rattle.insert.specs.contracts.Chunk.{plan-at}
 use borrow.Author.Needs.{needs}

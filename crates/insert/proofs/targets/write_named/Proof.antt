@@ -2,7 +2,7 @@ use Rattle.insert.proofs.Targeting.{Sweeping, sweeping-none, sweep-asks
 use native.Mathlib.Omega.{arith}
 use Prim.Native.Nat.{_-_}
 use lib.ListN.{length}
-use Rattle.slots.specs.Rows.{arrays}
+use Rattle.slots.specs.Store.{arrays}
 use Rattle.insert.proofs.targets.write_named.Statement.{statement}
 use Rattle.insert.proofs.targets.write_named.Tie as tie
 
