@@ -206,7 +206,7 @@ module _ (log : List ℕ) (w : State Store) (p : State View) (e : Same log w p) 
 
   -- ---- one call
 
-  same-refusal : (c : Call) → refusal stored w c ≡ refusal plain p c
+  pub same-refusal : (c : Call) → refusal stored w c ≡ refusal plain p c
   unfolding refusal
   same-refusal c = ap (λ s. first-of (tests limits (c .lent) s (c .operation))) (same-shown e)
 

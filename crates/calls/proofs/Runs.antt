@@ -17,7 +17,7 @@ use Rattle.calls.specs.Step.{perform, refusal, settle, step}
 use Rattle.calls.specs.History.{Seen, seen, Few, log-after, Within, trace}
 use Rattle.calls.specs.Runs.{Run, slices-of, slices-lent, call-of, Value, value-of, Lends, the-index, other-slices, a-new-one, run-refusal, Meets, after-run, next, Chain, observed, History-of-runs}
 use Rattle.calls.proofs.Tests.{exact, passed-lengths}
-use Rattle.calls.proofs.History.{Same, Both, step-both, same-seen, made-both, made-step}
+use Rattle.calls.proofs.History.{Same, Both, same-refusal, step-both, same-seen, made-both, made-step}
 
 -- ---- slices of other lengths are refused
 
@@ -121,6 +121,11 @@ module _ (log : List ℕ) (w : State Store) (p : State View) (e : Same log w p) 
   alike (other-slices v n) = alike-misfit (call-of r .lent) (r .operation) (r .before) w (turned v n)
   alike (a-new-one m q) = subst (λ o. Alike (call-of r .lent) o (r .before) w) (sym q) (alike-create (call-of r .lent) m (r .before) w)
 
+  -- the plain index turns its call back with the same number
+  pub run-refused : Lends w r → refusal plain p (call-of r) ≡ run-refusal r
+  unfolding run-refusal call-of
+  run-refused l = sym (alike l .refusals ∙ same-refusal log w p e (call-of r))
+
   -- the same number, or the same outcome
   pub run-step : Lends w r → Meets r → (next w r, r .answer) ≡ step stored w (call-of r)
   unfolding step next run-refusal call-of settle after-run
@@ -183,6 +188,10 @@ module _ (m : Making) (r : Run) (q : r .operation ≡ create m) (acc : first-of 
   pub made-run-both : (w : State Store) → Meets r → Both [] (next w r, r .answer) (made plain m, created)
   made-run-both w f =
       subst (λ (x : State Store × Answer). Both [] x (made plain m, created)) (sym (made-run w m r q acc f)) (made-both (slices-lent r) m acc)
+
+  pub made-accepted : (p : State View) → refusal plain p (call-of r) ≡ none
+  unfolding refusal tests call-of
+  made-accepted p = ap (refusal plain p) (call-making m r q) ∙ acc
 
   pub made-plain : (p : State View) → step plain p (call-of r) ≡ (made plain m, created)
   unfolding call-of

@@ -15,20 +15,20 @@ use Rattle.slots.specs.Plain.{plain-ops}
 use Rattle.calls.specs.Calls.{Making, create, Answer, refused, created, number, alpha, version, vector, found, inserted, deleted, standing, assessed, applied, deferred}
 use Rattle.calls.specs.Refusals.{first-of, making-tests}
 use Rattle.calls.specs.State.{State, stored, plain, shown, made}
-use Rattle.calls.specs.Step.{step}
+use Rattle.calls.specs.Step.{step, refusal}
 use Rattle.calls.specs.History.{hide, Few, log-after, Within}
 use Rattle.calls.specs.Runs.{slices-of, value-of, call-of, run-refusal, after-run, next}
 use Rattle.calls.specs.Runs as Runs
 use Rattle.calls.proofs.History.{Same, Both, same-shown, same-seen}
-use Rattle.calls.proofs.Runs.{refused-slices, own-next, run-both, made-run-both, made-plain}
+use Rattle.calls.proofs.Runs.{refused-slices, run-refused, own-next, run-both, made-run-both, made-accepted, made-plain}
 use Rattle.index.specs.declared.Index.{Index}
 use Rattle.index.specs.declared.Guard.{Guard}
 use Rattle.index.specs.declared.Guard.the-variants.{Off, On}
 use Rattle.index.specs.Index.{guard-of, state-of}
 use Rattle.finder.specs.IndexWords.{index-of, words-of}
 use Rattle.finder.specs.IndexWords as Finder
-use Rattle.exported.specs.Runs.{Memory, Places, Run, Exported}
-use Rattle.exported.specs.History.{Lends, own, other-slices, any-memory, Event, Chain, Hand, in-hand, Asked, asked, put, guard-words, words-in, plain-hand, plain-hands, Exported-history}
+use Rattle.exported.specs.Runs.{Memory, Places, Exported-run, Exported}
+use Rattle.exported.specs.History.{Exported-lends, own, other-slices, any-memory, Event, Exported-chain, Hand, hide-version, in-hand, Asked, asked, put, guard-words, words-in, plain-hand, plain-hands, Untouched, Refused-untouched, As-plain, Exported-history}
 use Rattle.exported.proofs.Known.{state-in, as-run, Right, Known, known}
 
 -- ---- the words
@@ -49,9 +49,12 @@ plain-told p = refl
 
 -- ---- the answer
 
--- a version is not looked at
-unseen : (a : Answer) (o : Places) → put (hide a) o ≡ put a o
-unfolding put hide
+-- what is compared of it: not a version
+abbrev looked-at : ℕ × Places → ℕ × Places
+looked-at x = (x .0, hide-version (x .1))
+
+unseen : (a : Answer) (o : Places) → looked-at (put (hide a) o) ≡ looked-at (put a o)
+unfolding put hide hide-version
 unseen (refused n) o = refl
 unseen created o = refl
 unseen (number n) o = refl
@@ -68,11 +71,11 @@ unseen (deferred r) o = refl
 
 -- ---- where the app has its index
 
-abbrev run : {r : Run} → Known r → Runs.Run
-run {r} k = as-run r (k .answer) (k .scratch′)
+abbrev run : {r : Exported-run} → Known r → Runs.Run
+run {r} k = as-run r (k .answer)
 
-module _ (had : Memory) {r : Run} (k : Known r) where
-  lends : {has : Memory} → Lends had r has → Runs.Lends (state-in had) (run k)
+module _ (had : Memory) {r : Exported-run} (k : Known r) where
+  lends : {has : Memory} → Exported-lends had r has → Runs.Lends (state-in had) (run k)
   unfolding value-of store-view state-of slices-of
   lends (own q) = Runs.the-index (ap state-in q)
   lends (other-slices other q n) = Runs.other-slices (ap (λ w. value-of (state-of (index-of w) (r .lent .slices))) q) n
@@ -100,16 +103,16 @@ module _ (had : Memory) {r : Run} (k : Known r) where
     unfolding value-of store-view state-of slices-of
     other o q n =
         let f = refused-slices log (state-in had) p e (run k) o (ap (λ w. value-of (state-of (index-of w) (r .lent .slices))) q) n in
-        (f, sym (k .kept 3 f ∙ q))
+        (f, sym (ap (λ a. a .words) (k .untouched 3 f .memory) ∙ q))
 
-    has-next : {has : Memory} → Lends had r has → next (state-in had) (run k) ≡ state-in has
+    has-next : {has : Memory} → Exported-lends had r has → next (state-in had) (run k) ≡ state-in has
     unfolding next after-run
     has-next (own q) = next-own q
     has-next (other-slices o q n) =
         let f = other o q n in ap (after-run (state-in had) (run k)) (f .0) ∙ ap (λ w. state-of (index-of w) (had .slices)) (f .1)
     has-next (any-memory m q) = next-made (k .judges m q)
 
-    has-right : {has : Memory} → Lends had r has → Right had → Right has
+    has-right : {has : Memory} → Exported-lends had r has → Right had → Right has
     has-right (own q) h = k .right (subst Right (sym q) h)
     has-right (other-slices o q n) h = subst (λ w. w ≡ words-of (index-of w)) (other o q n .1) h
     has-right (any-memory m q) h = right-made h m q (eqb (r .returned) 0) refl
@@ -117,8 +120,9 @@ module _ (had : Memory) {r : Run} (k : Known r) where
 -- ---- one run
 
 -- the returned number and what stands where the answer is written, where the two indexes agree
-told : {log : List ℕ} {w : State Store} {q : State View × Answer} (r : Run) (k : Known r) → Both log (w, k .answer) q → (r .returned, r .after) ≡ put (q .1) (r .before)
-told {q} r k b = k .tells ∙ sym (unseen (k .answer) (r .before)) ∙ ap (λ a. put a (r .before)) (b .answer) ∙ unseen (q .1) (r .before)
+told : {log : List ℕ} {w : State Store} {q : State View × Answer} (r : Exported-run) (k : Known r) → Both log (w, k .answer) q → looked-at (r .returned, r .after) ≡ looked-at (put (q .1) (r .before))
+told {q} r k b =
+    ap looked-at (k .tells) ∙ sym (unseen (k .answer) (r .before)) ∙ ap (λ a. looked-at (put a (r .before))) (b .answer) ∙ unseen (q .1) (r .before)
 
 module _ (e : Event) (k : Known (e .run)) where
   -- so does what the caller has in hand
@@ -130,25 +134,32 @@ module _ (e : Event) (k : Known (e .run)) where
       let s = same-seen log (state-in (e .has), created) (q .0, created) (record { same = b .same; answer = refl }) in
       λ i. record { returned = t i .0; places = t i .1; words = w i; seen = s i }
 
-  both : (log : List ℕ) (had : Memory) (p : State View) → Same log (state-in had) p → Lends had (e .run) (e .has) → Few (log-after log p (asked e .call))
+  both : (log : List ℕ) (had : Memory) (p : State View) → Same log (state-in had) p → Exported-lends had (e .run) (e .has) → Few (log-after log p (asked e .call))
       → Both (log-after log p (asked e .call)) (state-in (e .has), k .answer) (step plain p (asked e .call))
   unfolding call-of slices-of state-of
   both log had p s l few =
       subst (λ w. Both (log-after log p (asked e .call)) (w, k .answer) (step plain p (asked e .call))) (has-next had k log p s l)
       (run-both log (state-in had) p s (run k) (lends had k l) (k .meets) few)
 
+  -- a run whose call the plain index turns back
+  turned-back : (log : List ℕ) (had : Memory) (p : State View) → Same log (state-in had) p → Exported-lends had (e .run) (e .has) → (n : ℕ)
+      → refusal plain p (asked e .call) ≡ some n → Untouched (e .run)
+  unfolding call-of slices-of state-of
+  turned-back log had p s l n h = k .untouched n (sym (run-refused log (state-in had) p s (run k) (lends had k l)) ∙ h)
+
 -- ---- every list of runs
 
-hands : (log : List ℕ) (had : Memory) (p : State View) → Same log (state-in had) p → Right had → (es : List Event) → Chain had es
-    → Within log p (map (λ e. asked e .call) es) → map in-hand es ≡ plain-hands p (map asked es)
+as-plain : (log : List ℕ) (had : Memory) (p : State View) → Same log (state-in had) p → Right had → (es : List Event) → Exported-chain had es
+    → Within log p (map (λ e. asked e .call) es) → As-plain p es
 unfolding plain-hands
-hands log had p s h [] c f = refl
-hands log had p s h (e ∷ es) c f =
+as-plain log had p s h [] c f = record { hands = refl; refused = tt }
+as-plain log had p s h (e ∷ es) c f =
     let k = known (c .0) in
     let h′ = has-right had k log p s (c .1) h in
     let b = both e k log had p s (c .1) (f .0) in
     let q = step plain p (asked e .call) in
-    ap₂ (λ x y. x ∷ y) (hand e k _ q h′ b) (hands _ (e .has) (q .0) (b .same) h′ es (c .2) (f .1))
+    let rest = as-plain _ (e .has) (q .0) (b .same) h′ es (c .2) (f .1) in
+    record { hands = ap₂ (λ x y. x ∷ y) (hand e k _ q h′ b) (rest .hands); refused = (turned-back e k log had p s (c .1), rest .refused) }
 
 -- ---- the making with which they begin
 
@@ -161,7 +172,7 @@ module _ (had : Memory) (m : Making) (e : Event) (k : Known (e .run)) (q : e .ru
   unfolding put
   returns-0 = ap (λ (x : ℕ × Places). x .0) (told (e .run) k begun)
 
-  first-next : {has : Memory} → Lends had (e .run) has → (next (state-in had) (run k) ≡ state-in has) × Right has
+  first-next : {has : Memory} → Exported-lends had (e .run) has → (next (state-in had) (run k) ≡ state-in has) × Right has
   first-next (own l) = (next-own had k l, k .makes m q returns-0)
   first-next (other-slices other l n) = absurd (other m q)
   first-next (any-memory m′ l) = (
@@ -175,5 +186,13 @@ exported-history had p m e es q acc c f =
     let k = known (c .0) in
     let n = first-next had m e k q acc (c .1) in
     let b = subst (λ w. Both [] (w, k .answer) (made plain m, created)) (n .0) (begun had m e k q acc) in
-    ap₂ (λ x y. x ∷ y) (hand e k [] (made plain m, created) (n .1) b) (hands [] (e .has) (made plain m) (b .same) (n .1) es (c .2) f)
-    ∙ sym (ap (λ (x : State View × Answer). plain-hand (asked e) x ∷ plain-hands (x .0) (map asked es)) (made-plain m (run k) q acc p))
+    let first = made-plain m (run k) q acc p in
+    let rest = as-plain [] (e .has) (made plain m) (b .same) (n .1) es (c .2) f in
+    record {
+      hands = ap₂ (λ x y. x ∷ y) (hand e k [] (made plain m, created) (n .1) b) (rest .hands)
+          ∙ sym (ap (λ (x : State View × Answer). plain-hand (asked e) x ∷ plain-hands (x .0) (map asked es)) first);
+      refused = (
+        λ n h. absurd (let f : none ≡ some n = sym (made-accepted m (run k) q acc p) ∙ h in let z : _≡_ {A = ℕ} 0 1 = cc in omega arith),
+        subst (λ (x : State View × Answer). Refused-untouched (x .0) es) (sym first) (rest .refused),
+      );
+    }

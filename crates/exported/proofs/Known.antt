@@ -13,12 +13,12 @@ use Rattle.vectors.specs.Distance.{f32}
 use Rattle.candidates.specs.Candidates.{Candidate}
 use Rattle.slots.specs.Sizes.{Slices, lengths-of, limits}
 use Rattle.slots.specs.Store.{Store}
-use Rattle.calls.specs.Calls.{Making, Search, Operation, create, read, read-vector, search, Answer, refused, created, alpha, vector}
+use Rattle.calls.specs.Calls.{Making, Search, Operation, create, read, read-vector, search, Answer, refused, created, alpha, vector, refused-as}
 use Rattle.calls.specs.Calls as Answers
 use Rattle.calls.specs.Outputs.{Outputs, no-outputs, written}
 use Rattle.calls.specs.Refusals.{first-of, making-tests, tests}
 use Rattle.calls.specs.State.{State, stored}
-use Rattle.calls.specs.Step.{refusal}
+use Rattle.calls.specs.Step.{refusal, settle, step}
 use Rattle.calls.specs.Runs.{slices-of, call-of, run-refusal, Meets}
 use Rattle.calls.specs.Runs as Runs
 use Rattle.index.specs.declared.Index.{Index}
@@ -30,22 +30,22 @@ use Rattle.index.proofs.Calls.{create-meets}
 use Rattle.reading.specs.declared.Reading.{Reading}
 use Rattle.reading.specs.declared.Reading.the-variants.{Dim, Capacity, Degree, Alpha, Entry, Live, Mark, Version, Target}
 use Rattle.reading.specs.declared.Value.{Value}
-use Rattle.reading.specs.declared.Value.the-variants.{Refused, Number, Alpha as Factor, Version as Stamp}
+use Rattle.reading.specs.declared.Value.the-variants.{Refused}
 use Rattle.reading.specs.declared.Found.{Found}
 use Rattle.reading.specs.declared.Found.the-variants.{Refused as none-found, Found as Nearest}
-use Rattle.reading.specs.Read.{reading-of, answer-of}
+use Rattle.reading.specs.Read.{reading-of, answer-of, Reads}
 use Rattle.reading.specs.Search.{found-as, search-outputs}
 use Rattle.finder.specs.IndexWords.{index-of, words-of}
-use Rattle.finder.specs.Given.{created-given, Creates-words, value-in, Reads-number, Reads-alpha, bytes-at, Reads-length, Searches-words}
-use Rattle.exported.specs.Runs.{Memory, Places, places, nowhere, in-value, in-alpha, Run, making, looking, number, Exported, finder-create, finder-dim, finder-capacity, finder-degree, finder-entry, finder-live, finder-mark, finder-slot-version, finder-target, finder-alpha, finder-vector, finder-search}
-use Rattle.exported.specs.History.{put}
+use Rattle.finder.specs.Given.{created-given, Creates-words, value-in, bytes-at, Reads-length, Searches-words}
+use Rattle.exported.specs.Runs.{Memory, Places, places, nowhere, in-value, in-alpha, in-version, Exported-run, making, looking, number, Exported, finder-create, finder-dim, finder-capacity, finder-degree, finder-entry, finder-live, finder-mark, finder-slot-version, finder-target, finder-alpha, finder-vector, finder-search}
+use Rattle.exported.specs.History.{put, Untouched}
 
 abbrev pub state-in : Memory → State Store
 state-in a = state-of (index-of (a .words)) (a .slices)
 
 -- a run as the theorem over runs of the calls takes it
-abbrev pub as-run : Run → Answer → List ℕ → Runs.Run
-as-run r answer scratch′ =
+abbrev pub as-run : Exported-run → Answer → Runs.Run
+as-run r answer =
     record {
       operation = r .operation;
       before = state-in (r .lent);
@@ -54,21 +54,20 @@ as-run r answer scratch′ =
       outputs-before = r .before .outputs;
       outputs-after = r .after .outputs;
       scratch-before = r .scratch;
-      scratch-after = scratch′;
+      scratch-after = r .scratch′;
     }
 
 -- an index's words are those that it is written as
 abbrev pub Right : Memory → Type 0
 Right a = a .words ≡ words-of (index-of (a .words))
 
-pub record Known (r : Run) : Type 0 where
+pub record Known (r : Exported-run) : Type 0 where
   pub answer : Answer
-  pub scratch′ : List ℕ
-  pub meets : Meets (as-run r answer scratch′)
+  pub meets : Meets (as-run r answer)
   pub tells : (r .returned, r .after) ≡ put answer (r .before)
   -- a making returns 0 or the number of its refusal
-  pub judges : (m : Making) → r .operation ≡ create m → run-refusal (as-run r answer scratch′) ≡ cond (eqb (r .returned) 0) none (some (r .returned))
-  pub kept : (n : ℕ) → run-refusal (as-run r answer scratch′) ≡ some n → r .left .words ≡ r .lent .words
+  pub judges : (m : Making) → r .operation ≡ create m → run-refusal (as-run r answer) ≡ cond (eqb (r .returned) 0) none (some (r .returned))
+  pub untouched : (n : ℕ) → run-refusal (as-run r answer) ≡ some n → Untouched r
   pub right : Right (r .lent) → Right (r .left)
   pub makes : (m : Making) → r .operation ≡ create m → r .returned ≡ 0 → Right (r .left)
 
@@ -86,6 +85,15 @@ module _ (status : ℕ) (a : Answer) (before after : Places) where
       go : (b : Bool) → eqb status 0 ≡ b → (status, after) ≡ put (cond b a (refused status)) before
       go true e = let z = eqb-true status 0 e in ap (λ n. (n, after)) z ∙ sym (on z)
       go false e = ap (λ o. (status, o)) (kept (eqb-false status 0 e))
+
+-- where a run is turned back, its answer is a refusal; so it writes nothing
+refused-places : (r : Exported-run) (answer : Answer) → Meets (as-run r answer) → (r .returned, r .after) ≡ put answer (r .before)
+    → ((n : ℕ) → put (refused-as n (r .operation)) (r .before) .1 ≡ r .before) → (n : ℕ) → run-refusal (as-run r answer) ≡ some n → r .after ≡ r .before
+unfolding run-refusal call-of step settle
+refused-places r answer f t stays n h =
+    let x = as-run r answer in
+    let a : answer ≡ refused-as n (r .operation) = ap (λ (y : State Store × Answer). y .1) (f .does ∙ ap (settle stored (x .before) (call-of x)) h) in
+    ap (λ (y : ℕ × Places). y .1) (t ∙ ap (λ b. put b (r .before)) a) ∙ stays n
 
 -- ---- making
 
@@ -109,7 +117,7 @@ module _ {m : Making} {lent left : Memory} {status : ℕ} (c : Creates-words m (
       go true e = refl
       go false e = ap (λ w. state-of (index-of w) (left .slices)) (sym (c .kept (eqb-false status 0 e)))
 
-  made-run : create-run m (state-in lent) (lent .slices) (left .slices) made ≡ as-run (making m lent left status) (by-status status created) []
+  made-run : create-run m (state-in lent) (lent .slices) (left .slices) made ≡ as-run (making m lent left status) (by-status status created)
   unfolding state-of
   made-run = λ i. record {
     operation = create m;
@@ -122,7 +130,7 @@ module _ {m : Making} {lent left : Memory} {status : ℕ} (c : Creates-words m (
     scratch-after = [];
   }
 
-  judged : run-refusal (as-run (making m lent left status) (by-status status created) []) ≡ cond (eqb status 0) none (some status)
+  judged : run-refusal (as-run (making m lent left status) (by-status status created)) ≡ cond (eqb status 0) none (some status)
   unfolding run-refusal refusal tests call-of slices-of state-of
   judged = go (eqb status 0) refl
     where
@@ -130,14 +138,17 @@ module _ {m : Making} {lent left : Memory} {status : ℕ} (c : Creates-words m (
       go true e = c .does .done _ (ap (λ b. cond b (Done (index-of (left .words))) (not-made status)) e) .accepted
       go false e = c .does .back _ (ap (λ b. cond b (Done (index-of (left .words))) (not-made status)) e) .number
 
-  left-alone : (n : ℕ) → run-refusal (as-run (making m lent left status) (by-status status created) []) ≡ some n → left .words ≡ lent .words
+  left-alone : (n : ℕ) → run-refusal (as-run (making m lent left status) (by-status status created)) ≡ some n → left ≡ lent
   left-alone n h = go (eqb status 0) refl
     where
-      go : (b : Bool) → eqb status 0 ≡ b → left .words ≡ lent .words
+      go : (b : Bool) → eqb status 0 ≡ b → left ≡ lent
       go true e =
           let f : none ≡ some n = sym (judged ∙ ap (λ b. cond b none (some status)) e) ∙ h in
           absurd (let z : _≡_ {A = ℕ} 0 1 = cc in omega arith)
-      go false e = c .kept (eqb-false status 0 e)
+      go false e =
+          let w = c .kept (eqb-false status 0 e) in
+          let s = c .does .back _ (ap (λ b. cond b (Done (index-of (left .words))) (not-made status)) e) .kept in
+          λ i. record { words = w i; slices = s i }
 
   rightly : Right lent → Right left
   rightly h = go (eqb status 0) refl
@@ -150,26 +161,25 @@ module _ {m : Making} {lent left : Memory} {status : ℕ} (c : Creates-words m (
   unfolding put
   known-making = record {
     answer = by-status status created;
-    scratch′ = [];
     meets = subst Meets made-run (create-meets (state-in lent) made (c .does));
     tells = status-tells status created nowhere nowhere (λ z. refl) (λ z. refl);
     judges = λ m q. judged;
-    kept = left-alone;
+    untouched = λ n h. record { memory = left-alone n h; scratch = refl; places = refl };
     right = rightly;
     makes = λ m q z. c .written z;
   }
 
 -- ---- a run that leaves the memory
 
-known-looking : {o : Operation} {lent : Memory} {scratch : List ℕ} {before after : Places} {returned : ℕ} → ((m : Making) → o ≡ create m → ⊥) → (answer : Answer) (scratch′ : List ℕ)
-    → Meets (as-run (looking o lent scratch before after returned) answer scratch′) → (returned, after) ≡ put answer before → Known (looking o lent scratch before after returned)
-known-looking other answer scratch′ f t = record {
+known-looking : {o : Operation} {lent : Memory} {scratch scratch′ : List ℕ} {before after : Places} {returned : ℕ} → ((m : Making) → o ≡ create m → ⊥) → (answer : Answer)
+    → Meets (as-run (looking o lent scratch scratch′ before after returned) answer) → (returned, after) ≡ put answer before → ((n : ℕ) → put (refused-as n o) before .1 ≡ before)
+    → Known (looking o lent scratch scratch′ before after returned)
+known-looking other answer f t stays = record {
   answer = answer;
-  scratch′ = scratch′;
   meets = f;
   tells = t;
   judges = λ m q. absurd (other m q);
-  kept = λ n e. refl;
+  untouched = λ n h. record { memory = refl; scratch = f .keeps n h; places = refused-places _ answer f t stays n h };
   right = λ h. h;
   makes = λ m q z. absurd (other m q);
 }
@@ -184,43 +194,27 @@ unfolding answer-of
 value-as status v true = refl
 value-as status v false = refl
 
-module _ {lent : Memory} {status : ℕ} where
-  known-number : (q : Reading) {value value′ : ℕ} (x : ℕ) → Reads-number (lent .words) (lent .slices) q value value′ status
-      → (status ≡ 0 → put (answer-of (value-in q value′)) (in-value value) ≡ (0, in-value x)) → ((status ≡ 0 → ⊥) → x ≡ value)
-      → Known (number (reading-of q) lent value x status)
-  known-number q {value} {value′} x c on kept =
-      let a = answer-of (value-in q value′) in
-      known-looking (no-making (reading-of q)) (by-status status a) []
-      (subst (λ a. Meets (as-run (number (reading-of q) lent value x status) a [])) (value-as status (value-in q value′) (eqb status 0)) (c .does .meets))
-      (status-tells status a (in-value value) (in-value x) on (λ z. ap in-value (kept z)))
-
-  -- a version, which is not compared
-  known-version : {slot value value′ : ℕ} → Reads-number (lent .words) (lent .slices) (Version slot) value value′ status
-      → Known (number (reading-of (Version slot)) lent value (cond (eqb status 0) value value′) status)
-  unfolding put answer-of value-in
-  known-version {slot} {value} {value′} c =
-      known-number (Version slot) (cond (eqb status 0) value value′) c
-      (λ z. ap (λ b. (0, in-value (cond b value value′))) (sym (eq-eqb status 0 z)))
-      (λ z. ap (λ n. cond (eqb status 0) value n) (c .kept z) ∙ same (eqb status 0))
-    where
-      same : (b : Bool) → cond b value value ≡ value
-      same true = refl
-      same false = refl
-
-  known-alpha : {value value′ : Float} → Reads-alpha (lent .words) (lent .slices) value value′ status
-      → Known (looking (read (reading-of Alpha)) lent [] (in-alpha value) (in-alpha value′) status)
-  unfolding put answer-of
-  known-alpha {value} {value′} c =
-      known-looking (no-making (reading-of Alpha)) (by-status status (alpha value′)) []
-      (subst (λ a. Meets (as-run (looking (read (reading-of Alpha)) lent [] (in-alpha value) (in-alpha value′) status) a [])) (value-as status (Factor value′) (eqb status 0)) (c .does .meets))
-      (status-tells status (alpha value′) (in-alpha value) (in-alpha value′) (λ z. refl) (λ z. ap in-alpha (c .kept z)))
+-- what is read is put where the answer is written, if the status is 0
+known-reading : {lent : Memory} {status value value′ version version′ : ℕ} {alpha alpha′ : Float} (q : Reading) (v : Value)
+    → Reads (index-of (lent .words)) (lent .slices) q (cond (eqb status 0) v (Refused status))
+    → put (answer-of v) (places value alpha version [] no-outputs) ≡ (0, places value′ alpha′ version′ [] no-outputs)
+    → ((status ≡ 0 → ⊥) → _≡_ {A = Places} (places value′ alpha′ version′ [] no-outputs) (places value alpha version [] no-outputs))
+    → Known (looking (read (reading-of q)) lent [] [] (places value alpha version [] no-outputs) (places value′ alpha′ version′ [] no-outputs) status)
+unfolding put refused-as
+known-reading {lent} {status} {value} {value′} {version} {version′} {alpha} {alpha′} q v c on kept =
+    let before = places value alpha version [] no-outputs in
+    let after = places value′ alpha′ version′ [] no-outputs in
+    known-looking (no-making (reading-of q)) (by-status status (answer-of v))
+    (subst (λ a. Meets (as-run (looking (read (reading-of q)) lent [] [] before after status) a)) (value-as status v (eqb status 0)) (c .meets))
+    (status-tells status (answer-of v) before after (λ z. on) kept)
+    (λ n. refl)
 
 known-vector : {lent : Memory} {slot n : ℕ} → Reads-length (lent .words) (lent .slices) slot n
-    → Known (looking (read-vector slot) lent [] nowhere (places 0 (f32 0) (bytes-at (lent .words) (lent .slices) slot n) no-outputs) n)
-unfolding put
+    → Known (looking (read-vector slot) lent [] [] nowhere (places 0 (f32 0) 0 (bytes-at (lent .words) (lent .slices) slot n) no-outputs) n)
+unfolding put refused-as
 known-vector {lent} {slot} {n} c =
     let l = bytes-at (lent .words) (lent .slices) slot n in
-    known-looking (λ m e. let z : _≡_ {A = ℕ} 0 1 = cc in omega arith) (vector l) [] (c .does .meets) (ap (λ k. (k, places 0 (f32 0) l no-outputs)) (c .there))
+    known-looking (λ m e. let z : _≡_ {A = ℕ} 0 1 = cc in omega arith) (vector l) (c .does .meets) (ap (λ k. (k, places 0 (f32 0) 0 l no-outputs)) (c .there)) (λ n. refl)
 
 -- ---- search
 
@@ -232,42 +226,43 @@ found-answer status n cs false = refl
 module _ {lent : Memory} {a : Search} {slots slots′ : List ℕ} {dists dists′ : List Float} {scratch scratch′ : List ℕ} {found found′ status : ℕ}
     (c : Searches-words (lent .words) (lent .slices) a (search-outputs slots dists) scratch (search-outputs slots′ dists′) scratch′ found found′ status) where
   abbrev before : Places
-  before = places found (f32 0) [] (search-outputs slots dists)
+  before = places found (f32 0) 0 [] (search-outputs slots dists)
 
   abbrev after : Places
-  after = places found′ (f32 0) [] (search-outputs slots′ dists′)
+  after = places found′ (f32 0) 0 [] (search-outputs slots′ dists′)
 
-  known-search : Known (looking (search a) lent scratch before after status)
-  unfolding put written found-as
+  known-search : Known (looking (search a) lent scratch scratch′ before after status)
+  unfolding put written found-as refused-as
   known-search =
       let cs = c .does .nearest in
       let e = found-answer status found′ cs (eqb status 0) in
-      let f = subst (λ x. Meets (as-run (looking (search a) lent scratch before after status) x scratch′)) e (c .does .meets) in
-      known-looking (λ m e. let z : _≡_ {A = ℕ} 0 1 = cc in omega arith) (by-status status (Answers.found cs)) scratch′ f
+      let f = subst (λ x. Meets (as-run (looking (search a) lent scratch scratch′ before after status) x)) e (c .does .meets) in
+      known-looking (λ m e. let z : _≡_ {A = ℕ} 0 1 = cc in omega arith) (by-status status (Answers.found cs)) f
       (status-tells status (Answers.found cs) before after
       (λ z.
       let b = eq-eqb status 0 z in
       let n : found′ ≡ length cs = c .does .counts found′ (ap (λ b. cond b (Nearest found′) (none-found status)) b) in
       let o = f .writes ∙ ap (λ b. written (cond b (Answers.found cs) (refused status)) (search-outputs slots dists)) b in
-      λ i. (0, places (sym n i) (f32 0) [] (sym o i)))
+      λ i. (0, places (sym n i) (f32 0) 0 [] (sym o i)))
       (λ z.
       let b = ne-eqb status 0 z in
       let o = f .writes ∙ ap (λ b. written (cond b (Answers.found cs) (refused status)) (search-outputs slots dists)) b in
-      λ i. places (c .kept z i) (f32 0) [] (o i)))
+      λ i. places (c .kept z i) (f32 0) 0 [] (o i)))
+      (λ n. refl)
 
 -- ---- every exported function
 
-pub known : {r : Run} → Exported r → Known r
+pub known : {r : Exported-run} → Exported r → Known r
 unfolding reading-of answer-of value-in put
 known (finder-create c) = known-making c
-known (finder-dim c) = known-number Dim _ c (λ z. refl) (c .kept)
-known (finder-capacity c) = known-number Capacity _ c (λ z. refl) (c .kept)
-known (finder-degree c) = known-number Degree _ c (λ z. refl) (c .kept)
-known (finder-entry c) = known-number Entry _ c (λ z. refl) (c .kept)
-known (finder-live c) = known-number Live _ c (λ z. refl) (c .kept)
-known (finder-mark {slot} c) = known-number (Mark slot) _ c (λ z. refl) (c .kept)
-known (finder-slot-version c) = known-version c
-known (finder-target {slot} {place} c) = known-number (Target slot place) _ c (λ z. refl) (c .kept)
-known (finder-alpha c) = known-alpha c
+known (finder-dim c) = known-reading Dim _ (c .does) refl (λ z. ap in-value (c .kept z))
+known (finder-capacity c) = known-reading Capacity _ (c .does) refl (λ z. ap in-value (c .kept z))
+known (finder-degree c) = known-reading Degree _ (c .does) refl (λ z. ap in-value (c .kept z))
+known (finder-entry c) = known-reading Entry _ (c .does) refl (λ z. ap in-value (c .kept z))
+known (finder-live c) = known-reading Live _ (c .does) refl (λ z. ap in-value (c .kept z))
+known (finder-mark {slot} c) = known-reading (Mark slot) _ (c .does) refl (λ z. ap in-value (c .kept z))
+known (finder-slot-version {slot} c) = known-reading (Version slot) _ (c .does) refl (λ z. ap in-version (c .kept z))
+known (finder-target {slot} {place} c) = known-reading (Target slot place) _ (c .does) refl (λ z. ap in-value (c .kept z))
+known (finder-alpha c) = known-reading Alpha _ (c .does) refl (λ z. ap in-alpha (c .kept z))
 known (finder-vector c) = known-vector c
 known (finder-search c) = known-search c

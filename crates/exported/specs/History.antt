@@ -1,9 +1,9 @@
--- Demand 3 of the code: whatever exported functions are run on one index, the caller has in hand what the plain index gives, fed the same calls.
--- Assumes nothing.
+-- Demand 3 of the code: whatever exported functions are run on one index, the caller has in hand what the plain index gives, fed the same calls, and a run
+-- whose call it turns back leaves all that it is lent. Assumes nothing.
 use Prim.Native.Nat.{ℕ}
 use mathlib.Core.Bool.{cond}
 use mathlib.Core.List.{List, [], _∷_, map}
-use mathlib.Core.Option.{none}
+use mathlib.Core.Option.{none, some}
 use mathlib.Core.Path.{_≡_}
 use lib.Dec.{eqb}
 use lib.Ieee.{binary32, toBits}
@@ -16,34 +16,34 @@ use Rattle.calls.specs.Calls.{Making, create, Call, Answer, refused, created, n
 use Rattle.calls.specs.Outputs.{written}
 use Rattle.calls.specs.Refusals.{first-of, making-tests}
 use Rattle.calls.specs.State.{State, stored, plain, made}
-use Rattle.calls.specs.Step.{step}
+use Rattle.calls.specs.Step.{step, refusal}
 use Rattle.calls.specs.History.{Seen, seen, Within}
 use Rattle.calls.specs.Runs.{lent-of}
 use Rattle.index.specs.Index.{state-of}
 use Rattle.finder.specs.IndexWords.{index-of}
-use Rattle.exported.specs.Runs.{Memory, Places, places, Run, Exported}
+use Rattle.exported.specs.Runs.{Memory, Places, places, Exported-run, Exported}
 
 -- ---- runs on one index
 
--- `Lends had r has`: what a run may be lent by an app whose index is `had`, and what the app's index is after it
-pub data Lends (had : Memory) (r : Run) : Memory → Type 0 where
+-- `Exported-lends had r has`: what a run may be lent by an app whose index is `had`, and what the app's index is after it
+pub data Exported-lends (had : Memory) (r : Exported-run) : Memory → Type 0 where
   -- the app's index
-  own : r .lent ≡ had → Lends had r (r .left)
+  own : r .lent ≡ had → Exported-lends had r (r .left)
   -- its words with slices of which at least one has another length, where r is no making
   other-slices : ((m : Making) → r .operation ≡ create m → ⊥) → r .lent .words ≡ had .words → (lengths-of (r .lent .slices) ≡ lengths-of (had .slices) → ⊥)
-      → Lends had r (record { words = r .left .words; slices = had .slices })
+      → Exported-lends had r (record { words = r .left .words; slices = had .slices })
   -- any memory, to make an index in; where that is turned back the app keeps its own
-  any-memory : (m : Making) → r .operation ≡ create m → Lends had r (cond (eqb (r .returned) 0) (r .left) had)
+  any-memory : (m : Making) → r .operation ≡ create m → Exported-lends had r (cond (eqb (r .returned) 0) (r .left) had)
 
 -- a run, and the app's index after it
 pub record Event : Type 0 where
-  pub run : Run
+  pub run : Exported-run
   pub has : Memory
 
 -- runs of exported functions on one index
-abbrev pub Chain : Memory → List Event → Type 0
-Chain had [] = Unit {0}
-Chain had (e ∷ es) = Exported (e .run) × Lends had (e .run) (e .has) × Chain (e .has) es
+abbrev pub Exported-chain : Memory → List Event → Type 0
+Exported-chain had [] = Unit {0}
+Exported-chain had (e ∷ es) = Exported (e .run) × Exported-lends had (e .run) (e .has) × Exported-chain (e .has) es
 
 -- ---- what the caller has in hand after a run
 
@@ -55,11 +55,15 @@ pub record Hand : Type 0 where
   -- pool, live slots, their vectors and live targets; the answer stands above
   pub seen : Seen
 
+-- a version is not compared
+unfoldable pub hide-version : Places → Places
+hide-version o = places (o .value) (o .alpha) 0 (o .bytes) (o .outputs)
+
 unfoldable pub in-hand : Event → Hand
 in-hand e =
     record {
       returned = e .run .returned;
-      places = e .run .after;
+      places = hide-version (e .run .after);
       words = e .has .words;
       seen = seen stored (state-of (index-of (e .has .words)) (e .has .slices)) created;
     }
@@ -76,15 +80,15 @@ asked e =
     let r = e .run in
     record { call = record { lent = lent-of (r .lent .slices) (r .before .outputs) (r .scratch); operation = r .operation }; before = r .before }
 
--- the number that is returned with an answer, and what then stands where it is written; a version is not compared
+-- the number that is returned with an answer, and what then stands where it is written
 unfoldable pub put : Answer → Places → ℕ × Places
 put (refused n) o = (n, o)
 put created o = (0, o)
-put (number n) o = (0, places n (o .alpha) (o .bytes) (o .outputs))
-put (alpha a) o = (0, places (o .value) a (o .bytes) (o .outputs))
-put (version n) o = (0, o)
-put (vector l) o = (length l, places (o .value) (o .alpha) l (o .outputs))
-put (found cs) o = (0, places (length cs) (o .alpha) (o .bytes) (written (found cs) (o .outputs)))
+put (number n) o = (0, places n (o .alpha) (o .version) (o .bytes) (o .outputs))
+put (alpha a) o = (0, places (o .value) a (o .version) (o .bytes) (o .outputs))
+put (version n) o = (0, places (o .value) (o .alpha) n (o .bytes) (o .outputs))
+put (vector l) o = (length l, places (o .value) (o .alpha) (o .version) l (o .outputs))
+put (found cs) o = (0, places (length cs) (o .alpha) (o .version) (o .bytes) (written (found cs) (o .outputs)))
 -- no exported function answers so yet
 put (inserted ss) o = (0, o)
 put (deleted ts) o = (0, o)
@@ -104,13 +108,30 @@ words-in w =
     z .dim ∷ z .capacity ∷ z .degree ∷ toBits binary32 (z .alpha) ∷ w .graph .entry ∷ w .live ∷ guard-words (w .guard)
 
 unfoldable pub plain-hand : Asked → State View × Answer → Hand
-plain-hand a q = let o = put (q .1) (a .before) in record { returned = o .0; places = o .1; words = words-in (q .0); seen = seen plain (q .0) created }
+plain-hand a q = let o = put (q .1) (a .before) in record { returned = o .0; places = hide-version (o .1); words = words-in (q .0); seen = seen plain (q .0) created }
 
 unfoldable pub plain-hands : State View → List Asked → List Hand
 plain-hands p [] = []
 plain-hands p (a ∷ rest) = let q = step plain p (a .call) in plain-hand a q ∷ plain-hands (q .0) rest
 
+-- ---- a run whose call is turned back
+
+-- words, slices, scratch and outputs stay as they were
+pub record Untouched (r : Exported-run) : Type 0 where
+  pub memory : r .left ≡ r .lent
+  pub scratch : r .scratch′ ≡ r .scratch
+  pub places : r .after ≡ r .before
+
+abbrev pub Refused-untouched : State View → List Event → Type 0
+Refused-untouched p [] = Unit {0}
+Refused-untouched p (e ∷ es) =
+    let c = asked e .call in ((n : ℕ) → refusal plain p c ≡ some n → Untouched (e .run)) × Refused-untouched (step plain p c .0) es
+
 -- ---- the claim
+
+pub record As-plain (p : State View) (es : List Event) : Type 0 where
+  pub hands : map in-hand es ≡ plain-hands p (map asked es)
+  pub refused : Refused-untouched p es
 
 -- whatever the memory held before the accepted making with which the runs begin, and whatever the scratch holds
 abbrev pub Exported-history : Type 0
@@ -118,6 +139,6 @@ Exported-history =
     (had : Memory) (p : State View) (m : Making) (e : Event) (es : List Event)
     → e .run .operation ≡ create m
     → first-of (making-tests limits (lengths-of (e .run .lent .slices)) m) ≡ none
-    → Chain had (e ∷ es)
+    → Exported-chain had (e ∷ es)
     → Within [] (made plain m) (map (λ e. asked e .call) es)
-    → map in-hand (e ∷ es) ≡ plain-hands p (map asked (e ∷ es))
+    → As-plain p (e ∷ es)

@@ -1,9 +1,7 @@
 -- Runs of the exported functions that work on an index: all of include/finder.h but `finder_scratch_words`. Each has the contract that its function is
 -- proved to meet (finder/specs/Given.antt) and nothing else; what is left has a prime. Assumes nothing.
 use Prim.Native.Nat.{ℕ}
-use mathlib.Core.Bool.{cond}
 use mathlib.Core.List.{List, []}
-use lib.Dec.{eqb}
 use lib.Ieee.{Float}
 use Rattle.vectors.specs.Distance.{f32}
 use Rattle.slots.specs.Sizes.{Slices}
@@ -19,50 +17,56 @@ pub record Memory : Type 0 where
   pub words : List ℕ
   pub slices : Slices
 
--- where an answer is written: `*value` or `*found`; the `*value` of `finder_alpha`; a vector's bytes, which are read where they lie; the output lists
+-- where an answer is written: `*value` or `*found`; the `*value` of `finder_alpha`; that of `finder_slot_version`; a vector's bytes, which are read where
+-- they lie; the output lists
 pub record Places : Type 0 where
   pub value : ℕ
   pub alpha : Float
+  pub version : ℕ
   pub bytes : List ℕ
   pub outputs : Outputs
 
-abbrev pub places : ℕ → Float → List ℕ → Outputs → Places
-places value alpha bytes outputs = record { value = value; alpha = alpha; bytes = bytes; outputs = outputs }
+abbrev pub places : ℕ → Float → ℕ → List ℕ → Outputs → Places
+places value alpha version bytes outputs = record { value = value; alpha = alpha; version = version; bytes = bytes; outputs = outputs }
 
 -- a function has only some of them: the others count as 0 or empty
 abbrev pub nowhere : Places
-nowhere = places 0 (f32 0) [] no-outputs
+nowhere = places 0 (f32 0) 0 [] no-outputs
 
 abbrev pub in-value : ℕ → Places
-in-value n = places n (f32 0) [] no-outputs
+in-value n = places n (f32 0) 0 [] no-outputs
 
 abbrev pub in-alpha : Float → Places
-in-alpha a = places 0 a [] no-outputs
+in-alpha a = places 0 a 0 [] no-outputs
 
--- one run: what is asked, the memory that is lent and left, the scratch that is lent, what stands before and after where the answer is written, and the
+abbrev pub in-version : ℕ → Places
+in-version n = places 0 (f32 0) n [] no-outputs
+
+-- one run: what is asked, memory and scratch as they are lent and as they are left, what stands before and after where the answer is written, and the
 -- number returned
-pub record Run : Type 0 where
+pub record Exported-run : Type 0 where
   pub operation : Operation
   pub lent : Memory
   pub left : Memory
   pub scratch : List ℕ
+  pub scratch′ : List ℕ
   pub before : Places
   pub after : Places
   pub returned : ℕ
 
-abbrev pub making : Making → Memory → Memory → ℕ → Run
-making m lent left status = record { operation = create m; lent = lent; left = left; scratch = []; before = nowhere; after = nowhere; returned = status }
+abbrev pub making : Making → Memory → Memory → ℕ → Exported-run
+making m lent left status = record { operation = create m; lent = lent; left = left; scratch = []; scratch′ = []; before = nowhere; after = nowhere; returned = status }
 
 -- a run that leaves the memory
-abbrev pub looking : Operation → Memory → List ℕ → Places → Places → ℕ → Run
-looking o lent scratch before after returned =
-    record { operation = o; lent = lent; left = lent; scratch = scratch; before = before; after = after; returned = returned }
+abbrev pub looking : Operation → Memory → List ℕ → List ℕ → Places → Places → ℕ → Exported-run
+looking o lent scratch scratch′ before after returned =
+    record { operation = o; lent = lent; left = lent; scratch = scratch; scratch′ = scratch′; before = before; after = after; returned = returned }
 
-abbrev pub number : Calls.Reading → Memory → ℕ → ℕ → ℕ → Run
-number q lent value value′ status = looking (read q) lent [] (in-value value) (in-value value′) status
+abbrev pub number : Calls.Reading → Memory → ℕ → ℕ → ℕ → Exported-run
+number q lent value value′ status = looking (read q) lent [] [] (in-value value) (in-value value′) status
 
 -- the runs of each function
-pub data Exported : Run → Type 0 where
+pub data Exported : Exported-run → Type 0 where
   finder-create : {m : Making} {lent left : Memory} {status : ℕ} → Creates-words m (lent .slices) (left .slices) (lent .words) (left .words) status
       → Exported (making m lent left status)
   finder-dim : {lent : Memory} {value value′ status : ℕ} → Reads-number (lent .words) (lent .slices) Dim value value′ status
@@ -77,15 +81,14 @@ pub data Exported : Run → Type 0 where
       → Exported (number read-live lent value value′ status)
   finder-mark : {lent : Memory} {slot value value′ status : ℕ} → Reads-number (lent .words) (lent .slices) (Mark slot) value value′ status
       → Exported (number (read-mark slot) lent value value′ status)
-  -- a version that is read is not compared: what stood there before stands for it
   finder-slot-version : {lent : Memory} {slot value value′ status : ℕ} → Reads-number (lent .words) (lent .slices) (Version slot) value value′ status
-      → Exported (number (read-version slot) lent value (cond (eqb status 0) value value′) status)
+      → Exported (looking (read (read-version slot)) lent [] [] (in-version value) (in-version value′) status)
   finder-target : {lent : Memory} {slot place value value′ status : ℕ} → Reads-number (lent .words) (lent .slices) (Target slot place) value value′ status
       → Exported (number (read-target slot place) lent value value′ status)
   finder-alpha : {lent : Memory} {value value′ : Float} {status : ℕ} → Reads-alpha (lent .words) (lent .slices) value value′ status
-      → Exported (looking (read read-alpha) lent [] (in-alpha value) (in-alpha value′) status)
+      → Exported (looking (read read-alpha) lent [] [] (in-alpha value) (in-alpha value′) status)
   finder-vector : {lent : Memory} {slot n : ℕ} → Reads-length (lent .words) (lent .slices) slot n
-      → Exported (looking (read-vector slot) lent [] nowhere (places 0 (f32 0) (bytes-at (lent .words) (lent .slices) slot n) no-outputs) n)
+      → Exported (looking (read-vector slot) lent [] [] nowhere (places 0 (f32 0) 0 (bytes-at (lent .words) (lent .slices) slot n) no-outputs) n)
   finder-search : {lent : Memory} {a : Search} {slots slots′ : List ℕ} {dists dists′ : List Float} {scratch scratch′ : List ℕ} {found found′ status : ℕ}
       → Searches-words (lent .words) (lent .slices) a (search-outputs slots dists) scratch (search-outputs slots′ dists′) scratch′ found found′ status
-      → Exported (looking (search a) lent scratch (places found (f32 0) [] (search-outputs slots dists)) (places found′ (f32 0) [] (search-outputs slots′ dists′)) status)
+      → Exported (looking (search a) lent scratch scratch′ (places found (f32 0) 0 [] (search-outputs slots dists)) (places found′ (f32 0) 0 [] (search-outputs slots′ dists′)) status)
