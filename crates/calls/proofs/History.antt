@@ -84,7 +84,7 @@ pool-fits v c e =
 pub made-both : (lent : Lengths) (m : Making) → first-of (making-tests limits lent m) ≡ none → Both [] (made stored m, created) (made plain m, created)
 unfolding made stored plain store-ops plain-ops pool-of
 made-both lent m acc =
-    let a = agree-new (m .sizes) (m .given) (m .vectors) (m .rows) (m .entry) (accepted lent m acc) in
+    let a = agree-new (m .sizes) (m .count) (m .bytes) (m .rows) (m .entry) (accepted lent m acc) in
     record {
       same = record { agree = a; live = ap (λ u. length (live-slots u)) (a .same); guard = refl; pool-long = length-replicate (limits .pool) 0; pool = refl };
       answer = refl;
@@ -198,7 +198,7 @@ module _ (log : List ℕ) (w : State Store) (p : State View) (e : Same log w p) 
         answer = ap (λ u. hide (standing (guard-status u (on (normalized c) (length (new-pool u c))) (new-pool u c)))) (e .agree .same);
       }
   perform-both lent status r few = looks (λ s. standing (guard-status (s .graph) (s .guard) (s .pool)))
-  perform-both lent (assess ids) r few = looks (λ s. assessed (report-of s ids))
+  perform-both lent (assess a) r few = looks (λ s. assessed (report-of s (a .ids)))
   perform-both lent (guarded-delete a) r few =
       let q = report-of (shown plain p) (a .ids) in
       subst (λ s. Both (cond (q .admitted) (emptied (p .graph) (a .ids) ++ log) log) (guarded stored w a (report-of s (a .ids)) (report-of s (a .ids) .admitted)) (guarded plain p a q (q .admitted)))

@@ -1,5 +1,4 @@
--- Demand 2 where the library uses it: the proofs of `Searched`, `Tried`, `Planned`, `Target-row` and `Repaired-row` for every stored index that passes
--- rows 1, 2 and 3 and whose vectors are bytes; making gives such an index, and the steps of insert and delete keep it. Assumes nothing.
+-- Demand 2 where the library uses it: the proof of `Demand-2`. Assumes nothing.
 use Prim.Native.Nat.{ℕ, zero, suc, _+_, _-_, _*_, max, _≤_, _<_}
 use mathlib.Core.Bool.{Bool, true, false, not, _&&_, cond}
 use mathlib.Core.Path.{_≡_, refl, sym, ap, _∙_}
@@ -15,7 +14,7 @@ use Rattle.vectors.specs.Distance.{distance}
 use Rattle.vectors.specs.Space.{slot-distance, query-distance}
 use Rattle.vectors.proofs.Distances.{distance-self, distance-sym, distance-small}
 use Rattle.candidates.specs.Candidates.{Candidate, scored, ids}
-use Rattle.slots.specs.Sizes.{Sizes, limits, within, sizes-ok, alpha-ok, lengths-of, lengths-ok}
+use Rattle.slots.specs.Sizes.{Sizes, exact, limits, within, sizes-ok, alpha-ok, lengths-of, lengths-ok}
 use Rattle.slots.specs.View.{View, live-neighbors}
 use Rattle.slots.specs.Store.{Arrays, Shaped, Store, vector-of, store-view, write-neighbors, write-vector, set-mark, next-version, with-arrays, at-slot, store-ops, new-arrays}
 use Rattle.slots.proofs.Changes.{shaped-marked, shaped-stepped, shaped-vector}
@@ -33,8 +32,8 @@ use Rattle.repair.specs.Repair.{insert-and-prune, repaired-row}
 use Rattle.guard.specs.Guard.{virtual-search-pool}
 use Rattle.calls.specs.State.{State, view-of, made, with-graph, stored}
 use Rattle.calls.specs.Runs.{slices-of}
-use Rattle.calls.specs.Instances.{AllBytes, Passes, Made, Kept, greedy, robust, nearest, Searched, Tried, Planned, Target-row, Repaired-row}
-use Rattle.calls.proofs.Tests.{and-both, exact, passed-lengths}
+use Rattle.calls.specs.Instances.{AllBytes, Passes, Made, Kept, greedy, robust, nearest, Searched, Tried, Planned, Target-row, Repaired-row, Demand-2}
+use Rattle.calls.proofs.Tests.{and-both, passed-lengths}
 use Rattle.calls.proofs.History.{made-both}
 
 -- ---- what the algorithms ask of a view
@@ -179,15 +178,15 @@ record Good (b : Store) : Type 0 where
   bytes : AllBytes (b .arrays .vectors)
 
 module _ (w : State Store) where
-  lengths-pass : Passes w → lengths-of (slices-of w) ≡ exact (view-of stored w .sizes)
+  lengths-pass : Passes w → lengths-of (slices-of w) ≡ exact limits (view-of stored w .sizes)
   lengths-pass p = passed-lengths (view-of stored w .sizes) (lengths-of (slices-of w)) (p .lengths)
 
   pool-long : Passes w → length (w .pool) ≡ limits .pool
-  unfolding slices-of exact
+  unfolding slices-of
   pool-long p = ap (λ n. n .pool) (lengths-pass p)
 
   passes-good : Passes w → Good (w .graph)
-  unfolding stored store-ops store-view slices-of exact
+  unfolding stored store-ops store-view slices-of
   passes-good p =
       let e = lengths-pass p in
       record {
@@ -313,7 +312,7 @@ made-passes lent m e h =
       sizes-right = sound .sizes-right;
       alpha-right = sound .alpha-right;
       shaped = sound .shaped;
-      bytes = all-append _ (m .vectors) (replicate ((m .sizes .capacity - m .given) * m .sizes .dim) 0) h (zeros ((m .sizes .capacity - m .given) * m .sizes .dim));
+      bytes = all-append _ (m .bytes) (replicate ((m .sizes .capacity - m .count) * m .sizes .dim) 0) h (zeros ((m .sizes .capacity - m .count) * m .sizes .dim));
     })
   where
     zeros : (n : ℕ) → AllBytes (replicate n 0)
@@ -345,3 +344,14 @@ target-row-is-robust w p = target-pruned (view-of stored w) (passes-fit w p)
 -- and a repaired row, of itself and a link's target, link by link
 pub repaired-row-is-robust : (w : State Store) → Passes w → Repaired-row (view-of stored w)
 repaired-row-is-robust w p = repaired (view-of stored w) (passes-fit w p)
+
+pub demand-2 : Demand-2
+demand-2 = record {
+  makes = made-passes;
+  keeps = passes-kept;
+  searches = search-pool-is-greedy;
+  tries = trial-walk-is-greedy;
+  plans = plan-is-robust;
+  target-rows = target-row-is-robust;
+  repaired-rows = repaired-row-is-robust;
+}

@@ -6,7 +6,7 @@ use mathlib.Core.Path.{_≡_, refl, sym, ap, ap₂, _∙_, subst}
 use mathlib.Core.List.{List, [], _∷_, map}
 use native.Mathlib.Omega.{arith}
 use Rattle.lists.specs.Lists.{times}
-use Rattle.slots.specs.Sizes.{Lengths, lengths-of, limits, sizes-ok, alpha-ok, lengths-ok}
+use Rattle.slots.specs.Sizes.{Lengths, exact, lengths-of, limits, sizes-ok, alpha-ok, lengths-ok}
 use Rattle.slots.specs.View.{View}
 use Rattle.slots.specs.Store.{Store, Shaped, store-view, store-ops}
 use Rattle.slots.proofs.Agree.{Agree, Sound}
@@ -15,15 +15,15 @@ use Rattle.calls.specs.Refusals.{Test, first-of, making-tests, index-tes
 use Rattle.calls.specs.State.{State, stored, plain, shown, made}
 use Rattle.calls.specs.Step.{perform, refusal, settle, step}
 use Rattle.calls.specs.History.{Seen, seen, Few, log-after, Within, trace}
-use Rattle.calls.specs.Runs.{Run, slices-of, slices-lent, call-of, Value, value-of, Lends, the-index, other-slices, a-new-one, run-refusal, Meets, after-run, next, Chain, observed, History-of-runs}
-use Rattle.calls.proofs.Tests.{exact, passed-lengths}
+use Rattle.calls.specs.Runs.{Run, slices-of, slices-lent, call-of, value-of, Lends, the-index, other-slices, a-new-one, run-refusal, Meets, after-run, next, Chain, observed, History-of-runs}
+use Rattle.calls.proofs.Tests.{passed-lengths}
 use Rattle.calls.proofs.History.{Same, Both, same-refusal, step-both, same-seen, made-both, made-step}
 
 -- ---- slices of other lengths are refused
 
 -- a reached index has slices of exactly its lengths
-own-lengths : (log : List ℕ) (w : State Store) (p : State View) → Same log w p → lengths-of (slices-of w) ≡ exact (store-view (w .graph) .sizes)
-unfolding slices-of exact store-view
+own-lengths : (log : List ℕ) (w : State Store) (p : State View) → Same log w p → lengths-of (slices-of w) ≡ exact limits (store-view (w .graph) .sizes)
+unfolding slices-of store-view
 own-lengths log w p e =
     let s = e .agree .sound .shaped in
     λ i. record {
@@ -74,7 +74,7 @@ module _ (lent : Lent) where
   turned-back (delete a) u u′ f g = with-three (three u f _ _) (three u′ g _ _)
   turned-back (enable config) u u′ f g = with-three (three u f _ _) (three u′ g _ _)
   turned-back status u u′ f g = with-three (three u f _ _) (three u′ g _ _)
-  turned-back (assess ids) u u′ f g = with-three (three u f _ _) (three u′ g _ _)
+  turned-back (assess a) u u′ f g = with-three (three u f _ _) (three u′ g _ _)
   turned-back (guarded-delete a) u u′ f g = with-three (three u f _ _) (three u′ g _ _)
 
   alike-misfit : (o : Operation) (u u′ : State Store) → Turned-back o u u′ → Alike lent o u u′

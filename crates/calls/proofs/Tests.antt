@@ -8,7 +8,7 @@ use native.Mathlib.Omega.{arith}
 use borrow.Author.Tests.{leb-true, ltb-true, ltb-false, eqb-true, not-false}
 use lib.ListN.{length}
 use lib.Dec.{eqb, ltb, leb}
-use Rattle.slots.specs.Sizes.{Sizes, Lengths, limits, within, sizes-ok, alpha-ok, lengths-ok}
+use Rattle.slots.specs.Sizes.{Sizes, Lengths, exact, limits, within, sizes-ok, alpha-ok, lengths-ok}
 use Rattle.slots.proofs.New.{Accepted}
 use Rattle.calls.specs.Calls.{Making}
 use Rattle.calls.specs.Refusals.{Test, first-of, or-zero, names-given, entry-given, making-tests}
@@ -28,18 +28,8 @@ or-neither false q e = (refl, e)
 -- ---- lengths
 
 -- lengths that pass are those of the sizes
-unfoldable pub exact : Sizes → Lengths
-exact z = record {
-  vectors = z .capacity * z .dim;
-  targets = z .capacity * z .degree;
-  edges = z .capacity * z .degree;
-  versions = z .capacity;
-  marks = z .capacity;
-  pool = limits .pool;
-}
-
-pub passed-lengths : (z : Sizes) (n : Lengths) → lengths-ok limits z n ≡ true → n ≡ exact z
-unfolding lengths-ok exact
+pub passed-lengths : (z : Sizes) (n : Lengths) → lengths-ok limits z n ≡ true → n ≡ exact limits z
+unfolding lengths-ok
 passed-lengths z n e =
     let v = eqb (n .vectors) (z .capacity * z .dim) in
     let t = eqb (n .targets) (z .capacity * z .degree) in
@@ -101,14 +91,14 @@ module _ (lent : Lengths) (m : Making) where
   lent-right = lengths-ok limits (m .sizes) lent
 
   abbrev vectors-right : Bool
-  vectors-right = eqb (length (m .vectors)) (m .given * m .sizes .dim)
+  vectors-right = eqb (length (m .bytes)) (m .count * m .sizes .dim)
 
   abbrev rows-right : Bool
-  rows-right = eqb (length (m .rows)) (m .given * m .sizes .degree)
+  rows-right = eqb (length (m .rows)) (m .count * m .sizes .degree)
 
   five : or-zero (first-of (making-tests limits lent m)) ≡ 0
-      → Five (not (sizes-ok limits (m .sizes))) (not (alpha-ok (m .sizes .alpha))) (not (lent-right && vectors-right && rows-right)) (ltb (m .sizes .capacity) (m .given))
-      (not (names-given (m .given) (m .rows) && entry-given (m .given) (m .entry)))
+      → Five (not (sizes-ok limits (m .sizes))) (not (alpha-ok (m .sizes .alpha))) (not (lent-right && vectors-right && rows-right)) (ltb (m .sizes .capacity) (m .count))
+      (not (names-given (m .count) (m .rows) && entry-given (m .count) (m .entry)))
   unfolding making-tests
   five e = none-of-five _ _ _ _ _ e
 
@@ -117,25 +107,25 @@ module _ (lent : Lengths) (m : Making) where
   unfolding making-tests
   none-judged e = let f = five e in rw (f .one, f .two, f .three, f .four, f .five)
 
-  pub lengths-made : first-of (making-tests limits lent m) ≡ none → lent ≡ exact (m .sizes)
+  pub lengths-made : first-of (making-tests limits lent m) ≡ none → lent ≡ exact limits (m .sizes)
   lengths-made h =
       let f = five (ap or-zero h) in
       passed-lengths (m .sizes) lent
       (and-both lent-right vectors-right (and-both (lent-right && vectors-right) rows-right (not-false (lent-right && vectors-right && rows-right) (f .three)) .0) .0)
 
-  pub accepted : first-of (making-tests limits lent m) ≡ none → Accepted (m .sizes) (m .given) (m .vectors) (m .rows) (m .entry)
+  pub accepted : first-of (making-tests limits lent m) ≡ none → Accepted (m .sizes) (m .count) (m .bytes) (m .rows) (m .entry)
   accepted h =
       let f = five (ap or-zero h) in
-      let named = names-given (m .given) (m .rows) in
-      let entered = entry-given (m .given) (m .entry) in
+      let named = names-given (m .count) (m .rows) in
+      let entered = entry-given (m .count) (m .entry) in
       let long = and-both (lent-right && vectors-right) rows-right (not-false (lent-right && vectors-right && rows-right) (f .three)) in
       let sized = not-false (sizes-ok limits (m .sizes)) (f .one) in
-      let room = ltb-false (m .sizes .capacity) (m .given) (f .four) in
+      let room = ltb-false (m .sizes .capacity) (m .count) (f .four) in
       record {
         sizes-right = sized;
         alpha-right = not-false (alpha-ok (m .sizes .alpha)) (f .two);
-        entry-inside = entry-below (m .given) (m .sizes .capacity) (m .entry) room (capacity-positive (m .sizes) sized) (and-both named entered (not-false (named && entered) (f .five)) .1);
-        vectors-long = eqb-true (length (m .vectors)) (m .given * m .sizes .dim) (and-both lent-right vectors-right (long .0) .1);
-        rows-long = eqb-true (length (m .rows)) (m .given * m .sizes .degree) (long .1);
+        entry-inside = entry-below (m .count) (m .sizes .capacity) (m .entry) room (capacity-positive (m .sizes) sized) (and-both named entered (not-false (named && entered) (f .five)) .1);
+        vectors-long = eqb-true (length (m .bytes)) (m .count * m .sizes .dim) (and-both lent-right vectors-right (long .0) .1);
+        rows-long = eqb-true (length (m .rows)) (m .count * m .sizes .degree) (long .1);
         room = room;
       }

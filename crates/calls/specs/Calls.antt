@@ -7,11 +7,11 @@ use Rattle.candidates.specs.Candidates.{Candidate}
 use Rattle.repair.specs.Delete.{Stats}
 use Rattle.guard.specs.Guard.{Config, Report, Status}
 
--- what making is given (document 01: making a book): the sizes, the number of given slots, their vectors and rows, and the entry
+-- what making is given (document 01: making a book): the sizes, the number of given slots, the bytes of their vectors, their rows, and the entry
 pub record Making : Type 0 where
   pub sizes : Sizes
-  pub given : ℕ
-  pub vectors : List ℕ
+  pub count : ℕ
+  pub bytes : List ℕ
   pub rows : List ℕ
   pub entry : ℕ
 
@@ -42,6 +42,9 @@ pub record Delete : Type 0 where
   pub repair-beam : ℕ
   pub repair-degree : ℕ
 
+pub record Assess : Type 0 where
+  pub ids : List ℕ
+
 pub data Operation : Type 0 where
   create : Making → Operation
   read : Reading → Operation
@@ -51,7 +54,7 @@ pub data Operation : Type 0 where
   delete : Delete → Operation
   enable : Config → Operation
   status : Operation
-  assess : (ids : List ℕ) → Operation
+  assess : Assess → Operation
   guarded-delete : Delete → Operation
 
 -- how many the lists hold that are lent for answers: slots and distances, stats, and the report's two lists
@@ -97,5 +100,5 @@ refused-as n (insert a) = refused n
 refused-as n (delete a) = refused n
 refused-as n (enable config) = refused n
 refused-as n status = refused n
-refused-as n (assess ids) = refused n
+refused-as n (assess a) = refused n
 refused-as n (guarded-delete a) = refused n

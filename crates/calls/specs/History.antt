@@ -72,7 +72,7 @@ log-performed log p (insert a) = log
 log-performed log p (delete a) = emptied (p .graph) (a .ids) ++ log
 log-performed log p (enable config) = log
 log-performed log p status = log
-log-performed log p (assess ids) = log
+log-performed log p (assess a) = log
 log-performed log p (guarded-delete a) = cond (report-of (shown plain p) (a .ids) .admitted) (emptied (p .graph) (a .ids) ++ log) log
 
 unfoldable pub log-settled : List ℕ → State View → Call → Option ℕ → List ℕ

@@ -39,7 +39,7 @@ pub record Passes (w : State Store) : Type 0 where
 
 -- an accepted making of bytes makes such an index
 abbrev pub Made : Type 0
-Made = (lent : Lengths) (m : Making) → first-of (making-tests limits lent m) ≡ none → AllBytes (m .vectors) → Passes (made stored m)
+Made = (lent : Lengths) (m : Making) → first-of (making-tests limits lent m) ≡ none → AllBytes (m .bytes) → Passes (made stored m)
 
 -- each step of insert and of delete leads from such an index to such an index: so those between, on which they make their plans, are such
 pub record Kept (w : State Store) : Type 0 where
@@ -93,3 +93,14 @@ module _ (v : View) where
       → repaired-row v ls source .targets
       ≡ foldl (λ row t. ids (robust source (scored (slot-distance (v .space) source) (cond (elem t row) row (row ++ (t ∷ []))))))
       (live-neighbors v source) (map (λ l. l .target) (filter (λ l. eqb (l .source) source) ls))
+
+-- ---- the claim
+
+pub record Demand-2 : Type 0 where
+  pub makes : Made
+  pub keeps : (w : State Store) → Passes w → Kept w
+  pub searches : (w : State Store) → Passes w → Searched (view-of stored w)
+  pub tries : (w : State Store) → Passes w → Tried (view-of stored w)
+  pub plans : (w : State Store) → Passes w → Planned (view-of stored w)
+  pub target-rows : (w : State Store) → Passes w → Target-row (view-of stored w)
+  pub repaired-rows : (w : State Store) → Passes w → Repaired-row (view-of stored w)

@@ -11,7 +11,7 @@ use Rattle.slots.specs.Scratch.{size-answer}
 use Rattle.slots.specs.View.{View, live-slots, free-slots}
 use Rattle.slots.specs.Store.{blank}
 use Rattle.guard.specs.Guard.{Config, Guard, off, on, normalized, residual-entry, landmark-pool}
-use Rattle.calls.specs.Calls.{Making, Search, Insert, Delete, Operation, create, read, read-vector, search, insert, delete, enable, status, assess, guarded-delete, Room, Lent}
+use Rattle.calls.specs.Calls.{Making, Search, Delete, Assess, Operation, create, read, read-vector, search, insert, delete, enable, status, assess, guarded-delete, Room, Lent}
 use Rattle.calls.specs.State.{State}
 
 -- a number of the table, and whether its case holds
@@ -26,12 +26,12 @@ first-of (t ∷ ts) = cond (t .1) (some (t .0)) (first-of ts)
 
 -- every word of the given rows is blank or a given slot
 abbrev pub names-given : ℕ → List ℕ → Bool
-names-given given [] = true
-names-given given (t ∷ ts) = (eqb t blank || ltb t given) && names-given given ts
+names-given count [] = true
+names-given count (t ∷ ts) = (eqb t blank || ltb t count) && names-given count ts
 
 -- the entry is a given slot, 0 where none is given
 abbrev pub entry-given : ℕ → ℕ → Bool
-entry-given given entry = ltb entry given || eqb given 0 && eqb entry 0
+entry-given count entry = ltb entry count || eqb count 0 && eqb entry 0
 
 -- ---- the guard
 
@@ -58,9 +58,9 @@ module _ (l : Limits) where
       let z = m .sizes in
       (1, not (sizes-ok l z))
       ∷ (2, not (alpha-ok (z .alpha)))
-      ∷ (3, not (lengths-ok l z lent && eqb (length (m .vectors)) (m .given * z .dim) && eqb (length (m .rows)) (m .given * z .degree)))
-      ∷ (4, ltb (z .capacity) (m .given))
-      ∷ (5, not (names-given (m .given) (m .rows) && entry-given (m .given) (m .entry)))
+      ∷ (3, not (lengths-ok l z lent && eqb (length (m .bytes)) (m .count * z .dim) && eqb (length (m .rows)) (m .count * z .degree)))
+      ∷ (4, ltb (z .capacity) (m .count))
+      ∷ (5, not (names-given (m .count) (m .rows) && entry-given (m .count) (m .entry)))
       ∷ []
 
   -- 7, of a search, of a delete (plain or guarded) and of a guard's settings
@@ -124,7 +124,8 @@ module _ (l : Limits) where
       ∷ (13, eqb (length (new-pool (w .graph) config)) 0)
       ∷ [])
   tests lent w status = index-tests (lent .slices) w false []
-  tests lent w (assess ids) = index-tests (lent .slices) w (lists-short (lent .room)) ((7, ltb (l .ids) (length ids)) ∷ (8, scratch-short lent w) ∷ (11, is-off (w .guard)) ∷ [])
+  tests lent w (assess a) =
+      index-tests (lent .slices) w (lists-short (lent .room)) ((7, ltb (l .ids) (length (a .ids))) ∷ (8, scratch-short lent w) ∷ (11, is-off (w .guard)) ∷ [])
   tests lent w (guarded-delete a) =
       index-tests (lent .slices) w (ltb (lent .room .stats) (length (a .ids)) || lists-short (lent .room))
       ((7, delete-over a) ∷ (8, scratch-short lent w) ∷ (11, is-off (w .guard)) ∷ [])

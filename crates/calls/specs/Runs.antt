@@ -4,14 +4,13 @@ use mathlib.Core.List.{List, [], _∷_, map}
 use mathlib.Core.Option.{Option, none, some}
 use mathlib.Core.Path.{_≡_}
 use lib.ListN.{length}
-use Rattle.slots.specs.Sizes.{Sizes, Slices, Lengths, lengths-of, limits}
+use Rattle.slots.specs.Sizes.{Slices, Lengths, lengths-of, limits}
 use Rattle.slots.specs.View.{View}
 use Rattle.slots.specs.Store.{Store, store-view}
-use Rattle.guard.specs.Guard.{Guard}
 use Rattle.calls.specs.Calls.{Making, Operation, create, Lent, Call, Answer}
 use Rattle.calls.specs.Outputs.{Outputs, room-of, written}
 use Rattle.calls.specs.Refusals.{first-of, making-tests}
-use Rattle.calls.specs.State.{State, made, stored, plain}
+use Rattle.calls.specs.State.{State, Value, made, stored, plain}
 use Rattle.calls.specs.Step.{step, refusal}
 use Rattle.calls.specs.History.{Seen, seen, trace, Within}
 
@@ -26,17 +25,11 @@ pub record Run : Type 0 where
   pub scratch-before : List ℕ
   pub scratch-after : List ℕ
 
--- an index's six slices, and what an app holds of it by value
+-- an index's six slices, and its value
 unfoldable pub slices-of : State Store → Slices
 slices-of w =
     let a = w .graph .arrays in
     record { vectors = a .vectors; targets = a .targets; edges = a .edges; versions = a .versions; marks = a .marks; pool = w .pool }
-
-pub record Value : Type 0 where
-  pub sizes : Sizes
-  pub entry : ℕ
-  pub live : ℕ
-  pub guard : Guard
 
 unfoldable pub value-of : State Store → Value
 value-of w = record { sizes = store-view (w .graph) .sizes; entry = w .graph .entry; live = w .live; guard = w .guard }

@@ -3,10 +3,10 @@ use Prim.Native.Nat.{ℕ}
 use mathlib.Core.List.{List, []}
 use lib.ListN.{length, getD, replicate}
 use Rattle.lists.specs.Lists.{put-front}
-use Rattle.slots.specs.Sizes.{limits}
+use Rattle.slots.specs.Sizes.{Sizes, Slices, limits}
 use Rattle.slots.specs.View.{View, live-slots}
 use Rattle.slots.specs.Ops.{Ops}
-use Rattle.slots.specs.Store.{Store, new-arrays, store-ops}
+use Rattle.slots.specs.Store.{Store, arrays, new-arrays, store-ops}
 use Rattle.slots.specs.Plain.{new-plain, plain-ops}
 use Rattle.guard.specs.Guard.{Config, Guard, off, on, pool-of}
 use Rattle.calls.specs.Calls.{Making}
@@ -18,6 +18,29 @@ pub record State (B : Type 0) : Type 0 where
   pub guard : Guard
   -- the words of the slice that holds the landmark pool; the plain index has no words but the pool
   pub pool : List ℕ
+
+-- what an app holds of an index by value
+pub record Value : Type 0 where
+  pub sizes : Sizes
+  pub entry : ℕ
+  pub live : ℕ
+  pub guard : Guard
+
+-- the stored index that an app has: by value, and in six slices
+abbrev pub state : Value → Slices → State Store
+state v s =
+    let z = v .sizes in
+    record {
+      graph = record {
+        arrays = arrays (z .dim) (z .degree) (s .vectors) (s .targets) (s .edges) (s .versions) (s .marks);
+        capacity = z .capacity;
+        alpha = z .alpha;
+        entry = v .entry;
+      };
+      live = v .live;
+      guard = v .guard;
+      pool = s .pool;
+    }
 
 -- what differs between the stored index and the plain one
 pub record Kind (B : Type 0) : Type 0 where
@@ -32,7 +55,7 @@ pub record Kind (B : Type 0) : Type 0 where
 unfoldable pub stored : Kind Store
 stored = record {
   ops = store-ops;
-  new = λ m. record { arrays = new-arrays (m .sizes) (m .given) (m .vectors) (m .rows); capacity = m .sizes .capacity; alpha = m .sizes .alpha; entry = m .entry };
+  new = λ m. record { arrays = new-arrays (m .sizes) (m .count) (m .bytes) (m .rows); capacity = m .sizes .capacity; alpha = m .sizes .alpha; entry = m .entry };
   no-pool = replicate (limits .pool) 0;
   put-pool = λ words pool. put-front pool words;
   version-of = λ b s. getD (b .arrays .versions) s 0;
@@ -42,7 +65,7 @@ stored = record {
 unfoldable pub plain : Kind View
 plain = record {
   ops = plain-ops;
-  new = λ m. new-plain (m .sizes) (m .given) (m .vectors) (m .rows) (m .entry);
+  new = λ m. new-plain (m .sizes) (m .count) (m .bytes) (m .rows) (m .entry);
   no-pool = [];
   put-pool = λ words pool. pool;
   version-of = λ v s. 0;
@@ -56,7 +79,7 @@ module _ {B : Type 0} (K : Kind B) where
   unfoldable pub shown : State B → State View
   shown w = record { graph = view-of w; live = w .live; guard = w .guard; pool = pool-of (w .guard) (w .pool) }
 
-  -- ---- a state is made in these three ways
+  -- ---- what a call leaves is what it found, or is made in one of these three ways
 
   unfoldable pub made : Making → State B
   made m = record { graph = K .new m; live = length (live-slots (K .ops .view (K .new m))); guard = off; pool = K .no-pool }

@@ -13,7 +13,7 @@ use Rattle.walk.specs.Walk.{search-pool}
 use Rattle.insert.specs.Insert.{insert-batch}
 use Rattle.repair.specs.Delete.{delete-batch}
 use Rattle.guard.specs.Guard.{Guard, off, on, Report, normalized, no-landmarks, guard-status, assess-delete-admission}
-use Rattle.calls.specs.Calls.{Making, Reading, read-dim, read-capacity, read-degree, read-alpha, read-entry, read-live, read-mark, read-version, read-target, Search, Insert, Delete, Operation, create, read, read-vector, search, insert, delete, enable, status, assess, guarded-delete, Call, Answer, refused, created, number, alpha, version, vector, found, inserted, deleted, standing, assessed, applied, deferred, refused-as}
+use Rattle.calls.specs.Calls.{Making, Reading, read-dim, read-capacity, read-degree, read-alpha, read-entry, read-live, read-mark, read-version, read-target, Search, Insert, Delete, Assess, Operation, create, read, read-vector, search, insert, delete, enable, status, assess, guarded-delete, Call, Answer, refused, created, number, alpha, version, vector, found, inserted, deleted, standing, assessed, applied, deferred, refused-as}
 use Rattle.calls.specs.State.{State, Kind, view-of, shown, made, with-graph, with-guard}
 use Rattle.calls.specs.Refusals.{first-of, new-pool, tests}
 
@@ -61,7 +61,7 @@ module _ {B : Type 0} (K : Kind B) where
       let pool = new-pool (view-of K w) config in
       (with-guard K w (normalized config) pool, standing (guard-status (view-of K w) (on (normalized config) (length pool)) pool))
   perform w status = (w, standing (guard-status (view-of K w) (w .guard) (shown K w .pool)))
-  perform w (assess ids) = (w, assessed (report-of (shown K w) ids))
+  perform w (assess a) = (w, assessed (report-of (shown K w) (a .ids)))
   perform w (guarded-delete a) = let r = report-of (shown K w) (a .ids) in guarded w a r (r .admitted)
 
   -- the number that a call gets, if any

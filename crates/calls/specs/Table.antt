@@ -7,14 +7,15 @@ use lib.ListN.{replicate}
 use lib.Ieee.{Float, binary32, ofBits}
 use Rattle.candidates.specs.Candidates.{Candidate}
 use Rattle.vectors.specs.Distance.{f32}
-use Rattle.slots.specs.Sizes.{Sizes, Lengths, limits}
+use Rattle.slots.specs.Sizes.{Lengths, slices, exact, limits}
 use Rattle.slots.specs.Scratch.{size-answer}
 use Rattle.slots.specs.Store.{Store, blank}
 use Rattle.repair.specs.Delete.{Stats}
 use Rattle.guard.specs.Guard.{config, Report, off}
-use Rattle.calls.specs.Calls.{Making, Reading, read-entry, read-live, read-mark, read-version, read-target, Search, Insert, Delete, Operation, create, read, read-vector, search, insert, delete, enable, status, assess, guarded-delete, Room, Lent, Call, Answer, refused, created, number, version, vector, found, inserted, deleted, standing, assessed, applied, deferred}
-use Rattle.calls.specs.State.{State, shown, made, stored}
+use Rattle.calls.specs.Calls.{Making, Reading, read-entry, read-live, read-mark, read-version, read-target, Search, Insert, Delete, Assess, Operation, create, read, read-vector, search, insert, delete, enable, status, assess, guarded-delete, Room, Lent, Call, Answer, refused, created, number, version, vector, found, inserted, deleted, standing, assessed, applied, deferred}
+use Rattle.calls.specs.State.{State, state, shown, made, stored}
 use Rattle.calls.specs.Step.{step}
+use Rattle.calls.specs.Runs.{slices-of}
 
 -- ---- notation
 
@@ -34,16 +35,12 @@ insert-all bytes beam = insert (record { bytes = bytes; beam = beam })
 abbrev deleting : List ℕ → ℕ → ℕ → Delete
 deleting ids beam degree = record { ids = ids; repair-beam = beam; repair-degree = degree }
 
+abbrev assessing : List ℕ → Operation
+assessing ids = assess (record { ids = ids })
+
 -- slices of exact length
-abbrev exact : ℕ → ℕ → ℕ → Lengths
-exact dim capacity degree = record {
-  vectors = capacity * dim;
-  targets = capacity * degree;
-  edges = capacity * degree;
-  versions = capacity;
-  marks = capacity;
-  pool = limits .pool;
-}
+abbrev lengths : ℕ → ℕ → ℕ → Lengths
+lengths dim capacity degree = exact limits (record { dim = dim; capacity = capacity; degree = degree; alpha = f32 1 })
 
 -- a call with room for n in each list of slots, distances and stats and for m in each list of a report, and with some scratch
 abbrev lent : Lengths → ℕ → ℕ → ℕ → Operation → Call
@@ -59,40 +56,30 @@ ample slices o = lent slices 4 64 (size-answer 4) o
 unfoldable pub shelf : Making
 shelf = record {
   sizes = record { dim = 1; capacity = 4; degree = 2; alpha = f32 1 };
-  given = 3;
-  vectors = 0 ∷ 3 ∷ 10 ∷ [];
+  count = 3;
+  bytes = 0 ∷ 3 ∷ 10 ∷ [];
   rows = 1 ∷ blank ∷ 0 ∷ 2 ∷ 1 ∷ blank ∷ [];
   entry = 1;
 }
 
 -- the shelf with other sizes, or given otherwise
 abbrev sized : ℕ → ℕ → Float → Making
-sized dim degree alpha = record { sizes = record { dim = dim; capacity = 4; degree = degree; alpha = alpha }; given = 3; vectors = shelf .vectors; rows = shelf .rows; entry = 1 }
+sized dim degree alpha = record { sizes = record { dim = dim; capacity = 4; degree = degree; alpha = alpha }; count = 3; bytes = shelf .bytes; rows = shelf .rows; entry = 1 }
 
 abbrev given : ℕ → List ℕ → List ℕ → ℕ → Making
-given n vectors rows entry = record { sizes = shelf .sizes; given = n; vectors = vectors; rows = rows; entry = entry }
+given n bytes rows entry = record { sizes = shelf .sizes; count = n; bytes = bytes; rows = rows; entry = entry }
 
 -- three vectors of dim 2 in four slots
 unfoldable pub wide : List ℕ → Making
-wide vectors = record { sizes = record { dim = 2; capacity = 4; degree = 1; alpha = f32 1 }; given = 3; vectors = vectors; rows = replicate 3 blank; entry = 0 }
+wide bytes = record { sizes = record { dim = 2; capacity = 4; degree = 1; alpha = f32 1 }; count = 3; bytes = bytes; rows = replicate 3 blank; entry = 0 }
 
 -- memory that holds nothing
 unfoldable pub nothing : State Store
-nothing = record {
-  graph = record {
-    arrays = record { dim = 0; degree = 0; vectors = []; targets = []; edges = []; versions = []; marks = [] };
-    capacity = 0;
-    alpha = f32 0;
-    entry = 0;
-  };
-  live = 0;
-  guard = off;
-  pool = [];
-}
+nothing = state (record { sizes = record { dim = 0; capacity = 0; degree = 0; alpha = f32 0 }; entry = 0; live = 0; guard = off }) (slices [] [] [] [] [] [])
 
 -- the shelf with a live count of 2
 unfoldable pub miscounted : State Store
-miscounted = let w = made stored shelf in record { graph = w .graph; live = 2; guard = w .guard; pool = w .pool }
+miscounted = state (record { sizes = shelf .sizes; entry = shelf .entry; live = 2; guard = off }) (slices-of (made stored shelf))
 
 -- ---- the table
 
@@ -107,10 +94,10 @@ pub record Case : Type 0 where
   pub outcome : Outcome
 
 abbrev on-shelf-with : List ℕ → List Call → List Answer → Case
-on-shelf-with pool cs answers = record { start = nothing; calls = ample (exact 1 4 2) (create shelf) ∷ cs; outcome = record { answers = created ∷ answers; pool = pool } }
+on-shelf-with pool cs answers = record { start = nothing; calls = ample (lengths 1 4 2) (create shelf) ∷ cs; outcome = record { answers = created ∷ answers; pool = pool } }
 
 abbrev on-shelf : List Operation → List Answer → Case
-on-shelf os answers = on-shelf-with [] (map (ample (exact 1 4 2)) os) answers
+on-shelf os answers = on-shelf-with [] (map (ample (lengths 1 4 2)) os) answers
 
 abbrev making : Making → Lengths → ℕ → Case
 making m n row = record { start = nothing; calls = ample n (create m) ∷ []; outcome = record { answers = refused row ∷ []; pool = [] } }
@@ -151,11 +138,11 @@ table =
     -- guard count 0, multiplier 1, sample 4, beam 2: pool [2]; assess 0: admitted; assess 1: entry 0, baseline 1, residual 0, lost [2], not admitted;
     -- the guarded delete of both; no live id: admitted, requested 0
     ∷ on-shelf-with (2 ∷ [])
-    (map (ample (exact 1 4 2))
+    (map (ample (lengths 1 4 2))
     (enable (config 0 1 4 2)
-    ∷ assess (0 ∷ [])
-    ∷ assess (1 ∷ [])
-    ∷ assess (3 ∷ [])
+    ∷ assessing (0 ∷ [])
+    ∷ assessing (1 ∷ [])
+    ∷ assessing (3 ∷ [])
     ∷ guarded-delete (deleting (1 ∷ []) 2 1)
     ∷ guarded-delete (deleting (0 ∷ []) 2 1)
     ∷ status
@@ -171,35 +158,35 @@ table =
     -- empty batches: no slots, no counts
     ∷ on-shelf (insert-all [] 2 ∷ delete (deleting [] 2 1) ∷ []) (inserted [] ∷ deleted [] ∷ [])
     -- 1: dim 257; 2: alpha 0.9; 3: three slots of dim 2, 5 bytes; 4: 5 into 4; 5: 3 given, a row names 3; entry not given
-    ∷ making (sized 257 2 (f32 1)) (exact 257 4 2) 1
-    ∷ making (sized 1 0 (f32 1)) (exact 1 4 0) 1
-    ∷ making (sized 1 2 (ofBits binary32 0x3f66_6666)) (exact 1 4 2) 2
-    ∷ making (wide (1 ∷ 2 ∷ 3 ∷ 4 ∷ 5 ∷ [])) (exact 2 4 1) 3
-    ∷ making shelf (exact 1 4 1) 3
-    ∷ making (given 5 (replicate 5 0) (replicate 10 blank) 0) (exact 1 4 2) 4
-    ∷ making (given 3 (shelf .vectors) (1 ∷ blank ∷ 0 ∷ 3 ∷ 1 ∷ blank ∷ []) 1) (exact 1 4 2) 5
-    ∷ making (given 3 (shelf .vectors) (shelf .rows) 3) (exact 1 4 2) 5
+    ∷ making (sized 257 2 (f32 1)) (lengths 257 4 2) 1
+    ∷ making (sized 1 0 (f32 1)) (lengths 1 4 0) 1
+    ∷ making (sized 1 2 (ofBits binary32 0x3f66_6666)) (lengths 1 4 2) 2
+    ∷ making (wide (1 ∷ 2 ∷ 3 ∷ 4 ∷ 5 ∷ [])) (lengths 2 4 1) 3
+    ∷ making shelf (lengths 1 4 1) 3
+    ∷ making (given 5 (replicate 5 0) (replicate 10 blank) 0) (lengths 1 4 2) 4
+    ∷ making (given 3 (shelf .bytes) (1 ∷ blank ∷ 0 ∷ 3 ∷ 1 ∷ blank ∷ []) 1) (lengths 1 4 2) 5
+    ∷ making (given 3 (shelf .bytes) (shelf .rows) 3) (lengths 1 4 2) 5
     -- 6: live 2, three marks; a vector that is read is the empty part
-    ∷ record { start = miscounted; calls = map (ample (exact 1 4 2)) (read read-entry ∷ read-vector 0 ∷ []); outcome = record { answers = refused 6 ∷ vector [] ∷ []; pool = [] } }
+    ∷ record { start = miscounted; calls = map (ample (lengths 1 4 2)) (read read-entry ∷ read-vector 0 ∷ []); outcome = record { answers = refused 6 ∷ vector [] ∷ []; pool = [] } }
     -- 3, 7, 8, 10 and 11, and which comes first: by room for slots, distances and stats, by room for a report, and by scratch
     ∷ on-shelf-with []
-    (lent (exact 1 4 2) 4 64 0 (search (record { query = 0 ∷ 0 ∷ []; k = 1; beam = 1 }))
-    ∷ lent (exact 1 4 2) 256 64 0 (delete (deleting (replicate 257 0) 2 1))
-    ∷ lent (exact 1 4 2) 4 63 0 (assess (replicate 257 0))
-    ∷ lent (exact 1 4 2) 257 64 0 (delete (deleting (replicate 257 0) 2 1))
-    ∷ lent (exact 1 4 2) 4 64 0 (search (record { query = 0 ∷ []; k = 2; beam = 1025 }))
-    ∷ lent (exact 1 4 2) 1 64 (size-answer 4) (search (record { query = 0 ∷ []; k = 2; beam = 1 }))
-    ∷ lent (exact 1 4 2) 1 64 (size-answer 4 - 1) (nearest 0 1)
-    ∷ lent (exact 1 4 2) 2 64 (size-answer 4) (insert-all (1 ∷ 2 ∷ []) 2)
-    ∷ ample (exact 1 4 2) (assess (0 ∷ []))
+    (lent (lengths 1 4 2) 4 64 0 (search (record { query = 0 ∷ 0 ∷ []; k = 1; beam = 1 }))
+    ∷ lent (lengths 1 4 2) 256 64 0 (delete (deleting (replicate 257 0) 2 1))
+    ∷ lent (lengths 1 4 2) 4 63 0 (assessing (replicate 257 0))
+    ∷ lent (lengths 1 4 2) 257 64 0 (delete (deleting (replicate 257 0) 2 1))
+    ∷ lent (lengths 1 4 2) 4 64 0 (search (record { query = 0 ∷ []; k = 2; beam = 1025 }))
+    ∷ lent (lengths 1 4 2) 1 64 (size-answer 4) (search (record { query = 0 ∷ []; k = 2; beam = 1 }))
+    ∷ lent (lengths 1 4 2) 1 64 (size-answer 4 - 1) (nearest 0 1)
+    ∷ lent (lengths 1 4 2) 2 64 (size-answer 4) (insert-all (1 ∷ 2 ∷ []) 2)
+    ∷ ample (lengths 1 4 2) (assessing (0 ∷ []))
     ∷ [])
     (refused 3 ∷ refused 3 ∷ refused 3 ∷ refused 7 ∷ refused 7 ∷ refused 7 ∷ refused 8 ∷ refused 10 ∷ refused 11 ∷ [])
     -- 3: slices of other lengths
-    ∷ record { start = made stored shelf; calls = map (ample (exact 1 3 2)) (read read-entry ∷ read-vector 0 ∷ []); outcome = record { answers = refused 3 ∷ vector [] ∷ []; pool = [] } }
+    ∷ record { start = made stored shelf; calls = map (ample (lengths 1 3 2)) (read read-entry ∷ read-vector 0 ∷ []); outcome = record { answers = refused 3 ∷ vector [] ∷ []; pool = [] } }
     -- 9: 3 bytes, dim 2, which comes before 10
     ∷ record {
       start = made stored (wide (1 ∷ 2 ∷ 3 ∷ 4 ∷ 5 ∷ 6 ∷ []));
-      calls = map (ample (exact 2 4 1)) (insert-all (1 ∷ 2 ∷ 3 ∷ []) 2 ∷ insert-all (1 ∷ 2 ∷ 3 ∷ 4 ∷ 5 ∷ []) 2 ∷ []);
+      calls = map (ample (lengths 2 4 1)) (insert-all (1 ∷ 2 ∷ 3 ∷ []) 2 ∷ insert-all (1 ∷ 2 ∷ 3 ∷ 4 ∷ 5 ∷ []) 2 ∷ []);
       outcome = record { answers = refused 9 ∷ refused 9 ∷ []; pool = [] };
     }
     -- 12: all emptied; 13: one live

@@ -7,7 +7,6 @@ use mathlib.Core.Path.{_≡_, refl, sym, ap, ap₂, _∙_, subst}
 use native.Mathlib.Omega.{arith}
 use borrow.Author.Tests.{eqb-true, eq-eqb}
 use lib.Dec.{eqb}
-use lib.Ieee.{binary32, toBits}
 use Rattle.slots.specs.Sizes.{Slices, lengths-of, limits}
 use Rattle.slots.specs.View.{View}
 use Rattle.slots.specs.Store.{Store, store-view, store-ops}
@@ -22,26 +21,18 @@ use Rattle.calls.specs.Runs as Runs
 use Rattle.calls.proofs.History.{Same, Both, same-shown, same-seen}
 use Rattle.calls.proofs.Runs.{refused-slices, run-refused, own-next, run-both, made-run-both, made-accepted, made-plain}
 use Rattle.index.specs.declared.Index.{Index}
-use Rattle.index.specs.declared.Guard.{Guard}
-use Rattle.index.specs.declared.Guard.the-variants.{Off, On}
-use Rattle.index.specs.Index.{guard-of, state-of}
+use Rattle.index.specs.Index.{state-of}
 use Rattle.finder.specs.IndexWords.{index-of, words-of}
-use Rattle.finder.specs.IndexWords as Finder
 use Rattle.exported.specs.Runs.{Memory, Places, Exported-run, Exported}
-use Rattle.exported.specs.History.{Exported-lends, own, other-slices, any-memory, Event, Exported-chain, Hand, hide-version, in-hand, Asked, asked, put, guard-words, words-in, plain-hand, plain-hands, Untouched, Refused-untouched, As-plain, Exported-history}
+use Rattle.exported.specs.History.{Exported-lends, own, other-slices, any-memory, Event, Exported-chain, Hand, hide-version, in-hand, Asked, asked, put, words-in, plain-hand, plain-hands, Untouched, Refused-untouched, As-plain, Exported-history}
 use Rattle.exported.proofs.Known.{state-in, as-run, Right, Known, known}
 
 -- ---- the words
 
-guard-told : (g : Guard) → Finder.guard-words g ≡ guard-words (guard-of g)
-unfolding Finder.guard-words guard-words guard-of
-guard-told Off = refl
-guard-told (On s) = refl
-
 -- those that an index is written as are those that its state shows
 words-told : (i : Index) (s : Slices) → words-of i ≡ words-in (shown stored (state-of i s))
-unfolding words-of words-in shown stored store-ops store-view state-of
-words-told i s = ap (λ l. i .dim ∷ i .capacity ∷ i .degree ∷ toBits binary32 (i .alpha) ∷ i .entry ∷ i .live ∷ l) (guard-told (i .guard))
+unfolding words-in shown stored store-ops store-view state-of
+words-told i s = refl
 
 plain-told : (p : State View) → words-in (shown plain p) ≡ words-in p
 unfolding words-in shown plain plain-ops

@@ -12,14 +12,14 @@ use lib.ListN.{length}
 use Rattle.vectors.specs.Distance.{f32}
 use Rattle.candidates.specs.Candidates.{Candidate}
 use Rattle.slots.specs.Sizes.{Slices, lengths-of, limits}
-use Rattle.slots.specs.Store.{Store}
+use Rattle.slots.specs.Store.{Store, store-view}
 use Rattle.calls.specs.Calls.{Making, Search, Operation, create, read, read-vector, search, Answer, refused, created, alpha, vector, refused-as}
 use Rattle.calls.specs.Calls as Answers
 use Rattle.calls.specs.Outputs.{Outputs, no-outputs, written}
 use Rattle.calls.specs.Refusals.{first-of, making-tests, tests}
 use Rattle.calls.specs.State.{State, stored}
 use Rattle.calls.specs.Step.{refusal, settle, step}
-use Rattle.calls.specs.Runs.{slices-of, call-of, run-refusal, Meets}
+use Rattle.calls.specs.Runs.{slices-of, value-of, call-of, run-refusal, Meets}
 use Rattle.calls.specs.Runs as Runs
 use Rattle.index.specs.declared.Index.{Index}
 use Rattle.index.specs.declared.Created.{Created}
@@ -110,7 +110,7 @@ module _ {m : Making} {lent left : Memory} {status : ℕ} (c : Creates-words m (
       go false = refl
 
   made-left : left-by made (state-in lent) (left .slices) ≡ state-in left
-  unfolding left-by state-of
+  unfolding left-by state-of value-of store-view
   made-left = go (eqb status 0) refl
     where
       go : (b : Bool) → eqb status 0 ≡ b → left-by (cond b (Done (index-of (left .words))) (not-made status)) (state-in lent) (left .slices) ≡ state-in left
@@ -118,7 +118,7 @@ module _ {m : Making} {lent left : Memory} {status : ℕ} (c : Creates-words m (
       go false e = ap (λ w. state-of (index-of w) (left .slices)) (sym (c .kept (eqb-false status 0 e)))
 
   made-run : create-run m (state-in lent) (lent .slices) (left .slices) made ≡ as-run (making m lent left status) (by-status status created)
-  unfolding state-of
+  unfolding state-of value-of store-view
   made-run = λ i. record {
     operation = create m;
     before = state-in lent;

@@ -6,12 +6,10 @@ use mathlib.Core.List.{List, [], _∷_, map}
 use mathlib.Core.Option.{none, some}
 use mathlib.Core.Path.{_≡_}
 use lib.Dec.{eqb}
-use lib.Ieee.{binary32, toBits}
 use lib.ListN.{length}
 use Rattle.slots.specs.Sizes.{lengths-of, limits}
 use Rattle.slots.specs.View.{View}
 use Rattle.slots.specs.Store.{Store}
-use Rattle.guard.specs.Guard.{Guard, off, on}
 use Rattle.calls.specs.Calls.{Making, create, Call, Answer, refused, created, number, alpha, version, vector, found, inserted, deleted, standing, assessed, applied, deferred}
 use Rattle.calls.specs.Outputs.{written}
 use Rattle.calls.specs.Refusals.{first-of, making-tests}
@@ -20,7 +18,7 @@ use Rattle.calls.specs.Step.{step, refusal}
 use Rattle.calls.specs.History.{Seen, seen, Within}
 use Rattle.calls.specs.Runs.{lent-of}
 use Rattle.index.specs.Index.{state-of}
-use Rattle.finder.specs.IndexWords.{index-of}
+use Rattle.finder.specs.IndexWords.{index-of, value-words}
 use Rattle.exported.specs.Runs.{Memory, Places, places, Exported-run, Exported}
 
 -- ---- runs on one index
@@ -97,15 +95,9 @@ put (assessed r) o = (0, o)
 put (applied ts r) o = (0, o)
 put (deferred r) o = (0, o)
 
-unfoldable pub guard-words : Guard → List ℕ
-guard-words off = 0 ∷ 0 ∷ 0 ∷ 0 ∷ 0 ∷ 0 ∷ []
-guard-words (on c n) = 1 ∷ c .landmark-count ∷ c .multiplier ∷ c .sample-size ∷ c .beam ∷ n ∷ []
-
--- the twelve words of an index, in the order of include/finder.h
+-- the twelve words
 unfoldable pub words-in : State View → List ℕ
-words-in w =
-    let z = w .graph .sizes in
-    z .dim ∷ z .capacity ∷ z .degree ∷ toBits binary32 (z .alpha) ∷ w .graph .entry ∷ w .live ∷ guard-words (w .guard)
+words-in w = value-words (record { sizes = w .graph .sizes; entry = w .graph .entry; live = w .live; guard = w .guard })
 
 unfoldable pub plain-hand : Asked → State View × Answer → Hand
 plain-hand a q = let o = put (q .1) (a .before) in record { returned = o .0; places = hide-version (o .1); words = words-in (q .0); seen = seen plain (q .0) created }

@@ -12,10 +12,11 @@ use Rattle.vectors.specs.Distance.{f32}
 use Rattle.candidates.proofs.Floats.{one-bits}
 use Rattle.slots.specs.Sizes.{alpha-ok}
 use Rattle.index.specs.declared.Index.{Index}
+use Rattle.index.specs.Index as Index
 use Rattle.index.specs.declared.Guard.{Guard}
 use Rattle.index.specs.declared.Settings.{Settings}
 use Rattle.index.specs.declared.Guard.the-variants.{Off, On}
-use Rattle.finder.specs.IndexWords.{alpha-of, guard-of, index-of, guard-words, words-of}
+use Rattle.finder.specs.IndexWords.{alpha-of, guard-of, index-of, guard-words, value-words, words-of}
 
 -- ---- alpha
 
@@ -66,8 +67,8 @@ alpha-held a f h =
 
 -- ---- the whole index
 
-guard-held : (a b c d e f : ℕ) (g : Guard) → guard-of (a ∷ b ∷ c ∷ d ∷ e ∷ f ∷ guard-words g) ≡ g
-unfolding guard-of guard-words
+guard-held : (a b c d e f : ℕ) (g : Guard) → guard-of (a ∷ b ∷ c ∷ d ∷ e ∷ f ∷ guard-words (Index.guard-of g)) ≡ g
+unfolding guard-of guard-words Index.guard-of
 guard-held a b c d e f Off = refl
 guard-held a b c d e f (On s) = refl
 
@@ -77,16 +78,16 @@ module _ (i : Index) where
   six l = i .dim ∷ i .capacity ∷ i .degree ∷ toBits binary32 (i .alpha) ∷ i .entry ∷ i .live ∷ l
 
   pub words-off : i .guard ≡ Off → six (0 ∷ 0 ∷ 0 ∷ 0 ∷ 0 ∷ 0 ∷ []) ≡ words-of i
-  unfolding words-of guard-words
-  words-off e = ap (λ g. six (guard-words g)) (sym e)
+  unfolding value-words guard-words Index.guard-of
+  words-off e = ap (λ g. six (guard-words (Index.guard-of g))) (sym e)
 
   pub words-on : {s : Settings} → i .guard ≡ On s → six (1 ∷ s .count ∷ s .multiplier ∷ s .sample ∷ s .beam ∷ s .pool ∷ []) ≡ words-of i
-  unfolding words-of guard-words
-  words-on e = ap (λ g. six (guard-words g)) (sym e)
+  unfolding value-words guard-words Index.guard-of
+  words-on e = ap (λ g. six (guard-words (Index.guard-of g))) (sym e)
 
 -- words hold an index faithfully
 pub words-hold : (i : Index) → T (fits binary32 (i .alpha)) → T (not (isNan (i .alpha))) → index-of (words-of i) ≡ i
-unfolding index-of words-of
+unfolding index-of value-words
 words-hold i f h = λ j. record {
   dim = i .dim;
   capacity = i .capacity;

@@ -39,7 +39,8 @@ use Rattle.reading.specs.Search.{found-as, Searches}
 use Rattle.index.proofs.Decide.{Numbered, step-back, step-on}
 use Rattle.calls.proofs.Tests.{accepted}
 use Rattle.finder.specs.IndexWords.{index-of, words-of}
-use Rattle.finder.specs.Given.{Sizes-scratch, created-given, created-put, Creates-words, gives-number, value-in, number-given, number-put, alpha-given, alpha-put, Reads-number, Reads-alpha, bytes-at, Reads-length, found-given, found-put, Searches-words}
+use Rattle.finder.specs.Given.{Sizes-scratch, created-given, Creates-words, value-in, number-given, alpha-given, Reads-number, Reads-alpha, bytes-at, Reads-length, found-given, Searches-words}
+use Rattle.finder.specs.contracts.Putting.{created-put, gives-number, number-put, alpha-put, found-put}
 use Rattle.finder.proofs.Held.{alpha-right, words-hold}
 
 -- ---- a number of the table is not 0

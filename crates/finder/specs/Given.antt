@@ -1,7 +1,7 @@
 -- What a status and what is written beside it stand for, and what the functions promise. A status of 0 says that the call is carried out; another one is
 -- the number of the refusal, and nothing is written. What is left has a prime. Assumes nothing.
 use Prim.Native.Nat.{ℕ, _*_}
-use mathlib.Core.Bool.{Bool, true, false, cond}
+use mathlib.Core.Bool.{cond}
 use mathlib.Core.List.{List}
 use mathlib.Core.Path.{_≡_}
 use lib.Dec.{eqb}
@@ -43,11 +43,6 @@ pub record Sizes-scratch (dim capacity degree size size′ status : ℕ) : Type 
 abbrev pub created-given : ℕ → List ℕ → Created
 created-given status words = cond (eqb status 0) (Done (index-of words)) (not-made status)
 
--- the status of a making, and what is left in the index's words
-unfoldable pub created-put : Created → List ℕ → ℕ × List ℕ
-created-put (not-made n) words = (n, words)
-created-put (Done i) words = (0, words-of i)
-
 -- what `finder_create` promises
 pub record Creates-words (m : Making) (s s′ : Slices) (words words′ : List ℕ) (status : ℕ) : Type 0 where
   pub does : Creates m s s′ (created-given status words′)
@@ -55,18 +50,6 @@ pub record Creates-words (m : Making) (s s′ : Slices) (words words′ : List �
   pub kept : (status ≡ 0 → ⊥) → words′ ≡ words
 
 -- ---- readings
-
--- all but alpha are read as a number
-abbrev pub gives-number : Reading → Bool
-gives-number Alpha = false
-gives-number Dim = true
-gives-number Capacity = true
-gives-number Degree = true
-gives-number Entry = true
-gives-number Live = true
-gives-number (Mark slot) = true
-gives-number (Version slot) = true
-gives-number (Target slot place) = true
 
 -- the value that a number is: a version, or another one; alpha is not read so (`gives-number`)
 unfoldable pub value-in : Reading → ℕ → Value
@@ -87,20 +70,6 @@ number-given q status n = cond (eqb status 0) (value-in q n) (Refused status)
 -- the value that a status and an alpha give
 abbrev pub alpha-given : ℕ → Float → Value
 alpha-given status a = cond (eqb status 0) (Factor a) (Refused status)
-
--- the status of a value that was read, and what is left where a number is to be written
-unfoldable pub number-put : Value → ℕ → ℕ × ℕ
-number-put (Refused n) value = (n, value)
-number-put (Number n) value = (0, n)
-number-put (Factor a) value = (0, value)
-number-put (Stamp n) value = (0, n)
-
--- the same where alpha is to be written
-unfoldable pub alpha-put : Value → Float → ℕ × Float
-alpha-put (Refused n) value = (n, value)
-alpha-put (Number n) value = (0, value)
-alpha-put (Factor a) value = (0, a)
-alpha-put (Stamp n) value = (0, value)
 
 module _ (words : List ℕ) (s : Slices) where
   -- what a function promises that reads a number
@@ -127,11 +96,6 @@ module _ (words : List ℕ) (s : Slices) where
 -- what a status and a number give
 abbrev pub found-given : ℕ → ℕ → Found
 found-given status n = cond (eqb status 0) (Nearest n) (none-found status)
-
--- the status of a search, and what is left where the number found is to be written
-unfoldable pub found-put : Found → ℕ → ℕ × ℕ
-found-put (none-found n) found = (n, found)
-found-put (Nearest n) found = (0, n)
 
 -- what `finder_search` promises
 pub record Searches-words (words : List ℕ) (s : Slices) (a : Search) (outputs : Outputs) (scratch : List ℕ) (outputs′ : Outputs) (scratch′ : List ℕ) (found found′ status : ℕ) : Type 0 where

@@ -5,9 +5,13 @@ use mathlib.Core.List.{List, [], _∷_}
 use lib.Dec.{eqb}
 use lib.ListN.{getD}
 use lib.Ieee.{Float, binary32, ofBits, toBits, nanBits}
+use Rattle.guard.specs.Guard.{off, on}
+use Rattle.guard.specs.Guard as Guards
+use Rattle.calls.specs.State.{Value}
 use Rattle.index.specs.declared.Index.{Index}
 use Rattle.index.specs.declared.Guard.{Guard}
 use Rattle.index.specs.declared.Guard.the-variants.{Off, On}
+use Rattle.index.specs.Index.{index-value}
 
 -- word 3 is alpha's bits; a NaN's bits are read as 0.0, which row 2 turns back (`nan-bad`)
 unfoldable pub alpha-of : ℕ → Float
@@ -32,10 +36,15 @@ index-of w =
     }
 
 -- the words that a guard is written as
-unfoldable pub guard-words : Guard → List ℕ
-guard-words Off = 0 ∷ 0 ∷ 0 ∷ 0 ∷ 0 ∷ 0 ∷ []
-guard-words (On s) = 1 ∷ s .count ∷ s .multiplier ∷ s .sample ∷ s .beam ∷ s .pool ∷ []
+unfoldable pub guard-words : Guards.Guard → List ℕ
+guard-words off = 0 ∷ 0 ∷ 0 ∷ 0 ∷ 0 ∷ 0 ∷ []
+guard-words (on c n) = 1 ∷ c .landmark-count ∷ c .multiplier ∷ c .sample-size ∷ c .beam ∷ n ∷ []
 
--- the words that an index is written as (`words-hold`)
-unfoldable pub words-of : Index → List ℕ
-words-of i = i .dim ∷ i .capacity ∷ i .degree ∷ toBits binary32 (i .alpha) ∷ i .entry ∷ i .live ∷ guard-words (i .guard)
+-- the words that an index is written as, in the order of include/finder.h (`words-hold`)
+unfoldable pub value-words : Value → List ℕ
+value-words v =
+    let z = v .sizes in
+    z .dim ∷ z .capacity ∷ z .degree ∷ toBits binary32 (z .alpha) ∷ v .entry ∷ v .live ∷ guard-words (v .guard)
+
+abbrev pub words-of : Index → List ℕ
+words-of i = value-words (index-value i)

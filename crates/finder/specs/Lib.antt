@@ -1,2 +1,3 @@
 pub mod IndexWords
 pub mod Given
+pub mod contracts

@@ -10,7 +10,8 @@ ghost use Rattle.slots.specs.Sizes.{slices};
 ghost use Rattle.index.specs.declared.Index.{Index};
 ghost use Rattle.index.specs.declared.Created.the-variants.{Done};
 ghost use Rattle.index.specs.Create.{making};
-ghost use Rattle.finder.specs.Given.{Sizes-scratch, created-put, Creates-words};
+ghost use Rattle.finder.specs.Given.{Sizes-scratch, Creates-words};
+ghost use Rattle.finder.specs.contracts.Putting.{created-put};
 
 // Writes how many words of scratch the calls on an index of these sizes ask for.
 #[no_mangle]

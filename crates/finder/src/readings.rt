@@ -8,7 +8,8 @@ ghost use Rattle.slots.specs.Sizes.{slices};
 ghost use Rattle.reading.specs.declared.Reading.the-variants.{Dim, Capacity, Degree, Alpha, Entry, Live, Mark, Version, Target};
 ghost use Rattle.reading.specs.Read.{Reads};
 ghost use Rattle.finder.specs.IndexWords.{index-of};
-ghost use Rattle.finder.specs.Given.{gives-number, number-put, alpha-put, Reads-number, Reads-alpha, Reads-length};
+ghost use Rattle.finder.specs.Given.{Reads-number, Reads-alpha, Reads-length};
+ghost use Rattle.finder.specs.contracts.Putting.{gives-number, number-put, alpha-put};
 
 // What is read, or the number of a refusal.
 fn read_value(

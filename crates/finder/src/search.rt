@@ -4,7 +4,8 @@ use reading::Found;
 ghost use mathlib.Core.Path.{_≡_};
 ghost use Rattle.slots.specs.Sizes.{slices};
 ghost use Rattle.reading.specs.Search.{searching, search-outputs};
-ghost use Rattle.finder.specs.Given.{found-put, Searches-words};
+ghost use Rattle.finder.specs.Given.{Searches-words};
+ghost use Rattle.finder.specs.contracts.Putting.{found-put};
 
 // Writes how many were found.
 fn put_found(answer: Found, found: &mut u32) -> u32

@@ -27,7 +27,7 @@ use Rattle.calls.specs.State.{State, stored, shown}
 use Rattle.calls.specs.Step.{perform, refusal, settle, step}
 use Rattle.index.specs.Index.{words-for, sizes, sizes-of, guard-of, state-of}
 use Rattle.index.specs.contracts.Deciding.{Decided, Passed}
-use Rattle.calls.proofs.Tests.{and-both, or-neither, exact, passed-lengths}
+use Rattle.calls.proofs.Tests.{and-both, or-neither, passed-lengths}
 
 -- ---- numbers
 
@@ -116,7 +116,6 @@ decided index lent marks {wrong} {rest} {r} f =
 -- where the lengths are right, there are as many marks as slots
 marked : (index : Index) (lent : Lengths) (marks : List ℕ) {r₆ : Bool} → bad₃ index lent ≡ false → r₆ ≡ bad₆ index marks (length marks) → lent .marks ≡ length marks
     → r₆ ≡ bad₆ index marks (index .capacity)
-unfolding exact
 marked index lent marks h sound k =
     let m : lent .marks ≡ index .capacity = ap (λ l. l .marks) (passed-lengths (sizes-of index) lent (not-false (lengths-ok limits (sizes-of index) lent) h)) in
     rw (sym k ∙ m) at sound
@@ -227,7 +226,7 @@ module _ (index : Index) (s : Slices) {wrong : Bool} {rest : List Test} {r : ℕ
 
   -- and says all that a call may rest on
   pub passed : r ≡ 0 → Passed index s
-  unfolding exact store-view state-of
+  unfolding store-view state-of
   passed z =
       let f = none-found z in
       let m = sizes-of index in

@@ -26,10 +26,11 @@ use Rattle.calls.specs.Calls.{Making}
 use Rattle.calls.specs.Refusals.{first-of, or-zero, names-given, entry-given, making-tests}
 use Rattle.calls.specs.State.{stored, made}
 use Rattle.index.specs.Index.{sizes, guard-of, state-of}
-use Rattle.index.specs.Create.{making, fresh-index, making-of, Creates}
+use Rattle.index.specs.Create.{making, Creates}
+use Rattle.index.specs.contracts.Making.{fresh-index, making-of}
 use Rattle.index.specs.contracts.Deciding.{Judged}
 use Rattle.index.proofs.Decide.{first-number}
-use Rattle.calls.proofs.Tests.{exact, none-judged, lengths-made, accepted}
+use Rattle.calls.proofs.Tests.{none-judged, lengths-made, accepted}
 
 -- ---- row 5, one word a turn
 
@@ -88,7 +89,7 @@ module _ {m : Making} {lent : Lengths} {r₁ : Bool}
           let q = lengths-ok limits (m .sizes) lent in
           record { does = rw (sym (sized (m .sizes .alpha)) ∙ t₁, sym grown ∙ t₂, not-true q (sym (long (m .sizes .alpha)) ∙ t₃)) }
 
-      module _ {r₄ : Bool} (t₃ : r₃ ≡ false) (given : r₄ ≡ not (eqb (length (m .vectors)) (m .given * m .sizes .dim) && eqb (length (m .rows)) (m .given * m .sizes .degree))) where
+      module _ {r₄ : Bool} (t₃ : r₃ ≡ false) (given : r₄ ≡ not (eqb (length (m .bytes)) (m .count * m .sizes .dim) && eqb (length (m .rows)) (m .count * m .sizes .degree))) where
         pub judged-given : r₄ ≡ true → Judged m lent 3
         unfolding making-tests
         judged-given t₄ =
@@ -96,7 +97,7 @@ module _ {m : Making} {lent : Lengths} {r₁ : Bool}
             record { does = rw (sym (sized (m .sizes .alpha)) ∙ t₁, sym grown ∙ t₂, not-false q (sym (long (m .sizes .alpha)) ∙ t₃), sym given ∙ t₄) }
 
         pub judged-rest : {r : ℕ} → r₄ ≡ false
-            → r ≡ or-zero (first-of ((4, ltb (m .sizes .capacity) (m .given)) ∷ (5, not (names-given (m .given) (m .rows) && entry-given (m .given) (m .entry))) ∷ []))
+            → r ≡ or-zero (first-of ((4, ltb (m .sizes .capacity) (m .count)) ∷ (5, not (names-given (m .count) (m .rows) && entry-given (m .count) (m .entry))) ∷ []))
             → Judged m lent r
         unfolding making-tests
         judged-rest t₄ e =
@@ -120,11 +121,11 @@ all-below given a (suc n) h k = go (ltb a given) refl (λ l. all-below given (su
     go true e ih = omega (arith, ih (ltb-true a given e))
     go false e ih = omega (arith, none-above given (suc a) n (omega (arith, ltb-false a given e)), ltb-false a given e)
 
-live-given : (m : Making) → Accepted (m .sizes) (m .given) (m .vectors) (m .rows) (m .entry) → length (live-slots (store-view (stored .new m))) ≡ m .given
+live-given : (m : Making) → Accepted (m .sizes) (m .count) (m .bytes) (m .rows) (m .entry) → length (live-slots (store-view (stored .new m))) ≡ m .count
 unfolding stored new-plain
 live-given m ok =
-    ap (λ v. length (live-slots v)) (agree-new (m .sizes) (m .given) (m .vectors) (m .rows) (m .entry) ok .same)
-    ∙ omega (arith, all-below (m .given) 0 (m .sizes .capacity) (omega arith) (omega (arith, ok .room)))
+    ap (λ v. length (live-slots v)) (agree-new (m .sizes) (m .count) (m .bytes) (m .rows) (m .entry) ok .same)
+    ∙ omega (arith, all-below (m .count) 0 (m .sizes .capacity) (omega arith) (omega (arith, ok .room)))
 
 -- what is written, with the new index by value, is what making makes
 made-new : {index : Index} {bytes rows : List ℕ} {s : Slices} → index .guard ≡ Off
@@ -151,8 +152,7 @@ module _ {m : Making} (s : Slices) {r : ℕ} (j : Judged m (lengths-of s) r) whe
 
   -- one that is not has the room for what it writes
   pub creates-room : r ≡ 0
-      → Room (m .sizes .dim) (m .sizes .capacity) (m .sizes .degree) (m .given) (m .vectors) (m .rows) (s .vectors) (s .targets) (s .edges) (s .versions) (s .marks) (s .pool)
-  unfolding exact
+      → Room (m .sizes .dim) (m .sizes .capacity) (m .sizes .degree) (m .count) (m .bytes) (m .rows) (s .vectors) (s .targets) (s .edges) (s .versions) (s .marks) (s .pool)
   creates-room z =
       let h = none-judged _ m (sym (j .does) ∙ z) in
       let ok = accepted _ m h in

@@ -5,31 +5,21 @@ use mathlib.Core.Option.{none, some}
 use mathlib.Core.Path.{_≡_}
 use lib.Ieee.{Float}
 use Rattle.slots.specs.Sizes.{Slices, lengths-of, limits}
-use Rattle.slots.specs.Store.{Store, arrays}
+use Rattle.slots.specs.Store.{Store}
 use Rattle.index.specs.declared.Index.{Index}
-use Rattle.index.specs.declared.Guard.the-variants.{Off}
 use Rattle.index.specs.declared.Created.{Created}
 use Rattle.index.specs.declared.Created.the-variants.{Refused, Done}
 use Rattle.calls.specs.Calls.{Making, Answer, create, refused, created}
 use Rattle.calls.specs.Refusals.{first-of, making-tests}
-use Rattle.calls.specs.State.{State, stored, made}
+use Rattle.calls.specs.State.{State, state, stored, made}
 use Rattle.calls.specs.Outputs.{no-outputs}
-use Rattle.calls.specs.Runs.{Run}
+use Rattle.calls.specs.Runs.{value-of, Run}
 use Rattle.index.specs.Index.{sizes, state-of}
 
 -- what making is given, one by one
 abbrev pub making : ℕ → ℕ → ℕ → Float → ℕ → ℕ → List ℕ → List ℕ → Making
 making dim capacity degree alpha entry count bytes rows =
-    record { sizes = sizes dim capacity degree alpha; given = count; vectors = bytes; rows = rows; entry = entry }
-
--- the new index by value
-abbrev pub fresh-index : ℕ → ℕ → ℕ → Float → ℕ → ℕ → Index
-fresh-index dim capacity degree alpha entry count =
-    record { dim = dim; capacity = capacity; degree = degree; alpha = alpha; entry = entry; live = count; guard = Off }
-
--- what making is given for it
-abbrev pub making-of : Index → List ℕ → List ℕ → Making
-making-of i bytes rows = making (i .dim) (i .capacity) (i .degree) (i .alpha) (i .entry) (i .live) bytes rows
+    record { sizes = sizes dim capacity degree alpha; count = count; bytes = bytes; rows = rows; entry = entry }
 
 -- the slices as they are lent, and as they are left
 module _ (m : Making) (before after : Slices) where
@@ -50,28 +40,13 @@ module _ (m : Making) (before after : Slices) where
 
 -- ---- a run of `create`, whatever index the app had before
 
-abbrev pub with-slices : State Store → Slices → State Store
-with-slices w s =
-    let b = w .graph in
-    record {
-      graph = record {
-        arrays = arrays (b .arrays .dim) (b .arrays .degree) (s .vectors) (s .targets) (s .edges) (s .versions) (s .marks);
-        capacity = b .capacity;
-        alpha = b .alpha;
-        entry = b .entry;
-      };
-      live = w .live;
-      guard = w .guard;
-      pool = s .pool;
-    }
-
 unfoldable pub created-as : Created → Answer
 created-as (Refused n) = refused n
 created-as (Done i) = created
 
 -- the index that the app has: the one that it had, or the new one
 unfoldable pub left-by : Created → State Store → Slices → State Store
-left-by (Refused n) w s = with-slices w s
+left-by (Refused n) w s = state (value-of w) s
 left-by (Done i) w s = state-of i s
 
 -- `create` takes neither outputs nor scratch
@@ -79,7 +54,7 @@ abbrev pub create-run : Making → State Store → Slices → Slices → Created
 create-run m w before after r =
     record {
       operation = create m;
-      before = with-slices w before;
+      before = state (value-of w) before;
       after = left-by r w after;
       answer = created-as r;
       outputs-before = no-outputs;

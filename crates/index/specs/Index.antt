@@ -5,7 +5,7 @@ use lib.Ieee.{Float}
 use Rattle.slots.specs.Sizes.{Sizes, Slices, limits, sizes-ok}
 use Rattle.slots.specs.Sizes as Sizes
 use Rattle.slots.specs.Scratch.{size-answer}
-use Rattle.slots.specs.Store.{Store, arrays}
+use Rattle.slots.specs.Store.{Store}
 use Rattle.guard.specs.Guard.{config, off, on}
 use Rattle.guard.specs.Guard as Guards
 use Rattle.index.specs.declared.Index.{Index}
@@ -14,7 +14,7 @@ use Rattle.index.specs.declared.ScratchWords.{ScratchWords}
 use Rattle.index.specs.declared.ScratchWords.the-variants.{Refused, Words}
 use Rattle.index.specs.declared.Guard.{Guard}
 use Rattle.index.specs.declared.Guard.the-variants.{Off, On}
-use Rattle.calls.specs.State.{State}
+use Rattle.calls.specs.State.{State, Value, state}
 
 -- the size answer; 1 outside the ranges
 unfoldable pub words-for : Sizes → ScratchWords
@@ -35,16 +35,9 @@ unfoldable pub guard-of : Guard → Guards.Guard
 guard-of Off = off
 guard-of (On s) = on (config (s .count) (s .multiplier) (s .sample) (s .beam)) (s .pool)
 
+-- the index in the definitions' terms
+abbrev pub index-value : Index → Value
+index-value i = record { sizes = sizes-of i; entry = i .entry; live = i .live; guard = guard-of (i .guard) }
+
 unfoldable pub state-of : Index → Slices → State Store
-state-of i s =
-    record {
-      graph = record {
-        arrays = arrays (i .dim) (i .degree) (s .vectors) (s .targets) (s .edges) (s .versions) (s .marks);
-        capacity = i .capacity;
-        alpha = i .alpha;
-        entry = i .entry;
-      };
-      live = i .live;
-      guard = guard-of (i .guard);
-      pool = s .pool;
-    }
+state-of i s = state (index-value i) s

@@ -20,7 +20,8 @@ ghost use Rattle.index.specs.declared.Guard.the-variants.{Off};
 ghost use Rattle.index.specs.declared.Created.the-variants.{Done};
 ghost use Rattle.calls.specs.Refusals.{first-of, or-zero, names-given, entry-given};
 ghost use Rattle.index.specs.Index.{lengths-in};
-ghost use Rattle.index.specs.Create.{making, fresh-index, making-of, Creates};
+ghost use Rattle.index.specs.Create.{making, Creates};
+ghost use Rattle.index.specs.contracts.Making.{fresh-index, making-of};
 ghost use Rattle.index.specs.contracts.Deciding.{Judged};
 
 // Row 5, of the given rows: a word is neither blank nor a given slot.

@@ -86,7 +86,20 @@ lengths-of s =
       pool = length (s .pool);
     }
 
+-- the only lengths that pass
+abbrev pub exact : Limits → Sizes → Lengths
+exact l z =
+    record {
+      vectors = z .capacity * z .dim;
+      targets = z .capacity * z .degree;
+      edges = z .capacity * z .degree;
+      versions = z .capacity;
+      marks = z .capacity;
+      pool = l .pool;
+    }
+
 unfoldable pub lengths-ok : Limits → Sizes → Lengths → Bool
 lengths-ok l z n =
-    eqb (n .vectors) (z .capacity * z .dim) && eqb (n .targets) (z .capacity * z .degree) && eqb (n .edges) (z .capacity * z .degree)
-    && eqb (n .versions) (z .capacity) && eqb (n .marks) (z .capacity) && eqb (n .pool) (l .pool)
+    let e = exact l z in
+    eqb (n .vectors) (e .vectors) && eqb (n .targets) (e .targets) && eqb (n .edges) (e .edges)
+    && eqb (n .versions) (e .versions) && eqb (n .marks) (e .marks) && eqb (n .pool) (e .pool)

@@ -1,6 +1,6 @@
 use mathlib.Core.Path.{ap, sym}
 use Rattle.reading.specs.declared.Value.{Value}
-use Rattle.finder.specs.Given.{alpha-put}
+use Rattle.finder.specs.contracts.Putting.{alpha-put}
 use borrow.Author.Needs.{needs}
 use Rattle.finder.proofs.readings.put_alpha.Statement.{statement}
 use Rattle.finder.proofs.readings.put_alpha.Tie as tie

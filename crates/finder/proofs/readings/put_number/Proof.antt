@@ -1,6 +1,6 @@
 use mathlib.Core.Path.{ap, sym}
 use Rattle.reading.specs.declared.Value.{Value}
-use Rattle.finder.specs.Given.{number-put}
+use Rattle.finder.specs.contracts.Putting.{number-put}
 use borrow.Author.Needs.{needs}
 use Rattle.finder.proofs.readings.put_number.Statement.{statement}
 use Rattle.finder.proofs.readings.put_number.Tie as tie

@@ -1,0 +1,50 @@
+-- The status of an answer, and what is left where its value is to be written. Assumes nothing.
+use Prim.Native.Nat.{ℕ}
+use mathlib.Core.Bool.{Bool, true, false}
+use mathlib.Core.List.{List}
+use lib.Ieee.{Float}
+use Rattle.index.specs.declared.Created.{Created}
+use Rattle.index.specs.declared.Created.the-variants.{Refused as not-made, Done}
+use Rattle.reading.specs.declared.Reading.{Reading}
+use Rattle.reading.specs.declared.Reading.the-variants.{Dim, Capacity, Degree, Alpha, Entry, Live, Mark, Version, Target}
+use Rattle.reading.specs.declared.Value.{Value}
+use Rattle.reading.specs.declared.Value.the-variants.{Refused, Number, Alpha as Factor, Version as Stamp}
+use Rattle.reading.specs.declared.Found.{Found}
+use Rattle.reading.specs.declared.Found.the-variants.{Refused as none-found, Found as Nearest}
+use Rattle.finder.specs.IndexWords.{words-of}
+
+-- the status of a making, and what is left in the index's words
+unfoldable pub created-put : Created → List ℕ → ℕ × List ℕ
+created-put (not-made n) words = (n, words)
+created-put (Done i) words = (0, words-of i)
+
+-- all but alpha are read as a number
+abbrev pub gives-number : Reading → Bool
+gives-number Alpha = false
+gives-number Dim = true
+gives-number Capacity = true
+gives-number Degree = true
+gives-number Entry = true
+gives-number Live = true
+gives-number (Mark slot) = true
+gives-number (Version slot) = true
+gives-number (Target slot place) = true
+
+-- the status of a value that was read, and what is left where a number is to be written
+unfoldable pub number-put : Value → ℕ → ℕ × ℕ
+number-put (Refused n) value = (n, value)
+number-put (Number n) value = (0, n)
+number-put (Factor a) value = (0, value)
+number-put (Stamp n) value = (0, n)
+
+-- the same where alpha is to be written
+unfoldable pub alpha-put : Value → Float → ℕ × Float
+alpha-put (Refused n) value = (n, value)
+alpha-put (Number n) value = (0, value)
+alpha-put (Factor a) value = (0, a)
+alpha-put (Stamp n) value = (0, value)
+
+-- the status of a search, and what is left where the number found is to be written
+unfoldable pub found-put : Found → ℕ → ℕ × ℕ
+found-put (none-found n) found = (n, found)
+found-put (Nearest n) found = (0, n)
