@@ -11,7 +11,7 @@ use Rattle.slots.specs.Scratch.{size-answer}
 use Rattle.slots.specs.View.{View, live-slots, free-slots}
 use Rattle.slots.specs.Store.{blank}
 use Rattle.guard.specs.Guard.{Config, Guard, off, on, normalized, residual-entry, landmark-pool}
-use Rattle.calls.specs.Calls.{Making, Search, Delete, Assess, Operation, create, read, read-vector, search, insert, delete, enable, status, assess, guarded-delete, Room, Lent}
+use Rattle.calls.specs.Calls.{Making, Search, Delete, Operation, create, read, read-vector, search, insert, delete, enable, status, assess, guarded-delete, Room, Lent}
 use Rattle.calls.specs.State.{State}
 
 -- a number of the table, and whether its case holds

@@ -13,7 +13,7 @@ use Rattle.walk.specs.Walk.{search-pool}
 use Rattle.insert.specs.Insert.{insert-batch}
 use Rattle.repair.specs.Delete.{delete-batch}
 use Rattle.guard.specs.Guard.{Guard, off, on, Report, normalized, no-landmarks, guard-status, assess-delete-admission}
-use Rattle.calls.specs.Calls.{Making, Reading, read-dim, read-capacity, read-degree, read-alpha, read-entry, read-live, read-mark, read-version, read-target, Search, Insert, Delete, Assess, Operation, create, read, read-vector, search, insert, delete, enable, status, assess, guarded-delete, Call, Answer, refused, created, number, alpha, version, vector, found, inserted, deleted, standing, assessed, applied, deferred, refused-as}
+use Rattle.calls.specs.Calls.{Reading, read-dim, read-capacity, read-degree, read-alpha, read-entry, read-live, read-mark, read-version, read-target, Delete, Operation, create, read, read-vector, search, insert, delete, enable, status, assess, guarded-delete, Call, Answer, created, number, alpha, version, vector, found, inserted, deleted, standing, assessed, applied, deferred, refused-as}
 use Rattle.calls.specs.State.{State, Kind, view-of, shown, made, with-graph, with-guard}
 use Rattle.calls.specs.Refusals.{first-of, new-pool, tests}
 

@@ -1,5 +1,5 @@
 -- Document 01's small shelf and an example of each refusal that can occur, as one table of calls with their answers. Assumes nothing.
-use Prim.Native.Nat.{ℕ, _-_, _*_}
+use Prim.Native.Nat.{ℕ, _-_}
 use mathlib.Core.Bool.{true, false}
 use mathlib.Core.List.{List, [], _∷_, _++_, map}
 use mathlib.Core.Option.{none, some}
@@ -12,7 +12,7 @@ use Rattle.slots.specs.Scratch.{size-answer}
 use Rattle.slots.specs.Store.{Store, blank}
 use Rattle.repair.specs.Delete.{Stats}
 use Rattle.guard.specs.Guard.{config, Report, off}
-use Rattle.calls.specs.Calls.{Making, Reading, read-entry, read-live, read-mark, read-version, read-target, Search, Insert, Delete, Assess, Operation, create, read, read-vector, search, insert, delete, enable, status, assess, guarded-delete, Room, Lent, Call, Answer, refused, created, number, version, vector, found, inserted, deleted, standing, assessed, applied, deferred}
+use Rattle.calls.specs.Calls.{Making, read-entry, read-live, read-mark, read-version, read-target, Delete, Operation, create, read, read-vector, search, insert, delete, enable, status, assess, guarded-delete, Call, Answer, refused, created, number, version, vector, found, inserted, deleted, standing, assessed, applied, deferred}
 use Rattle.calls.specs.State.{State, state, shown, made, stored}
 use Rattle.calls.specs.Step.{step}
 use Rattle.calls.specs.Runs.{slices-of}

@@ -9,7 +9,6 @@ use lib.Dec.{eqb}
 use lib.ListN.{length}
 use Rattle.slots.specs.Sizes.{lengths-of, limits}
 use Rattle.slots.specs.View.{View}
-use Rattle.slots.specs.Store.{Store}
 use Rattle.calls.specs.Calls.{Making, create, Call, Answer, refused, created, number, alpha, version, vector, found, inserted, deleted, standing, assessed, applied, deferred}
 use Rattle.calls.specs.Outputs.{written}
 use Rattle.calls.specs.Refusals.{first-of, making-tests}
