@@ -20,11 +20,11 @@ use Rattle.slots.specs.View.{free-slots}
 use Rattle.slots.specs.Store.{Arrays, Store, is-valid, store-view, store-ops, with-arrays, arrays}
 use Rattle.row.specs.Row.{index-of}
 use Rattle.insert.specs.Insert.{Filling, fillings, insert-chunk, insert-batch}
-use Rattle.insert.specs.Batch.{insert-words, Insertable, Inserted}
+use Rattle.insert.specs.Batch.{insert-words, Insertable, BatchInserted}
 use Rattle.insert.specs.contracts.Filling.{filling-at, fillings-from, chunk-of, Fillable}
-use Rattle.insert.specs.contracts.Chunk.{Walkable, ChunkInserted, Slots, ChunksInserted}
+use Rattle.insert.specs.contracts.Chunk.{Provided, ChunkInserted, Assigned, ChunksInserted}
 use Rattle.insert.proofs.Filled.{AsLong, as-long, as-long-then}
-use Rattle.insert.proofs.Linking.{walkable-kept}
+use Rattle.insert.proofs.ChunkRows.{provided-kept}
 
 -- insert's share of the size answer is enough
 pub insert-enough : (capacity degree : ℕ) → degree ≤ 64 → work-at capacity + insert-words degree ≤ size-answer capacity
@@ -44,7 +44,7 @@ shifted dim bytes slots from k (suc j) i h =
     (ap₂ (λ (s : ℕ) (v : List ℕ). record { slot = s; vector = v }) (slot-part from k i slots (omega arith)) (part-part dim from k i bytes (omega arith)))
     (shifted dim bytes slots from k j (suc i) (omega arith) ∙ ap (λ (x : ℕ). map (filling-at dim bytes slots) (range x j)) e)
 
-module _ {dim capacity : ℕ} {bytes slots : List ℕ} {from to : ℕ} (o : Slots dim capacity bytes slots to) (r : from ≤ to) where
+module _ {dim capacity : ℕ} {bytes slots : List ℕ} {from to : ℕ} (o : Assigned dim capacity bytes slots to) (r : from ≤ to) where
   abbrev bytes-part : List ℕ
   bytes-part = take (to * dim - from * dim) (drop (from * dim) bytes)
 
@@ -77,7 +77,7 @@ module _ {dim capacity : ℕ} {bytes slots : List ℕ} {from to : ℕ} (o : Slot
       ∙ shifted dim bytes slots from (to - from) (to - from) 0 (omega arith)
       ∙ ap (λ (x : ℕ). map (filling-at dim bytes slots) (range x (to - from))) z
 
-pub part-inserted : (a : Arrays) {alpha : Float} {start beam : ℕ} {bytes slots : List ℕ} {from to : ℕ} → Slots (a .dim) (length (a .marks)) bytes slots to → from ≤ to → {a′ : Arrays}
+pub part-inserted : (a : Arrays) {alpha : Float} {start beam : ℕ} {bytes slots : List ℕ} {from to : ℕ} → Assigned (a .dim) (length (a .marks)) bytes slots to → from ≤ to → {a′ : Arrays}
     → ChunkInserted alpha a start beam (take (to * a .dim - from * a .dim) (drop (from * a .dim) bytes)) (take (to - from) (drop from slots)) 0 (length (take (to - from) (drop from slots))) a′
     → ChunkInserted alpha a start beam bytes slots from (to - from) a′
 part-inserted a {alpha} {start} {beam} o r f = record { chunk = f .chunk ∙ ap (insert-chunk store-ops beam (index-of alpha start a)) (chunk-is o r) }
@@ -144,15 +144,15 @@ chunking-none alpha start beam bytes slots count a =
     let e : count - 0 ≡ count = omega arith in
     record { bound = omega arith; goes = rw e; longs = as-long a }
 
-module _ {a₀ : Arrays} {alpha : Float} {start beam words : ℕ} {bytes slots : List ℕ} {count : ℕ} (o : Slots (a₀ .dim) (length (a₀ .marks)) bytes slots count)
-    (g : Walkable (a₀ .degree) (length (a₀ .marks)) start beam words) {vectors targets edges marks : List ℕ} {from : ℕ}
+module _ {a₀ : Arrays} {alpha : Float} {start beam words : ℕ} {bytes slots : List ℕ} {count : ℕ} (o : Assigned (a₀ .dim) (length (a₀ .marks)) bytes slots count)
+    (g : Provided (a₀ .degree) (length (a₀ .marks)) start beam words) {vectors targets edges marks : List ℕ} {from : ℕ}
     (f : Chunking alpha start beam bytes slots count a₀ (arrays (a₀ .dim) (a₀ .degree) vectors targets edges (a₀ .versions) marks) from) (h : from < count) where
-  pub chunk-walkable : Walkable (a₀ .degree) (length marks) start beam words
-  chunk-walkable = walkable-kept (f .longs .marks) g
+  pub chunk-provided : Provided (a₀ .degree) (length marks) start beam words
+  chunk-provided = provided-kept (f .longs .marks) g
 
   module _ {to : ℕ} (e : to ≡ from + min 256 (count - from)) where
-    pub chunk-slots : Slots (a₀ .dim) (length marks) bytes slots to
-    chunk-slots =
+    pub chunk-assigned : Assigned (a₀ .dim) (length marks) bytes slots to
+    chunk-assigned =
         let k : to ≤ count = omega arith in
         record {
           bytes-in = omega (arith, o .bytes-in, mul-le-mul-right (a₀ .dim) k);
@@ -209,15 +209,15 @@ module _ {a : Arrays} {alpha : Float} {entry beam : ℕ} {bytes slots scratch : 
   pub batch-room : (count ≤ length slots) × (length (a .marks) ≤ 65536)
   batch-room = (rw q (o .room-in), o .together .rows .few)
 
-  pub batch-walkable : Walkable (a .degree) (length (a .marks)) entry beam (length scratch)
-  batch-walkable = record { start-in = o .entry-in; beam-most = o .beam-most; enough = o .enough }
+  pub batch-provided : Provided (a .degree) (length (a .marks)) entry beam (length scratch)
+  batch-provided = record { start-in = o .entry-in; beam-most = o .beam-most; enough = o .enough }
 
   module _ {slots₁ : List ℕ} (e : slots₁ ≡ put-front (take count (free-of (a .marks))) slots) where
     noted : (i : ℕ) → i < count → getD slots₁ i 0 ≡ getD (free-of (a .marks)) i 0
     noted i h = rw e (front-at (free-of (a .marks)) slots count i enough-free h)
 
-    pub batch-slots : length slots₁ ≡ length slots → Slots (a .dim) (length (a .marks)) bytes slots₁ count
-    batch-slots r =
+    pub batch-assigned : length slots₁ ≡ length slots → Assigned (a .dim) (length (a .marks)) bytes slots₁ count
+    batch-assigned r =
         record {
           bytes-in = rw q (div-mul-le-self (length bytes) (a .dim));
           slots-in = rw (r, q) (o .room-in);
@@ -239,7 +239,7 @@ module _ {a : Arrays} {alpha : Float} {entry beam : ℕ} {bytes slots scratch : 
         rw (drop-cons (free-of (a .marks)) i 0 (omega (arith, enough-free)))
         (ap₂ (λ (f : Filling) (l : List Filling). f ∷ l) (ap (λ (s : ℕ). record { slot = s; vector = part (a .dim) i bytes }) (sym (noted i (omega arith)))) (paired j (suc i) (omega arith)))
 
-    pub batch-inserted : {a′ : Arrays} → ChunksInserted alpha a entry beam bytes slots₁ count a′ → Inserted a alpha entry beam bytes slots a′ slots₁ count
+    pub batch-inserted : {a′ : Arrays} → ChunksInserted alpha a entry beam bytes slots₁ count a′ → BatchInserted a alpha entry beam bytes slots a′ slots₁ count
     unfolding insert-batch fillings fillings-from store-ops store-view
     batch-inserted f =
         let b = index-of alpha entry a in
@@ -256,7 +256,7 @@ module _ {a : Arrays} {alpha : Float} {entry beam : ℕ} {bytes slots scratch : 
 
 -- the same of every index that has the slices, as many slots as marks
 pub inserted-store : (b : Store) {beam : ℕ} {bytes slots : List ℕ} {a′ : Arrays} {slots′ : List ℕ} {r : ℕ} → b .capacity ≡ length (b .arrays .marks) → length (a′ .marks) ≡ length (b .arrays .marks)
-    → Inserted (b .arrays) (b .alpha) (b .entry) beam bytes slots a′ slots′ r
+    → BatchInserted (b .arrays) (b .alpha) (b .entry) beam bytes slots a′ slots′ r
     → with-arrays b a′ ≡ insert-batch store-ops beam b (map (λ i. part (b .arrays .dim) i bytes) (range 0 (length bytes / b .arrays .dim)))
 inserted-store b {beam} {bytes} {a′ = a′} e l f =
     ap (λ (n : ℕ). record { arrays = a′; capacity = n; alpha = b .alpha; entry = b .entry }) (e ∙ sym l)

@@ -119,19 +119,19 @@ pub together-as : {a₀ : Arrays} {vectors targets edges marks : List ℕ} → A
 together-as f x = together-kept (f .vectors) (f .targets) (f .edges) (f .marks) x
 
 -- ---- all slots of a chunk
-pub record Filling (bytes slots : List ℕ) (a₀ a : Arrays) (i : ℕ) : Type 0 where
+pub record FilledUpTo (bytes slots : List ℕ) (a₀ a : Arrays) (i : ℕ) : Type 0 where
   pub goes : (alpha : Float) (entry : ℕ) → fill-all store-ops (index-of alpha entry a) (fillings-from (a₀ .dim) bytes slots i (length slots - i))
       ≡ fill-all store-ops (index-of alpha entry a₀) (fillings-from (a₀ .dim) bytes slots 0 (length slots))
   pub bound : i ≤ length slots
   pub longs : AsLong a₀ a
 
-pub filling-none : (bytes slots : List ℕ) (a : Arrays) → Filling bytes slots a a 0
-filling-none bytes slots a =
+pub filled-none : (bytes slots : List ℕ) (a : Arrays) → FilledUpTo bytes slots a a 0
+filled-none bytes slots a =
     let e : length slots - 0 ≡ length slots = omega arith in
     record { goes = λ alpha entry. rw e; bound = omega arith; longs = as-long a }
 
 module _ {a₀ : Arrays} {bytes slots : List ℕ} (x : Together a₀) (o : Fillable (a₀ .dim) (length (a₀ .marks)) bytes slots) {vectors targets edges marks : List ℕ} {i : ℕ}
-    (f : Filling bytes slots a₀ (arrays (a₀ .dim) (a₀ .degree) vectors targets edges (a₀ .versions) marks) i) (h : i < length slots) where
+    (f : FilledUpTo bytes slots a₀ (arrays (a₀ .dim) (a₀ .degree) vectors targets edges (a₀ .versions) marks) i) (h : i < length slots) where
   pub fill-vector : i * a₀ .dim + a₀ .dim ≤ length bytes
   fill-vector = fits-in (a₀ .dim) (length slots) i (length bytes) h (o .long)
 
@@ -151,12 +151,12 @@ module _ {a₀ : Arrays} {bytes slots : List ℕ} (x : Together a₀) (o : Filla
           edges-in = r .1;
         }
 
-    pub filling-more : {vectors′ targets′ edges′ marks′ : List ℕ}
+    pub filled-more : {vectors′ targets′ edges′ marks′ : List ℕ}
         → Done (λ b. store-ops .fill b s v) s (arrays (a₀ .dim) (a₀ .degree) vectors targets edges (a₀ .versions) marks) (arrays (a₀ .dim) (a₀ .degree) vectors′ targets′ edges′ (a₀ .versions) marks′)
         → length vectors′ ≡ length vectors → length targets′ ≡ length targets → length edges′ ≡ length edges → length marks′ ≡ length marks
-        → Filling bytes slots a₀ (arrays (a₀ .dim) (a₀ .degree) vectors′ targets′ edges′ (a₀ .versions) marks′) (i + 1)
+        → FilledUpTo bytes slots a₀ (arrays (a₀ .dim) (a₀ .degree) vectors′ targets′ edges′ (a₀ .versions) marks′) (i + 1)
     unfolding fillings-from
-    filling-more {vectors′} {targets′} {edges′} {marks′} g lv lt le lm =
+    filled-more {vectors′} {targets′} {edges′} {marks′} g lv lt le lm =
         let z : length slots - i ≡ suc (length slots - (i + 1)) = omega arith in
         let y : i + 1 ≡ suc i = omega arith in
         let a = arrays (a₀ .dim) (a₀ .degree) vectors targets edges (a₀ .versions) marks in
@@ -171,6 +171,6 @@ module _ {a₀ : Arrays} {bytes slots : List ℕ} (x : Together a₀) (o : Filla
           longs = as-long-then (f .longs) lv lt le lm;
         }
 
-pub filling-done : {bytes slots : List ℕ} {a₀ a : Arrays} {i : ℕ} → Filling bytes slots a₀ a i → length slots ≤ i → ChunkFilled a₀ bytes slots a
+pub filled-done : {bytes slots : List ℕ} {a₀ a : Arrays} {i : ℕ} → FilledUpTo bytes slots a₀ a i → length slots ≤ i → ChunkFilled a₀ bytes slots a
 unfolding fillings-from
-filling-done {slots = slots} {i = i} f h = let z : length slots - i ≡ 0 = omega arith in record { fills = λ alpha entry. rw z at (f .goes alpha entry) }
+filled-done {slots = slots} {i = i} f h = let z : length slots - i ≡ 0 = omega arith in record { fills = λ alpha entry. rw z at (f .goes alpha entry) }

@@ -12,7 +12,7 @@ use Rattle.lists.proofs.All.{all-filter}
 use Rattle.lists.proofs.Filter.{filter-and}
 use Rattle.lists.proofs.Firsts.{filter-same, eqb-comm}
 use Rattle.lists.proofs.Ranges.{range-below, foldl-append}
-use Rattle.lists.proofs.Sweep.{Rising, rising-range, rising-rest, rising-above}
+use Rattle.lists.proofs.Sweep.{RisingFrom, rising-range, rising-rest, rising-above}
 use Rattle.slots.specs.View.{free-slots}
 use Rattle.slots.specs.Ops.{Row, write-rows}
 use Rattle.slots.specs.Store.{Store, is-valid, store-view, store-ops, with-arrays, set-mark, write-neighbors, write-vector}
@@ -47,7 +47,7 @@ module _ (capacity : ℕ) where
   free-less marks l s rest e v =
       let a : All (λ t. t < capacity) (free-in capacity marks) = all-filter (λ t. t < capacity) (λ t. not (is-valid marks t)) (range 0 capacity) (range-below 0 capacity capacity (omega arith)) in
       let h : s < capacity = subst (All (λ t. t < capacity)) e a .0 in
-      let u : Rising 0 (s ∷ rest) = subst (Rising 0) e (rising-range (λ t. not (is-valid marks t)) 0 capacity) in
+      let u : RisingFrom 0 (s ∷ rest) = subst (RisingFrom 0) e (rising-range (λ t. not (is-valid marks t)) 0 capacity) in
       rw (lt-ltb s capacity h)
       (filter-same (λ t. not (is-valid (set marks s 1) t)) (λ t. not (eqb s t) && not (is-valid marks t)) (others h) (range 0 capacity)
       ∙ filter-and (λ t. not (eqb s t)) (λ t. not (is-valid marks t)) (range 0 capacity)

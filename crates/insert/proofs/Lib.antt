@@ -4,10 +4,10 @@ pub mod Chunks
 pub mod Chaining
 pub mod Filled
 pub mod Plans
-pub mod Leaving
+pub mod OwnRows
 pub mod Targeting
 pub mod Order
 pub mod Read
-pub mod Linking
+pub mod ChunkRows
 pub mod Batching
 pub mod Free

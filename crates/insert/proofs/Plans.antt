@@ -29,7 +29,7 @@ use Rattle.insert.specs.contracts.Layout.{Spread, Parts}
 use Rattle.insert.specs.contracts.Chains.{Repeated}
 use Rattle.insert.specs.contracts.Filling.{Fillable}
 use Rattle.insert.specs.contracts.Plans.{selects, Plannable, Planned, start-of, Lies, Laid, AllPlanned}
-use Rattle.insert.specs.contracts.Chunk.{Walkable, plan-at}
+use Rattle.insert.specs.contracts.Chunk.{Provided, plan-at}
 use Rattle.insert.proofs.Chaining.{Agrees}
 
 -- ---- one plan
@@ -146,7 +146,7 @@ laid-none degree capacity plans w at =
     record { laid = record { last = refl; few = omega arith; each = λ k h. absurd (omega arith); within = λ k h. absurd (omega arith) }; size = refl }
 
 module _ {a : Arrays} {bytes slots : List ℕ} {start beam : ℕ} {w₀ : List ℕ} {at : Layout} (x : Together a) (s : Fillable (a .dim) (length (a .marks)) bytes slots)
-    (t : Walkable (a .degree) (length (a .marks)) start beam (length w₀)) (o : Parts (length (a .marks)) (a .degree) at) {plans : ℕ → Plan} {w : List ℕ} {i n : ℕ}
+    (t : Provided (a .degree) (length (a .marks)) start beam (length w₀)) (o : Parts (length (a .marks)) (a .degree) at) {plans : ℕ → Plan} {w : List ℕ} {i n : ℕ}
     (f : AllPlanned (a .degree) (length (a .marks)) plans w₀ at i n w) (h : i < length slots) where
   -- i plans, and one more, are among 256
   room : (i * a .degree + a .degree ≤ 256 * a .degree) × (n ≤ i * a .degree)

@@ -2,7 +2,7 @@
 use Prim.Native.Nat.{ℕ, zero, suc, _+_, _-_, _*_, _≤_, _<_}
 use mathlib.Core.Bool.{Bool, true, false, _||_, cond, true≢false}
 use mathlib.Core.Path.{_≡_, refl, ap, ap₂, sym, _∙_, subst}
-use mathlib.Core.List.{List, [], _∷_, _++_, map}
+use mathlib.Core.List.{List, [], _∷_, _++_, map, map-append}
 use native.Mathlib.Omega.{arith}
 use borrow.Author.Tests.{eqb-true, lt-ltb, le-ltb}
 use lib.Dec.{eqb, ltb}
@@ -150,13 +150,9 @@ some-named w at t i (suc k) =
     go true r = refl
     go false r = r
 
-ids-append : (k l : List Candidate) → ids (k ++ l) ≡ ids k ++ ids l
-ids-append [] l = refl
-ids-append (c ∷ k) l = ap (λ (r : List ℕ). c .id ∷ r) (ids-append k l)
-
 ids-outgoings : (plans : List Plan) → ids (outgoings plans) ≡ named plans
 ids-outgoings [] = refl
-ids-outgoings (q ∷ qs) = ids-append (q .outgoing) (outgoings qs) ∙ ap (λ (r : List ℕ). ids (q .outgoing) ++ r) (ids-outgoings qs)
+ids-outgoings (q ∷ qs) = map-append (λ c. c .id) (q .outgoing) (outgoings qs) ∙ ap (λ (r : List ℕ). ids (q .outgoing) ++ r) (ids-outgoings qs)
 
 module _ {degree capacity : ℕ} {plans : ℕ → Plan} {at : Layout} {m n : ℕ} {w : List ℕ} (f : Laid degree capacity plans at m n w) where
   -- the head of a chain tells whether its slot is named

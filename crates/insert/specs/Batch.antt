@@ -26,7 +26,7 @@ pub record Insertable (a : Arrays) (alpha : Float) (entry beam : ℕ) (bytes slo
   pub enough : work-at (length (a .marks)) + insert-words (a .degree) ≤ length scratch
 
 -- the index is that of `insert-batch`, the numbers of the r slots filled stand at the front, and the places past them are as they were
-pub record Inserted (a : Arrays) (alpha : Float) (entry beam : ℕ) (bytes slots : List ℕ) (a′ : Arrays) (slots′ : List ℕ) (r : ℕ) : Type 0 where
+pub record BatchInserted (a : Arrays) (alpha : Float) (entry beam : ℕ) (bytes slots : List ℕ) (a′ : Arrays) (slots′ : List ℕ) (r : ℕ) : Type 0 where
   pub count : r ≡ length bytes / a .dim
   pub index : index-of alpha entry a′ ≡ insert-batch store-ops beam (index-of alpha entry a) (map (λ i. part (a .dim) i bytes) (range 0 (length bytes / a .dim)))
   pub numbers : slots′ ≡ put-front (take r (free-slots (store-view (index-of alpha entry a)))) slots

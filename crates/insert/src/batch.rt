@@ -6,8 +6,8 @@ ghost use Prim.Native.Nat.{_+_, _-_, min, _<_, _≤_};
 ghost use lib.ListN.{length};
 ghost use Rattle.slots.specs.Store.{arrays};
 ghost use Rattle.row.specs.Row.{Together};
-ghost use Rattle.insert.specs.Batch.{Insertable, Inserted};
-ghost use Rattle.insert.specs.contracts.Chunk.{Walkable, ChunkInserted, Slots, ChunksInserted};
+ghost use Rattle.insert.specs.Batch.{Insertable, BatchInserted};
+ghost use Rattle.insert.specs.contracts.Chunk.{Provided, ChunkInserted, Assigned, ChunksInserted};
 
 // The slots of a list from `from` up to `to` get their vectors and rows.
 fn insert_part(
@@ -28,7 +28,7 @@ fn insert_part(
     to: usize,
 )
     requires { ⌜ Together (arrays dim degree (now vectors) (now targets) (now edges) (now versions) (now marks)) ⌝ }
-    requires { ⌜ Slots dim (length (now marks)) (now bytes) (now slots) to × Walkable degree (length (now marks)) start beam (length (now scratch)) × (from ≤ to) × (to ≤ from + 256) ⌝ }
+    requires { ⌜ Assigned dim (length (now marks)) (now bytes) (now slots) to × Provided degree (length (now marks)) start beam (length (now scratch)) × (from ≤ to) × (to ≤ from + 256) ⌝ }
     ensures { λ _. ⌜ ChunkInserted alpha (arrays dim degree (now (vectors .entry)) (now (targets .entry)) (now (edges .entry)) (now (versions .entry)) (now (marks .entry))) start beam (now (bytes .entry)) (now (slots .entry)) from (to - from)
         (arrays dim degree (now (vectors .exit)) (now (targets .exit)) (now (edges .exit)) (now (versions .entry)) (now (marks .exit))) ⌝ }
 {
@@ -80,7 +80,7 @@ fn insert_chunks(
     count: usize,
 )
     requires { ⌜ Together (arrays dim degree (now vectors) (now targets) (now edges) (now versions) (now marks)) ⌝ }
-    requires { ⌜ Slots dim (length (now marks)) (now bytes) (now slots) count × Walkable degree (length (now marks)) start beam (length (now scratch)) ⌝ }
+    requires { ⌜ Assigned dim (length (now marks)) (now bytes) (now slots) count × Provided degree (length (now marks)) start beam (length (now scratch)) ⌝ }
     ensures { λ _. ⌜ ChunksInserted alpha (arrays dim degree (now (vectors .entry)) (now (targets .entry)) (now (edges .entry)) (now (versions .entry)) (now (marks .entry))) start beam (now (bytes .entry)) (now (slots .entry)) count
         (arrays dim degree (now (vectors .exit)) (now (targets .exit)) (now (edges .exit)) (now (versions .entry)) (now (marks .exit))) ⌝ }
 {
@@ -126,7 +126,7 @@ pub fn insert_batch(
     scratch: &mut [u32],
 ) -> usize
     requires { ⌜ Insertable (arrays dim degree (now vectors) (now targets) (now edges) (now versions) (now marks)) alpha entry beam (now bytes) (now slots) (now scratch) ⌝ }
-    ensures { λ r. ⌜ Inserted (arrays dim degree (now (vectors .entry)) (now (targets .entry)) (now (edges .entry)) (now (versions .entry)) (now (marks .entry))) alpha entry beam (now (bytes .entry)) (now (slots .entry))
+    ensures { λ r. ⌜ BatchInserted (arrays dim degree (now (vectors .entry)) (now (targets .entry)) (now (edges .entry)) (now (versions .entry)) (now (marks .entry))) alpha entry beam (now (bytes .entry)) (now (slots .entry))
         (arrays dim degree (now (vectors .exit)) (now (targets .exit)) (now (edges .exit)) (now (versions .entry)) (now (marks .exit))) (now (slots .exit)) r ⌝ }
 {
     let count = bytes.len() / dim;

@@ -11,9 +11,9 @@ ghost use Rattle.slots.specs.Store.{arrays};
 ghost use Rattle.row.specs.Row.{Together};
 ghost use Rattle.insert.specs.contracts.Layout.{Parts};
 ghost use Rattle.insert.specs.contracts.Filling.{Inside, Fillable};
-ghost use Rattle.insert.specs.contracts.Outgoing.{Leavable};
+ghost use Rattle.insert.specs.contracts.Outgoing.{OutgoingRows};
 ghost use Rattle.insert.specs.contracts.Targets.{Renewable};
-ghost use Rattle.insert.specs.contracts.Chunk.{Walkable, plan-at, Linked, RowsWritten, RowsInserted, ChunkInserted};
+ghost use Rattle.insert.specs.contracts.Chunk.{Provided, plan-at, Linked, RowsWritten, RowsInserted, ChunkInserted};
 
 // The plans of all slots of a chunk, chained by slot. Returns how many candidates they have.
 fn link_plans(
@@ -33,7 +33,7 @@ fn link_plans(
     at: Layout,
 ) -> u32
     requires { ⌜ Together (arrays dim degree (now vectors) (now targets) (now edges) (now versions) (now marks)) ⌝ }
-    requires { ⌜ Fillable dim (length (now marks)) (now bytes) (now slots) × Walkable degree (length (now marks)) start beam (length (now scratch)) × Parts (length (now marks)) degree at ⌝ }
+    requires { ⌜ Fillable dim (length (now marks)) (now bytes) (now slots) × Provided degree (length (now marks)) start beam (length (now scratch)) × Parts (length (now marks)) degree at ⌝ }
     ensures { λ r. ⌜ Linked degree (length (now (marks .entry))) (plan-at (arrays dim degree (now (vectors .entry)) (now (targets .entry)) (now (edges .entry)) (now (versions .entry)) (now (marks .entry))) alpha start beam (now (bytes .entry)) (now (slots .entry)))
         (now (scratch .entry)) at (length (now (slots .entry))) r (now (scratch .exit)) ⌝ }
 {
@@ -73,7 +73,7 @@ fn write_rows(
     n: u32,
 )
     requires { ⌜ Together (arrays dim degree (now vectors) (now targets) (now edges) (now versions) (now marks)) ⌝ }
-    requires { ⌜ Leavable degree (now targets) (now edges) (now slots) (now scratch) at n × Renewable degree (length (now marks)) (now scratch) at n × Inside (length (now marks)) (now slots) ⌝ }
+    requires { ⌜ OutgoingRows degree (now targets) (now edges) (now slots) (now scratch) at n × Renewable degree (length (now marks)) (now scratch) at n × Inside (length (now marks)) (now slots) ⌝ }
     ensures { λ _. ⌜ RowsWritten alpha (arrays dim degree (now (vectors .entry)) (now (targets .entry)) (now (edges .entry)) (now (versions .entry)) (now (marks .entry))) (now (slots .entry)) (now (scratch .entry)) at n
         (arrays dim degree (now (vectors .entry)) (now (targets .exit)) (now (edges .exit)) (now (versions .entry)) (now (marks .entry))) ⌝ }
 {
@@ -110,7 +110,7 @@ fn insert_rows(
     scratch: &mut [u32],
 )
     requires { ⌜ Together (arrays dim degree (now vectors) (now targets) (now edges) (now versions) (now marks)) ⌝ }
-    requires { ⌜ Fillable dim (length (now marks)) (now bytes) (now slots) × Walkable degree (length (now marks)) start beam (length (now scratch)) ⌝ }
+    requires { ⌜ Fillable dim (length (now marks)) (now bytes) (now slots) × Provided degree (length (now marks)) start beam (length (now scratch)) ⌝ }
     ensures { λ _. ⌜ RowsInserted alpha (arrays dim degree (now (vectors .entry)) (now (targets .entry)) (now (edges .entry)) (now (versions .entry)) (now (marks .entry))) start beam (now (bytes .entry)) (now (slots .entry))
         (arrays dim degree (now (vectors .entry)) (now (targets .exit)) (now (edges .exit)) (now (versions .entry)) (now (marks .entry))) ⌝ }
 {
@@ -164,7 +164,7 @@ pub fn insert_chunk(
     scratch: &mut [u32],
 )
     requires { ⌜ Together (arrays dim degree (now vectors) (now targets) (now edges) (now versions) (now marks)) ⌝ }
-    requires { ⌜ Fillable dim (length (now marks)) (now bytes) (now slots) × Walkable degree (length (now marks)) start beam (length (now scratch)) ⌝ }
+    requires { ⌜ Fillable dim (length (now marks)) (now bytes) (now slots) × Provided degree (length (now marks)) start beam (length (now scratch)) ⌝ }
     ensures { λ _. ⌜ ChunkInserted alpha (arrays dim degree (now (vectors .entry)) (now (targets .entry)) (now (edges .entry)) (now (versions .entry)) (now (marks .entry))) start beam (now (bytes .entry)) (now (slots .entry)) 0 (length (now (slots .entry)))
         (arrays dim degree (now (vectors .exit)) (now (targets .exit)) (now (edges .exit)) (now (versions .entry)) (now (marks .exit))) ⌝ }
 {

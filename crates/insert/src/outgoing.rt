@@ -3,7 +3,7 @@ use super::layout::Layout;
 use row::write_ids;
 use slots::marks::wide;
 use slots::scratch::MARKS;
-ghost use Rattle.insert.specs.contracts.Outgoing.{OwnRow, Unnamed, Leavable, Left};
+ghost use Rattle.insert.specs.contracts.Outgoing.{OwnRow, Unnamed, OutgoingRows, OutgoingWritten};
 
 // Writes the slots of the `r` candidates at `p` as the row of slot `s`, unless one of the `n` candidates of the plans names it.
 fn write_unnamed(
@@ -39,8 +39,8 @@ pub fn write_outgoing(
     at: Layout,
     n: u32,
 )
-    requires { ⌜ Leavable degree (now targets) (now edges) (now slots) (now scratch) at n ⌝ }
-    ensures { λ _. ⌜ Left degree (now (targets .entry)) (now (edges .entry)) (now (versions .entry)) (now (slots .entry)) (now (scratch .entry)) at n (now (targets .exit)) (now (edges .exit)) (now (scratch .exit)) ⌝ }
+    requires { ⌜ OutgoingRows degree (now targets) (now edges) (now slots) (now scratch) at n ⌝ }
+    ensures { λ _. ⌜ OutgoingWritten degree (now (targets .entry)) (now (edges .entry)) (now (versions .entry)) (now (slots .entry)) (now (scratch .entry)) at n (now (targets .exit)) (now (edges .exit)) (now (scratch .exit)) ⌝ }
 {
     let mut b: usize = 0;
     let mut i: usize = 0;

@@ -12,7 +12,7 @@ ghost use Rattle.row.specs.Row.{Together, index-of};
 ghost use Rattle.insert.specs.contracts.Layout.{Parts};
 ghost use Rattle.insert.specs.contracts.Filling.{Fillable};
 ghost use Rattle.insert.specs.contracts.Plans.{Plannable, Planned, AllPlanned};
-ghost use Rattle.insert.specs.contracts.Chunk.{Walkable, plan-at};
+ghost use Rattle.insert.specs.contracts.Chunk.{Provided, plan-at};
 
 // The `i`-th plan, of slot `id`, whose vector is `query`: what it selects follows the `n` candidates of the plans before. Returns how many candidates
 // there are then; that is the plan's end.
@@ -84,7 +84,7 @@ pub fn plan_all(
     at: Layout,
 ) -> usize
     requires { ⌜ Together (arrays dim degree (now vectors) (now targets) (now edges) (now versions) (now marks)) ⌝ }
-    requires { ⌜ Fillable dim (length (now marks)) (now bytes) (now slots) × Walkable degree (length (now marks)) start beam (length (now scratch)) × Parts (length (now marks)) degree at ⌝ }
+    requires { ⌜ Fillable dim (length (now marks)) (now bytes) (now slots) × Provided degree (length (now marks)) start beam (length (now scratch)) × Parts (length (now marks)) degree at ⌝ }
     ensures { λ r. ⌜ AllPlanned degree (length (now (marks .entry))) (plan-at (arrays dim degree (now (vectors .entry)) (now (targets .entry)) (now (edges .entry)) (now (versions .entry)) (now (marks .entry))) alpha start beam (now (bytes .entry)) (now (slots .entry)))
         (now (scratch .entry)) at (length (now (slots .entry))) r (now (scratch .exit)) ⌝ }
 {

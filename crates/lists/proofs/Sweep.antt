@@ -1,4 +1,4 @@
--- Rising lists of numbers, each once: what `sorted-set` makes is what a sweep over all numbers below a bound finds. Assumes nothing.
+-- RisingFrom lists of numbers, each once: what `sorted-set` makes is what a sweep over all numbers below a bound finds. Assumes nothing.
 use Prim.Native.Nat.{ℕ, zero, suc, _+_, _≤_, _<_}
 use mathlib.Core.Bool.{Bool, true, false, cond, not, _||_}
 use mathlib.Core.Path.{_≡_, refl, ap, sym, _∙_}
@@ -17,9 +17,9 @@ data Up : ℕ → List ℕ → Type 0 where
   up-none : {a : ℕ} → Up a []
   up-one : {a x : ℕ} {l : List ℕ} → a ≤ x → Up x l → Up a (x ∷ l)
 
-pub data Rising : ℕ → List ℕ → Type 0 where
-  rise-none : {a : ℕ} → Rising a []
-  rise-one : {a x : ℕ} {l : List ℕ} → a ≤ x → Rising (suc x) l → Rising a (x ∷ l)
+pub data RisingFrom : ℕ → List ℕ → Type 0 where
+  rise-none : {a : ℕ} → RisingFrom a []
+  rise-one : {a x : ℕ} {l : List ℕ} → a ≤ x → RisingFrom (suc x) l → RisingFrom a (x ∷ l)
 
 up-insert : (a x : ℕ) (l : List ℕ) → a ≤ x → Up a l → Up a (insert-by ltb x l)
 up-insert a x [] h u = up-one h up-none
@@ -33,24 +33,24 @@ up-sort : (l : List ℕ) → Up 0 (sort-by ltb l)
 up-sort [] = up-none
 up-sort (x ∷ l) = up-insert 0 x (sort-by ltb l) (omega arith) (up-sort l)
 
-pub rising-low : (a b : ℕ) (l : List ℕ) → b ≤ a → Rising a l → Rising b l
+pub rising-low : (a b : ℕ) (l : List ℕ) → b ≤ a → RisingFrom a l → RisingFrom b l
 rising-low a b [] h rise-none = rise-none
 rising-low a b (x ∷ l) h (rise-one g u) = let k : b ≤ x = omega arith in rise-one k u
 
 -- the first number of a rising list, and the others
-pub rising-rest : {a x : ℕ} {l : List ℕ} → Rising a (x ∷ l) → Rising (suc x) l
+pub rising-rest : {a x : ℕ} {l : List ℕ} → RisingFrom a (x ∷ l) → RisingFrom (suc x) l
 rising-rest (rise-one g u) = u
 
 -- what is above x stays
-pub rising-above : (x a : ℕ) (l : List ℕ) → x < a → Rising a l → filter (λ y. not (eqb x y)) l ≡ l
+pub rising-above : (x a : ℕ) (l : List ℕ) → x < a → RisingFrom a l → filter (λ y. not (eqb x y)) l ≡ l
 rising-above x a [] h rise-none = refl
 rising-above x a (y ∷ l) h (rise-one g u) = rw (ne-eqb x y (λ z. omega arith), rising-above x (suc y) l (omega arith) u)
 
-rising-drop : (x : ℕ) (l : List ℕ) → Rising x l → Rising (suc x) (filter (λ y. not (eqb x y)) l)
+rising-drop : (x : ℕ) (l : List ℕ) → RisingFrom x l → RisingFrom (suc x) (filter (λ y. not (eqb x y)) l)
 rising-drop x [] rise-none = rise-none
 rising-drop x (y ∷ l) (rise-one g u) = go (eqb x y) refl
   where
-    go : (c : Bool) → eqb x y ≡ c → Rising (suc x) (cond (not c) (y ∷ filter (λ y. not (eqb x y)) l) (filter (λ y. not (eqb x y)) l))
+    go : (c : Bool) → eqb x y ≡ c → RisingFrom (suc x) (cond (not c) (y ∷ filter (λ y. not (eqb x y)) l) (filter (λ y. not (eqb x y)) l))
     go true e =
         let z : x ≡ y = eqb-true x y e in
         rw (rising-above x (suc y) l (omega arith) u) (rising-low (suc y) (suc x) l (omega arith) u)
@@ -59,24 +59,24 @@ rising-drop x (y ∷ l) (rise-one g u) = go (eqb x y) refl
         let k : suc x ≤ y = omega arith in
         rw (rising-above x (suc y) l (omega arith) u) (rise-one k u)
 
-up-distinct : (a : ℕ) (l : List ℕ) → Up a l → Rising a (distinct-by (λ x. x) l)
+up-distinct : (a : ℕ) (l : List ℕ) → Up a l → RisingFrom a (distinct-by (λ x. x) l)
 up-distinct a [] up-none = rise-none
 up-distinct a (x ∷ l) (up-one h u) = rise-one h (rising-drop x (distinct-by (λ x. x) l) (up-distinct x l u))
 
-pub rising-set : (l : List ℕ) → Rising 0 (sorted-set l)
+pub rising-set : (l : List ℕ) → RisingFrom 0 (sorted-set l)
 rising-set l = up-distinct 0 (sort-by ltb l) (up-sort l)
 
 -- a sweep finds a rising list
-pub rising-range : (p : ℕ → Bool) (a n : ℕ) → Rising a (filter p (range a n))
+pub rising-range : (p : ℕ → Bool) (a n : ℕ) → RisingFrom a (filter p (range a n))
 rising-range p a zero = rise-none
 rising-range p a (suc n) = go (p a) (rising-range p (suc a) n)
   where
-    go : (c : Bool) → Rising (suc a) (filter p (range (suc a) n)) → Rising a (cond c (a ∷ filter p (range (suc a) n)) (filter p (range (suc a) n)))
+    go : (c : Bool) → RisingFrom (suc a) (filter p (range (suc a) n)) → RisingFrom a (cond c (a ∷ filter p (range (suc a) n)) (filter p (range (suc a) n)))
     go true u = let k : a ≤ a = omega arith in rise-one k u
     go false u = rising-low (suc a) a (filter p (range (suc a) n)) (omega arith) u
 
 -- ---- a rising list below a + n is a sweep
-not-below : (s a : ℕ) (l : List ℕ) → s < a → Rising a l → elem s l ≡ false
+not-below : (s a : ℕ) (l : List ℕ) → s < a → RisingFrom a l → elem s l ≡ false
 not-below s a [] h rise-none = refl
 not-below s a (x ∷ l) h (rise-one g u) = rw (ne-eqb s x (λ z. omega arith)) (not-below s (suc x) l (omega arith) u)
 
@@ -90,14 +90,14 @@ filter-none : (a n : ℕ) → filter (λ s. false) (range a n) ≡ []
 filter-none a zero = refl
 filter-none a (suc n) = filter-none (suc a) n
 
-rising-sweep : (a n : ℕ) (l : List ℕ) → Rising a l → ((s : ℕ) → elem s l ≡ true → s < a + n) → l ≡ filter (λ s. elem s l) (range a n)
+rising-sweep : (a n : ℕ) (l : List ℕ) → RisingFrom a l → ((s : ℕ) → elem s l ≡ true → s < a + n) → l ≡ filter (λ s. elem s l) (range a n)
 rising-sweep a n [] rise-none b = sym (filter-none a n)
 rising-sweep a zero (x ∷ l) (rise-one g u) b =
     absurd (let h : x < a + 0 = b x (rw (eq-eqb x x refl)) in omega arith)
 rising-sweep a (suc n) (x ∷ l) (rise-one g u) b =
     go (eqb a x) refl
-    (λ (k : Rising (suc a) l) (m : (s : ℕ) → elem s l ≡ true → s < suc a + n). rising-sweep (suc a) n l k m)
-    (λ (k : Rising (suc a) (x ∷ l)) (m : (s : ℕ) → elem s (x ∷ l) ≡ true → s < suc a + n). rising-sweep (suc a) n (x ∷ l) k m)
+    (λ (k : RisingFrom (suc a) l) (m : (s : ℕ) → elem s l ≡ true → s < suc a + n). rising-sweep (suc a) n l k m)
+    (λ (k : RisingFrom (suc a) (x ∷ l)) (m : (s : ℕ) → elem s (x ∷ l) ≡ true → s < suc a + n). rising-sweep (suc a) n (x ∷ l) k m)
   where
     or-true : (p : Bool) → p || true ≡ true
     or-true true = refl
@@ -107,8 +107,8 @@ rising-sweep a (suc n) (x ∷ l) (rise-one g u) b =
     in-rest s m = rw m (or-true (eqb s x))
 
     go : (c : Bool) → eqb a x ≡ c
-        → (Rising (suc a) l → ((s : ℕ) → elem s l ≡ true → s < suc a + n) → l ≡ filter (λ s. elem s l) (range (suc a) n))
-        → (Rising (suc a) (x ∷ l) → ((s : ℕ) → elem s (x ∷ l) ≡ true → s < suc a + n) → x ∷ l ≡ filter (λ s. elem s (x ∷ l)) (range (suc a) n))
+        → (RisingFrom (suc a) l → ((s : ℕ) → elem s l ≡ true → s < suc a + n) → l ≡ filter (λ s. elem s l) (range (suc a) n))
+        → (RisingFrom (suc a) (x ∷ l) → ((s : ℕ) → elem s (x ∷ l) ≡ true → s < suc a + n) → x ∷ l ≡ filter (λ s. elem s (x ∷ l)) (range (suc a) n))
         → x ∷ l ≡ cond (c || elem a l) (a ∷ filter (λ s. elem s (x ∷ l)) (range (suc a) n)) (filter (λ s. elem s (x ∷ l)) (range (suc a) n))
     go true e r q =
         let z : a ≡ x = eqb-true a x e in

@@ -19,7 +19,7 @@ use Rattle.insert.specs.contracts.Outgoing.{own-at}
 use Rattle.insert.specs.contracts.Targets.{renewed-at}
 
 -- a start inside, a beam within its limit, and scratch
-pub record Walkable (degree capacity start beam words : ℕ) : Type 0 where
+pub record Provided (degree capacity start beam words : ℕ) : Type 0 where
   pub start-in : start < capacity
   pub beam-most : beam ≤ 1024
   pub enough : work-at capacity + insert-words degree ≤ words
@@ -50,7 +50,7 @@ pub record ChunkInserted (alpha : Float) (a : Arrays) (start beam : ℕ) (bytes 
 
 -- ---- chunk after chunk
 -- the slots of a list up to one
-pub record Slots (dim capacity : ℕ) (bytes slots : List ℕ) (to : ℕ) : Type 0 where
+pub record Assigned (dim capacity : ℕ) (bytes slots : List ℕ) (to : ℕ) : Type 0 where
   pub bytes-in : to * dim ≤ length bytes
   pub slots-in : to ≤ length slots
   pub below : to ≤ 65536

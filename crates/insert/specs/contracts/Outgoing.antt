@@ -38,7 +38,7 @@ pub record Unnamed (degree : ℕ) (targets edges versions : List ℕ) (s : ℕ) 
   pub same : (j : ℕ) → j < to → getD w′ j 0 ≡ getD w j 0
 
 -- the plans of a chunk's slots
-pub record Leavable (degree : ℕ) (targets edges slots w : List ℕ) (at : Layout) (n : ℕ) : Type 0 where
+pub record OutgoingRows (degree : ℕ) (targets edges slots w : List ℕ) (at : Layout) (n : ℕ) : Type 0 where
   pub few : length slots ≤ 256
   pub targets-in : (k : ℕ) → k < length slots → getD slots k 0 * degree + degree ≤ length targets
   pub edges-in : (k : ℕ) → k < length slots → getD slots k 0 * degree + degree ≤ length edges
@@ -51,7 +51,7 @@ pub record Leavable (degree : ℕ) (targets edges slots w : List ℕ) (at : Layo
   pub room : at .chosen + degree ≤ length w
   pub below : at .chosen + degree ≤ 8388608
 
-pub record Left (degree : ℕ) (targets edges versions slots w : List ℕ) (at : Layout) (n : ℕ) (targets′ edges′ w′ : List ℕ) : Type 0 where
+pub record OutgoingWritten (degree : ℕ) (targets edges versions slots w : List ℕ) (at : Layout) (n : ℕ) (targets′ edges′ w′ : List ℕ) : Type 0 where
   pub rows : (dim : ℕ) (vectors marks : List ℕ) (alpha : Float) (entry : ℕ) → Inside (length marks) slots
       → index-of alpha entry (arrays dim degree vectors targets′ edges′ versions marks)
       ≡ foldl (own-at w at n slots) (index-of alpha entry (arrays dim degree vectors targets edges versions marks)) (range 0 (length slots))

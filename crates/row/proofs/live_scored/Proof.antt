@@ -1,4 +1,4 @@
-use Rattle.row.proofs.Scored.{Reading, reading-none, reading-near, reading-live, reading-dead, reading-done}
+use Rattle.row.proofs.Scored.{Scoring, scoring-none, scoring-near, scoring-live, scoring-dead, scoring-done}
 use Prim.Native.Nat.{_-_}
 use mathlib.Core.Logic.{⊎-elim}
 use native.Mathlib.Omega.{arith}
@@ -8,7 +8,7 @@ use Rattle.row.proofs.live_scored.Statement.{statement}
 use Rattle.row.proofs.live_scored.Tie as tie
 
 abbrev Inv-loop : tie.InvT-loop
-Inv-loop dim degree vectors targets edges versions marks s scratch₀ at slot n₀ place₀ scratch n place = Reading (arrays dim degree vectors targets edges versions marks) s scratch₀ at scratch n place
+Inv-loop dim degree vectors targets edges versions marks s scratch₀ at slot n₀ place₀ scratch n place = Scoring (arrays dim degree vectors targets edges versions marks) s scratch₀ at scratch n place
 
 abbrev μ-loop : tie.MeasureT-loop
 μ-loop dim degree vectors targets edges versions marks s scratch₀ at slot n₀ place₀ scratch n place = degree - place
@@ -17,7 +17,7 @@ wide-requires : tie.Need-wide-requires Inv-loop μ-loop
 wide-requires c κs = search needs
 
 loop-holds : tie.Need-loop-holds Inv-loop μ-loop
-loop-holds c = reading-none _ _ _ _
+loop-holds c = scoring-none _ _ _ _
 
 live-at-requires : tie.Need-live-at-requires Inv-loop μ-loop
 live-at-requires c κs = (c .before .before .before .before .before .before .before .before .before .pre .0 .rows, (omega (arith, c .before .before .before .before .before .before .before .before .before .pre .1 .0, c .before .before .wide .ensures), c .loop-test .taken))
@@ -31,7 +31,7 @@ wide-requires-2 c κs = search needs
 slot-distance-requires : tie.Need-slot-distance-requires Inv-loop μ-loop
 slot-distance-requires c κs =
     let s = c .before .before .before .before .before .before .before .before .before .before .before .before .before .before .pre in
-    reading-near (c .before .before .before .before .before .before .loop .inv) (s .0) (s .1 .0) (c .before .before .before .before .before .loop-test .taken) (c .before .before .before .before .before .before .before .wide .ensures) (c .before .before .before .before .live-at .ensures _ _) (c .before .before .r .given .1) (c .wide2 .ensures)
+    scoring-near (c .before .before .before .before .before .before .loop .inv) (s .0) (s .1 .0) (c .before .before .before .before .before .loop-test .taken) (c .before .before .before .before .before .before .before .wide .ensures) (c .before .before .before .before .live-at .ensures _ _) (c .before .before .r .given .1) (c .wide2 .ensures)
 
 mul-put : tie.Need-mul-put Inv-loop μ-loop
 mul-put c = search needs
@@ -62,15 +62,15 @@ loop-again c =
     let e = c .before .live-at .ensures in
     let z = c .before .before .before .before .wide .ensures in
     ⊎-elim
-    (λ w. rw (w .9, w .10, w .6 .ensures) (reading-live l (s .0) (s .1 .0) h z (e _ _) (w .1 .given .1) (w .3 .ensures) (w .4 .ensures) (s .1 .1)))
-    (λ w. rw (w .2, w .3) (reading-dead l (s .0) (s .1 .0) h z (e _ _) (w .1 .given .1)))
+    (λ w. rw (w .9, w .10, w .6 .ensures) (scoring-live l (s .0) (s .1 .0) h z (e _ _) (w .1 .given .1) (w .3 .ensures) (w .4 .ensures) (s .1 .1)))
+    (λ w. rw (w .2, w .3) (scoring-dead l (s .0) (s .1 .0) h z (e _ _) (w .1 .given .1)))
     (c .match .came)
 
 same-length : tie.Need-same-length Inv-loop μ-loop
 same-length c = c .before .loop .inv .size
 
 returns : tie.Need-returns Inv-loop μ-loop
-returns c = reading-done (c .before .loop .inv) (c .loop-test .left)
+returns c = scoring-done (c .before .loop .inv) (c .loop-test .left)
 
 pub live-scored-spec : {M : Type 1} → statement M
 live-scored-spec =

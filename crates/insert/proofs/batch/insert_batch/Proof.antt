@@ -1,4 +1,4 @@
-use Rattle.insert.proofs.Batching.{batch-room, batch-walkable, batch-slots, batch-inserted}
+use Rattle.insert.proofs.Batching.{batch-room, batch-provided, batch-assigned, batch-inserted}
 use native.Mathlib.Omega.{arith}
 use mathlib.Core.Path.{refl}
 use Rattle.insert.proofs.batch.insert_batch.Statement.{statement}
@@ -11,7 +11,7 @@ free-slots-requires : tie.Need-free-slots-requires
 free-slots-requires c κs = batch-room (c .before .before .before .before .before .before .before .before .before .before .pre) refl
 
 insert-chunks-requires : tie.Need-insert-chunks-requires
-insert-chunks-requires c κs = let p = c .before .before .before .before .before .before .before .before .before .before .before .before .before .before .before .before .before .before .before .pre in (p .together, (batch-slots p refl (c .before .before .before .before .before .before .before .before .free-slots .ensures) (c .before .before .before .before .before .before .before .slots .given), batch-walkable p refl))
+insert-chunks-requires c κs = let p = c .before .before .before .before .before .before .before .before .before .before .before .before .before .before .before .before .before .before .before .pre in (p .together, (batch-assigned p refl (c .before .before .before .before .before .before .before .before .free-slots .ensures) (c .before .before .before .before .before .before .before .slots .given), batch-provided p refl))
 
 same-length : tie.Need-same-length
 same-length c = c .before .before .before .before .before .before .before .before .before .vectors .given

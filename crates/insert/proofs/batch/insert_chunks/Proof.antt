@@ -1,6 +1,6 @@
 use Rattle.insert.proofs.Filled.{together-as}
-use Rattle.insert.proofs.Batching.{Chunking, chunking-none, chunk-walkable, chunk-slots, chunk-later, chunking-more, chunking-done}
-use Rattle.insert.proofs.Linking.{walkable-words}
+use Rattle.insert.proofs.Batching.{Chunking, chunking-none, chunk-provided, chunk-assigned, chunk-later, chunking-more, chunking-done}
+use Rattle.insert.proofs.ChunkRows.{provided-words}
 use native.Mathlib.Omega.{arith}
 use mathlib.Core.Path.{_≡_, refl, _∙_}
 use Prim.Native.Nat.{_-_}
@@ -29,7 +29,7 @@ insert-part-requires c κs =
     let h = c .before .before .before .before .before .before .loop-test .taken in
     let e = c .before .before .before .before .before .chunk-end .ensures in
     let l = chunk-later (p .1 .0) (p .1 .1) f h e in
-    (together-as (f .longs) (p .0), (chunk-slots (p .1 .0) (p .1 .1) f h e, walkable-words (c .before .before .before .before .before .before .before .loop .inv .1) (chunk-walkable (p .1 .0) (p .1 .1) f h), l .1, l .2))
+    (together-as (f .longs) (p .0), (chunk-assigned (p .1 .0) (p .1 .1) f h e, provided-words (c .before .before .before .before .before .before .before .loop .inv .1) (chunk-provided (p .1 .0) (p .1 .1) f h), l .1, l .2))
 
 loop-less : tie.Need-loop-less Inv-loop μ-loop
 loop-less c = let p = c .before .before .before .before .before .before .before .before .before .before .before .before .before .before .before .before .before .before .before .before .before .before .before .before .before .before .before .pre .1 in let l = chunk-later (p .0) (p .1) (c .before .before .before .before .before .before .before .before .before .before .before .before .before .before .before .before .before .before .loop .inv .0) (c .before .before .before .before .before .before .before .before .before .before .before .before .before .before .before .before .before .loop-test .taken) (c .before .before .before .before .before .before .before .before .before .before .before .before .before .before .before .before .chunk-end .ensures) in omega (arith, l .0, l .3)

@@ -1,4 +1,4 @@
-use Rattle.insert.proofs.Linking.{fillable-kept, walkable-kept, chunk-inserted}
+use Rattle.insert.proofs.ChunkRows.{fillable-kept, provided-kept, chunk-inserted}
 use Rattle.row.proofs.Kept.{together-kept}
 use mathlib.Core.Path.{_∙_}
 use Rattle.insert.proofs.chunk.insert_chunk.Statement.{statement}
@@ -11,7 +11,7 @@ insert-rows-requires : tie.Need-insert-rows-requires
 insert-rows-requires c κs =
     let p = c .before .before .before .before .before .before .before .before .before .before .before .before .before .before .before .before .before .before .before .before .before .before .before .before .before .before .pre in
     let m = c .before .before .before .before .before .before .marks .given in
-    (together-kept (c .before .before .before .before .before .before .before .before .before .before .before .before .vectors .given) (c .before .before .before .before .before .before .before .before .before .before .targets .given) (c .before .before .before .before .before .before .before .before .edges .given) m (p .0), (fillable-kept m (p .1 .0), walkable-kept m (p .1 .1)))
+    (together-kept (c .before .before .before .before .before .before .before .before .before .before .before .before .vectors .given) (c .before .before .before .before .before .before .before .before .before .before .targets .given) (c .before .before .before .before .before .before .before .before .edges .given) m (p .0), (fillable-kept m (p .1 .0), provided-kept m (p .1 .1)))
 
 same-length : tie.Need-same-length
 same-length c = c .before .before .before .before .before .before .before .before .before .before .before .before .before .before .before .before .before .before .before .vectors .given

@@ -1,4 +1,4 @@
-use Rattle.insert.proofs.Linking.{rows-leavable, rows-ready, rows-inserted}
+use Rattle.insert.proofs.ChunkRows.{rows-outgoing, rows-renewable, rows-inserted}
 use mathlib.Core.Path.{_∙_}
 use Rattle.insert.proofs.chunk.insert_rows.Statement.{statement}
 use Rattle.insert.proofs.chunk.insert_rows.Tie as tie
@@ -14,7 +14,7 @@ write-rows-requires c κs =
     let p = c .before .before .before .before .before .before .before .before .before .before .before .before .before .before .before .before .before .before .pre in
     let o = c .before .before .before .before .before .before .before .before .before .lay-out .ensures in
     let l = c .before .before .before .before .before .link-plans .ensures in
-    (p .0, (rows-leavable _ (p .0) (p .1 .0) (p .1 .1) o l, rows-ready _ (p .0) (p .1 .0) (p .1 .1) o l, p .1 .0 .inside))
+    (p .0, (rows-outgoing _ (p .0) (p .1 .0) (p .1 .1) o l, rows-renewable _ (p .0) (p .1 .0) (p .1 .1) o l, p .1 .0 .inside))
 
 same-length : tie.Need-same-length
 same-length c = c .before .before .before .before .before .targets .given

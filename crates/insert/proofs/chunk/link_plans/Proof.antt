@@ -1,4 +1,4 @@
-use Rattle.insert.proofs.Linking.{link-fits, link-chainable, linked}
+use Rattle.insert.proofs.ChunkRows.{link-fits, link-chainable, linked}
 use native.Mathlib.Omega.{arith}
 use mathlib.Core.Path.{_∙_}
 use Rattle.insert.proofs.chunk.link_plans.Statement.{statement}

@@ -1,4 +1,4 @@
-use Rattle.insert.proofs.Linking.{rows-renewable, rows-both}
+use Rattle.insert.proofs.ChunkRows.{named-renewable, rows-both}
 use Rattle.row.proofs.Kept.{together-kept}
 use mathlib.Core.Path.{_∙_, refl}
 use Rattle.insert.proofs.chunk.write_rows.Statement.{statement}
@@ -8,7 +8,7 @@ write-outgoing-requires : tie.Need-write-outgoing-requires
 write-outgoing-requires c κs = c .before .before .before .before .before .before .before .before .before .before .pre .1 .0
 
 write-named-requires : tie.Need-write-named-requires
-write-named-requires c κs = (together-kept refl (c .before .before .before .before .before .before .before .before .targets .given) (c .before .before .before .before .before .before .edges .given) refl (c .before .before .before .before .before .before .before .before .before .before .before .before .before .before .before .before .before .before .before .before .pre .0), rows-renewable (c .before .before .before .before .before .before .before .before .before .before .before .before .before .before .before .before .before .before .before .before .pre .1 .1) (c .before .before .before .before .before .before .before .before .before .write-outgoing .ensures))
+write-named-requires c κs = (together-kept refl (c .before .before .before .before .before .before .before .before .targets .given) (c .before .before .before .before .before .before .edges .given) refl (c .before .before .before .before .before .before .before .before .before .before .before .before .before .before .before .before .before .before .before .before .pre .0), named-renewable (c .before .before .before .before .before .before .before .before .before .before .before .before .before .before .before .before .before .before .before .before .pre .1 .1) (c .before .before .before .before .before .before .before .before .before .write-outgoing .ensures))
 
 same-length : tie.Need-same-length
 same-length c = c .before .before .before .before .before .targets2 .given ∙ c .before .before .before .before .before .before .before .before .before .before .before .before .before .before .before .targets .given

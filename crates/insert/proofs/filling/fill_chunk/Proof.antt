@@ -1,20 +1,20 @@
-use Rattle.insert.proofs.Filled.{Filling, filling-none, fill-vector, fill-slot, filling-more, filling-done}
+use Rattle.insert.proofs.Filled.{FilledUpTo, filled-none, fill-vector, fill-slot, filled-more, filled-done}
 use native.Mathlib.Omega.{arith}
 use Prim.Native.Nat.{_-_}
 use lib.ListN.{length}
-use Rattle.slots.specs.Store.{arrays}
+use Rattle.slots.specs.Rows.{arrays}
 use borrow.Author.Needs.{needs}
 use Rattle.insert.proofs.filling.fill_chunk.Statement.{statement}
 use Rattle.insert.proofs.filling.fill_chunk.Tie as tie
 
 abbrev Inv-loop : tie.InvT-loop
-Inv-loop dim degree vectors₀ targets₀ edges₀ versions marks₀ bytes slots i₀ vectors targets edges marks i = Filling bytes slots (arrays dim degree vectors₀ targets₀ edges₀ versions marks₀) (arrays dim degree vectors targets edges versions marks) i
+Inv-loop dim degree vectors₀ targets₀ edges₀ versions marks₀ bytes slots i₀ vectors targets edges marks i = FilledUpTo bytes slots (arrays dim degree vectors₀ targets₀ edges₀ versions marks₀) (arrays dim degree vectors targets edges versions marks) i
 
 abbrev μ-loop : tie.MeasureT-loop
 μ-loop dim degree vectors₀ targets₀ edges₀ versions marks₀ bytes slots i₀ vectors targets edges marks i = length slots - i
 
 loop-holds : tie.Need-loop-holds Inv-loop μ-loop
-loop-holds c = filling-none _ _ _
+loop-holds c = filled-none _ _ _
 
 mul-wide : tie.Need-mul-wide Inv-loop μ-loop
 mul-wide c = search needs
@@ -38,7 +38,7 @@ loop-less : tie.Need-loop-less Inv-loop μ-loop
 loop-less c = omega (arith, c .before .before .before .before .before .before .before .before .before .before .before .before .before .before .before .before .loop-test .taken)
 
 loop-again : tie.Need-loop-again Inv-loop μ-loop
-loop-again c = filling-more (c .before .before .before .before .before .before .before .before .before .before .before .before .before .before .before .before .before .before .before .before .before .before .before .before .before .pre .0) (c .before .before .before .before .before .before .before .before .before .before .before .before .before .before .before .before .before .before .before .before .before .before .before .before .before .pre .1) (c .before .before .before .before .before .before .before .before .before .before .before .before .before .before .before .before .before .loop .inv) (c .before .before .before .before .before .before .before .before .before .before .before .before .before .before .before .before .loop-test .taken) (c .before .before .before .before .before .before .before .before .before .before .wide .ensures) (c .before .before .before .before .before .before .before .before .before .vector .ensures .bytes) (c .before .before .before .before .before .before .before .before .fill .ensures .does) (c .before .before .before .before .before .before .before .vectors .given) (c .before .before .before .before .before .targets .given) (c .before .before .before .edges .given) (c .before .marks .given)
+loop-again c = filled-more (c .before .before .before .before .before .before .before .before .before .before .before .before .before .before .before .before .before .before .before .before .before .before .before .before .before .pre .0) (c .before .before .before .before .before .before .before .before .before .before .before .before .before .before .before .before .before .before .before .before .before .before .before .before .before .pre .1) (c .before .before .before .before .before .before .before .before .before .before .before .before .before .before .before .before .before .loop .inv) (c .before .before .before .before .before .before .before .before .before .before .before .before .before .before .before .before .loop-test .taken) (c .before .before .before .before .before .before .before .before .before .before .wide .ensures) (c .before .before .before .before .before .before .before .before .before .vector .ensures .bytes) (c .before .before .before .before .before .before .before .before .fill .ensures) (c .before .before .before .before .before .before .before .vectors .given) (c .before .before .before .before .before .targets .given) (c .before .before .before .edges .given) (c .before .marks .given)
 
 same-length : tie.Need-same-length Inv-loop μ-loop
 same-length c = c .before .loop .inv .longs .vectors
@@ -53,7 +53,7 @@ same-length-4 : tie.Need-same-length-4 Inv-loop μ-loop
 same-length-4 c = c .before .loop .inv .longs .marks
 
 returns : tie.Need-returns Inv-loop μ-loop
-returns c = filling-done (c .before .loop .inv) (c .loop-test .left)
+returns c = filled-done (c .before .loop .inv) (c .loop-test .left)
 
 pub fill-chunk-spec : {M : Type 1} → statement M
 fill-chunk-spec =

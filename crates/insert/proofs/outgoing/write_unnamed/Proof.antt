@@ -1,4 +1,4 @@
-use Rattle.insert.proofs.Leaving.{unnamed-not, unnamed-written}
+use Rattle.insert.proofs.OwnRows.{unnamed-not, unnamed-written}
 use native.Mathlib.Omega.{arith}
 use borrow.Author.Needs.{needs}
 use Rattle.insert.proofs.outgoing.write_unnamed.Statement.{statement}

@@ -18,7 +18,7 @@ use Rattle.insert.specs.declared.layout.Layout.{Layout}
 use Rattle.insert.specs.contracts.Chains.{head}
 use Rattle.insert.specs.contracts.Filling.{Inside}
 use Rattle.insert.specs.contracts.Plans.{start-of, plan-cands}
-use Rattle.insert.specs.contracts.Outgoing.{own-row, own-at, OwnRow, Unnamed, Leavable, Left}
+use Rattle.insert.specs.contracts.Outgoing.{own-row, own-at, OwnRow, Unnamed, OutgoingRows, OutgoingWritten}
 
 -- ---- one slot; z is s as an index
 module _ {degree : ℕ} {targets edges versions : List ℕ} {s : ℕ} {w : List ℕ} {p r n to : ℕ} (o : OwnRow degree targets edges s w p r to) where
@@ -39,7 +39,7 @@ module _ {degree : ℕ} {targets edges versions : List ℕ} {s : ℕ} {w : List 
       }
 
 -- ---- one slot after the other; b is where the candidates of the i-th plan begin
-pub record Leaving (degree : ℕ) (targets₀ edges₀ versions slots w₀ : List ℕ) (at : Layout) (n : ℕ) (targets edges w : List ℕ) (b i : ℕ) : Type 0 where
+pub record OutgoingUpTo (degree : ℕ) (targets₀ edges₀ versions slots w₀ : List ℕ) (at : Layout) (n : ℕ) (targets edges w : List ℕ) (b i : ℕ) : Type 0 where
   pub goes : (dim : ℕ) (vectors marks : List ℕ) (alpha : Float) (entry : ℕ) → Inside (length marks) slots
       → foldl (own-at w₀ at n slots) (index-of alpha entry (arrays dim degree vectors targets edges versions marks)) (range i (length slots - i))
       ≡ foldl (own-at w₀ at n slots) (index-of alpha entry (arrays dim degree vectors targets₀ edges₀ versions marks)) (range 0 (length slots))
@@ -50,22 +50,22 @@ pub record Leaving (degree : ℕ) (targets₀ edges₀ versions slots w₀ : Lis
   pub size : length w ≡ length w₀
   pub same : (j : ℕ) → j < at .chosen → getD w j 0 ≡ getD w₀ j 0
 
-pub leaving-none : (degree : ℕ) (targets edges versions slots w : List ℕ) (at : Layout) (n : ℕ) → Leaving degree targets edges versions slots w at n targets edges w 0 0
-leaving-none degree targets edges versions slots w at n =
+pub outgoing-none : (degree : ℕ) (targets edges versions slots w : List ℕ) (at : Layout) (n : ℕ) → OutgoingUpTo degree targets edges versions slots w at n targets edges w 0 0
+outgoing-none degree targets edges versions slots w at n =
     let e : length slots - 0 ≡ length slots = omega arith in
     record { goes = λ dim vectors marks alpha entry l. rw e; from = refl; bound = omega arith; targets-long = refl; edges-long = refl; size = refl; same = λ j l. refl }
 
-module _ {degree : ℕ} {targets₀ edges₀ versions slots w₀ : List ℕ} {at : Layout} {n : ℕ} (o : Leavable degree targets₀ edges₀ slots w₀ at n) {targets edges w : List ℕ} {b i : ℕ}
-    (f : Leaving degree targets₀ edges₀ versions slots w₀ at n targets edges w b i) (h : i < length slots) where
-  pub leaving-end : at .ends + i < length w
-  leaving-end = omega (arith, f .size, o .few, o .spread .ends-in, o .list-in, o .room)
+module _ {degree : ℕ} {targets₀ edges₀ versions slots w₀ : List ℕ} {at : Layout} {n : ℕ} (o : OutgoingRows degree targets₀ edges₀ slots w₀ at n) {targets edges w : List ℕ} {b i : ℕ}
+    (f : OutgoingUpTo degree targets₀ edges₀ versions slots w₀ at n targets edges w b i) (h : i < length slots) where
+  pub outgoing-end : at .ends + i < length w
+  outgoing-end = omega (arith, f .size, o .few, o .spread .ends-in, o .list-in, o .room)
 
   module _ {e : ℕ} (q : e ≡ getD w (at .ends + i) 0) where
     end-is : e ≡ getD w₀ (at .ends + i) 0
     end-is = q ∙ f .same (at .ends + i) (omega (arith, o .few, o .spread .ends-in, o .list-in))
 
-    pub leaving-after : (b ≤ e) × (e ≤ n) × (e ≤ b + degree) × (at .plans + 2 * n ≤ at .chosen) × (at .chosen + degree ≤ 8388608)
-    leaving-after =
+    pub outgoing-after : (b ≤ e) × (e ≤ n) × (e ≤ b + degree) × (at .plans + 2 * n ≤ at .chosen) × (at .chosen + degree ≤ 8388608)
+    outgoing-after =
         let x = o .rising i h in
         let y = o .within i h in
         let z = o .each-few i h in
@@ -77,9 +77,9 @@ module _ {degree : ℕ} {targets₀ edges₀ versions slots w₀ : List ℕ} {at
           o .below,
         )
 
-    pub leaving-row : OwnRow degree targets edges (getD slots i 0) w (at .plans + 2 * b) (e - b) (at .chosen)
-    leaving-row =
-        let l = leaving-after in
+    pub outgoing-fits : OwnRow degree targets edges (getD slots i 0) w (at .plans + 2 * b) (e - b) (at .chosen)
+    outgoing-fits =
+        let l = outgoing-after in
         record {
           writable =
               record {
@@ -95,7 +95,7 @@ module _ {degree : ℕ} {targets₀ edges₀ versions slots w₀ : List ℕ} {at
 
     list-is : cands w (at .plans + 2 * b) (e - b) ≡ plan-cands w₀ at i
     list-is =
-        cands-agree w₀ w (at .plans + 2 * b) (e - b) (λ j x₁ y₁. f .same j (let l = leaving-after in omega (arith, l .0, l .1, l .3)))
+        cands-agree w₀ w (at .plans + 2 * b) (e - b) (λ j x₁ y₁. f .same j (let l = outgoing-after in omega (arith, l .0, l .1, l .3)))
         ∙ rw (f .from, end-is)
 
     module _ {targets′ edges′ w′ : List ℕ} (g : Unnamed degree targets edges versions (getD slots i 0) w (at .plans + 2 * b) (e - b) n (at .chosen) targets′ edges′ w′) where
@@ -104,10 +104,10 @@ module _ {degree : ℕ} {targets₀ edges₀ versions slots w₀ : List ℕ} {at
       unfolding own-at own-row
       turn dim vectors marks alpha entry l =
           g .row dim vectors marks alpha entry (l i h)
-          ∙ rw (f .same (marks-at + getD slots i 0) (omega (arith, o .heads-in i h, leaving-after .3)), list-is)
+          ∙ rw (f .same (marks-at + getD slots i 0) (omega (arith, o .heads-in i h, outgoing-after .3)), list-is)
 
-      pub leaving-more : length targets′ ≡ length targets → length edges′ ≡ length edges → Leaving degree targets₀ edges₀ versions slots w₀ at n targets′ edges′ w′ e (i + 1)
-      leaving-more lt le =
+      pub outgoing-more : length targets′ ≡ length targets → length edges′ ≡ length edges → OutgoingUpTo degree targets₀ edges₀ versions slots w₀ at n targets′ edges′ w′ e (i + 1)
+      outgoing-more lt le =
           let z : length slots - i ≡ suc (length slots - (i + 1)) = omega arith in
           let y : i + 1 ≡ suc i = omega arith in
           record {
@@ -122,8 +122,8 @@ module _ {degree : ℕ} {targets₀ edges₀ versions slots w₀ : List ℕ} {at
             same = λ j l. g .same j l ∙ f .same j l;
           }
 
-pub leaving-done : {degree : ℕ} {targets₀ edges₀ versions slots w₀ : List ℕ} {at : Layout} {n : ℕ} {targets edges w : List ℕ} {b i : ℕ}
-    → Leaving degree targets₀ edges₀ versions slots w₀ at n targets edges w b i → length slots ≤ i → Left degree targets₀ edges₀ versions slots w₀ at n targets edges w
-leaving-done {slots = slots} {i = i} f h =
+pub outgoing-done : {degree : ℕ} {targets₀ edges₀ versions slots w₀ : List ℕ} {at : Layout} {n : ℕ} {targets edges w : List ℕ} {b i : ℕ}
+    → OutgoingUpTo degree targets₀ edges₀ versions slots w₀ at n targets edges w b i → length slots ≤ i → OutgoingWritten degree targets₀ edges₀ versions slots w₀ at n targets edges w
+outgoing-done {slots = slots} {i = i} f h =
     let z : length slots - i ≡ 0 = omega arith in
     record { rows = λ dim vectors marks alpha entry l. rw z at (f .goes dim vectors marks alpha entry l); size = f .size; same = f .same }

@@ -1,8 +1,8 @@
--- A chunk as its functions leave it, and as `insert-chunk` does: its plans chained, and its rows written. Assumes nothing.
+-- The rows of a chunk as the functions leave them, and as `chunk-rows` has them; the whole chunk. Assumes nothing.
 use Prim.Native.Nat.{ℕ, zero, suc, _+_, _-_, _*_, _≤_, _<_}
 use mathlib.Core.Bool.{Bool, true, false, not, cond}
-use mathlib.Core.Path.{_≡_, refl, ap, _∙_}
-use mathlib.Core.List.{List, [], _∷_, _++_, map}
+use mathlib.Core.Path.{_≡_, refl, ap, sym, _∙_}
+use mathlib.Core.List.{List, [], _∷_, _++_, map, map-map}
 use native.Mathlib.Nat.{mul-le-mul-right}
 use native.Mathlib.Omega.{arith}
 use lib.Dec.{ltb}
@@ -25,9 +25,9 @@ use Rattle.insert.specs.contracts.Layout.{Spread, Parts}
 use Rattle.insert.specs.contracts.Chains.{head, Chainable, Chained}
 use Rattle.insert.specs.contracts.Filling.{filling-at, fillings-from, chunk-of, Fillable, ChunkFilled}
 use Rattle.insert.specs.contracts.Plans.{start-of, plan-cands, Laid, AllPlanned}
-use Rattle.insert.specs.contracts.Outgoing.{own-row, own-at, Leavable, Left}
+use Rattle.insert.specs.contracts.Outgoing.{own-row, own-at, OutgoingRows, OutgoingWritten}
 use Rattle.insert.specs.contracts.Targets.{renewed-at, Renewable, AllRenewed}
-use Rattle.insert.specs.contracts.Chunk.{Walkable, plan-at, Linked, RowsWritten, RowsInserted, ChunkInserted}
+use Rattle.insert.specs.contracts.Chunk.{Provided, plan-at, Linked, RowsWritten, RowsInserted, ChunkInserted}
 use Rattle.insert.proofs.Chaining.{slots-agree}
 use Rattle.insert.proofs.Plans.{AgreeUpTo, laid-agree}
 use Rattle.insert.proofs.Targeting.{renewable-kept, sweep-kept}
@@ -45,7 +45,7 @@ laid-most {degree} f h = omega (arith, f .few, mul-le-mul-right degree h)
 
 -- ---- the plans chained
 module _ {dim degree capacity : ℕ} {bytes slots : List ℕ} {start beam : ℕ} {w : List ℕ} {at : Layout} (s : Fillable dim capacity bytes slots)
-    (t : Walkable degree capacity start beam (length w)) (o : Parts capacity degree at) {plans : ℕ → Plan} {n : ℕ} {w₁ : List ℕ}
+    (t : Provided degree capacity start beam (length w)) (o : Parts capacity degree at) {plans : ℕ → Plan} {n : ℕ} {w₁ : List ℕ}
     (f : AllPlanned degree capacity plans w at (length slots) n w₁) where
   few : n ≤ 256 * degree
   few = laid-most (f .laid) (s .few)
@@ -84,7 +84,7 @@ module _ {dim degree capacity : ℕ} {bytes slots : List ℕ} {start beam : ℕ}
 
 -- ---- rows written after other rows
 pub rows-both : (alpha : Float) (a : Arrays) {slots w : List ℕ} {at : Layout} {n : ℕ} → Renewable (a .degree) (length (a .marks)) w at n → ((k : ℕ) → k < length slots → getD slots k 0 < length (a .marks))
-    → {targets edges w₁ : List ℕ} → Left (a .degree) (a .targets) (a .edges) (a .versions) slots w at n targets edges w₁
+    → {targets edges w₁ : List ℕ} → OutgoingWritten (a .degree) (a .targets) (a .edges) (a .versions) slots w at n targets edges w₁
     → {a′ : Arrays} → AllRenewed alpha (arrays (a .dim) (a .degree) (a .vectors) targets edges (a .versions) (a .marks)) w₁ at n a′ → RowsWritten alpha a slots w at n a′
 rows-both alpha a {slots} {w} {at} {n} q i {targets} {edges} {w₁} l r =
     record {
@@ -94,9 +94,9 @@ rows-both alpha a {slots} {w} {at} {n} q i {targets} {edges} {w₁} l r =
           ∙ ap (λ (b : Store). foldl (renewed-at w at n) b (range 0 (length (a .marks)))) (l .rows (a .dim) (a .vectors) (a .marks) alpha entry i);
     }
 
-pub rows-renewable : {degree capacity : ℕ} {w w₁ : List ℕ} {at : Layout} {n : ℕ} → Renewable degree capacity w at n
-    → {targets edges versions slots targets′ edges′ : List ℕ} → Left degree targets edges versions slots w at n targets′ edges′ w₁ → Renewable degree capacity w₁ at n
-rows-renewable {w₁ = w₁} q l = renewable-kept q w₁ (λ j h. l .same j (omega (arith, q .list-in))) (l .size)
+pub named-renewable : {degree capacity : ℕ} {w w₁ : List ℕ} {at : Layout} {n : ℕ} → Renewable degree capacity w at n
+    → {targets edges versions slots targets′ edges′ : List ℕ} → OutgoingWritten degree targets edges versions slots w at n targets′ edges′ w₁ → Renewable degree capacity w₁ at n
+named-renewable {w₁ = w₁} q l = renewable-kept q w₁ (λ j h. l .same j (omega (arith, q .list-in))) (l .size)
 
 -- ---- what the words say
 module _ {degree capacity : ℕ} {plans : ℕ → Plan} {w₀ : List ℕ} {at : Layout} {m n : ℕ} {w : List ℕ} (f : Linked degree capacity plans w₀ at m n w) where
@@ -149,10 +149,6 @@ module _ {degree capacity : ℕ} {plans : ℕ → Plan} {w₀ : List ℕ} {at : 
         ∙ rows-at-once all b capacity k (named-inside (f .laid))
 
 -- ---- the rows of a chunk
-map-map : (g : Filling → Plan) (h : ℕ → Filling) (l : List ℕ) → map (λ i. g (h i)) l ≡ map g (map h l)
-map-map g h [] = refl
-map-map g h (x ∷ l) = ap (λ (r : List Plan). g (h x) ∷ r) (map-map g h l)
-
 outgoing-few : (a : Arrays) (alpha : Float) (start beam : ℕ) (bytes slots : List ℕ) (k : ℕ) → length (plan-at a alpha start beam bytes slots k .outgoing) ≤ a .degree
 unfolding plan store-view
 outgoing-few a alpha start beam bytes slots k = chosen-few _ _ _ _ _ _
@@ -162,13 +158,13 @@ unfolding plan
 own-id a alpha start beam bytes slots k = refl
 
 module _ (alpha : Float) {a : Arrays} {start beam : ℕ} {bytes slots w : List ℕ} {at : Layout} (x : Together a) (s : Fillable (a .dim) (length (a .marks)) bytes slots)
-    (t : Walkable (a .degree) (length (a .marks)) start beam (length w)) (o : Parts (length (a .marks)) (a .degree) at) {n : ℕ} {w₁ : List ℕ}
+    (t : Provided (a .degree) (length (a .marks)) start beam (length w)) (o : Parts (length (a .marks)) (a .degree) at) {n : ℕ} {w₁ : List ℕ}
     (f : Linked (a .degree) (length (a .marks)) (plan-at a alpha start beam bytes slots) w at (length slots) n w₁) where
   plans-few : n ≤ 256 * a .degree
   plans-few = laid-most (f .laid) (s .few)
 
-  pub rows-leavable : Leavable (a .degree) (a .targets) (a .edges) slots w₁ at n
-  rows-leavable =
+  pub rows-outgoing : OutgoingRows (a .degree) (a .targets) (a .edges) slots w₁ at n
+  rows-outgoing =
       record {
         few = s .few;
         targets-in = λ k h. shape-fits (x .rows) (getD slots k 0) (s .inside k h) .0;
@@ -183,8 +179,8 @@ module _ (alpha : Float) {a : Arrays} {start beam : ℕ} {bytes slots w : List �
         below = omega (arith, o .chosen-in, o .below);
       }
 
-  pub rows-ready : Renewable (a .degree) (length (a .marks)) w₁ at n
-  rows-ready =
+  pub rows-renewable : Renewable (a .degree) (length (a .marks)) w₁ at n
+  rows-renewable =
       record {
         chains = f .chains;
         heads-in = o .heads-in;
@@ -201,7 +197,7 @@ module _ (alpha : Float) {a : Arrays} {start beam : ℕ} {bytes slots w : List �
       let b = index-of alpha start a in
       let v = store-view b in
       let e : map (plan-at a alpha start beam bytes slots) (range 0 (length slots)) ≡ map (plan v beam) (chunk-of (a .dim) bytes slots) =
-      map-map (plan v beam) (filling-at (a .dim) bytes slots) (range 0 (length slots)) in
+      sym (map-map (plan v beam) (filling-at (a .dim) bytes slots) (range 0 (length slots))) in
       record {
         rows =
             g .rows start
@@ -222,8 +218,8 @@ chunk-inserted {alpha} {a} {start} {beam} {bytes} {slots} f g =
 pub fillable-kept : {dim capacity capacity′ : ℕ} {bytes slots : List ℕ} → capacity′ ≡ capacity → Fillable dim capacity bytes slots → Fillable dim capacity′ bytes slots
 fillable-kept e f = rw e f
 
-pub walkable-kept : {degree capacity capacity′ start beam words : ℕ} → capacity′ ≡ capacity → Walkable degree capacity start beam words → Walkable degree capacity′ start beam words
-walkable-kept e f = rw e f
+pub provided-kept : {degree capacity capacity′ start beam words : ℕ} → capacity′ ≡ capacity → Provided degree capacity start beam words → Provided degree capacity′ start beam words
+provided-kept e f = rw e f
 
-pub walkable-words : {degree capacity start beam words words′ : ℕ} → words′ ≡ words → Walkable degree capacity start beam words → Walkable degree capacity start beam words′
-walkable-words e f = rw e f
+pub provided-words : {degree capacity start beam words words′ : ℕ} → words′ ≡ words → Provided degree capacity start beam words → Provided degree capacity start beam words′
+provided-words e f = rw e f
