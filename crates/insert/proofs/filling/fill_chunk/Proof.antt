@@ -2,7 +2,7 @@ use Rattle.insert.proofs.Filled.{FilledUpTo, filled-none, fill-vector, 
 use native.Mathlib.Omega.{arith}
 use Prim.Native.Nat.{_-_}
 use lib.ListN.{length}
-use Rattle.slots.specs.Rows.{arrays}
+use Rattle.slots.specs.Store.{arrays}
 use borrow.Author.Needs.{needs}
 use Rattle.insert.proofs.filling.fill_chunk.Statement.{statement}
 use Rattle.insert.proofs.filling.fill_chunk.Tie as tie
