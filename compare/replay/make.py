@@ -1,9 +1,10 @@
 #!/usr/bin/env python3
-"""make.py ORACLE > crates/replay/stdin
+"""make.py ORACLE LIST PRINTED
 
-Drives the Rust (compare/rust, variant `sorted`) through random histories and writes them with its answers as the list that the
+Drives the Rust (compare/rust, variant `sorted`) through random histories and writes them with its answers to LIST, which the
 program `replay` performs. The Rust reaches an index by inserts and deletes; its dump is then made and stored in the list, and read
-and searched. The Rust gives answers; the refusals that only the port has are worked out here, from document 01's table.
+and searched. The Rust gives answers; the refusals that only the port has are worked out here, from document 01's table. Some
+lines are made wrong on purpose (`spoil`); PRINTED is what `replay` must print: the number of each of these, and the counts.
 """
 import subprocess
 import sys
@@ -150,9 +151,34 @@ class Book:
 class List:
     def __init__(self, oracle, random):
         self.oracle, self.random, self.book, self.given, self.rows = oracle, random, Book(), [], []
+        self.text, self.lines, self.agreed, self.wrong, self.change = [], 0, {}, [], None
+
+    def note(self, text):
+        self.text.append("# " + text)
 
     def put(self, *words):
-        print(*words)
+        words = [str(w) for w in words]
+        self.lines += 1
+        if self.change:
+            words, right = self.change(list(words)), words
+            self.change = None
+            if words == right:
+                sys.exit("a line that was not made wrong: " + " ".join(words))
+            self.wrong.append(self.lines)
+        else:
+            self.agreed[words[0]] = self.agreed.get(words[0], 0) + 1
+        self.text.append(" ".join(words))
+
+    def spoil(self, what, change):
+        """The next line is made wrong."""
+        self.note("wrong: " + what)
+        self.change = change
+
+    def printed(self):
+        """What `replay` must print."""
+        counts = [(kind, self.agreed[kind]) for kind in ("make", "read", "vector", "search", "words")]
+        counts += [("lines", self.lines), ("differences", len(self.wrong))]
+        return ["differs %d" % n for n in self.wrong] + ["%s %d" % c for c in counts]
 
     def lend(self, *lengths):
         self.book.lent = list(lengths)
@@ -492,13 +518,95 @@ def size_answers(out):
         out.put("words", *sizes, int(refused), 0 if refused else scratch_words(sizes[1]))
 
 
+def other(place, by=1):
+    """A change of one number of a line."""
+    return lambda words: words[:place] + [str(int(words[place]) + by)] + words[place:][1:]
+
+
+def exchanged(i, j):
+    def change(words):
+        words[i], words[j] = words[j], words[i]
+        return words
+
+    return change
+
+
+def wrong_answers(out):
+    """Lines with wrong answers of every kind, and lines that are none: `replay` must name each."""
+    size_wrong = (("size answer", other(5)), ("size answer carried out, not refused", lambda w: w[:4] + ["1", "0"]), ("size answer, a number missing", lambda w: w[:5]))
+    for what, change in size_wrong:
+        out.spoil(what, change)
+        out.put("words", 3, 100, 7, 0, scratch_words(100))
+    out.spoil("size answer refused, not carried out", lambda w: w[:4] + ["0", "169985"])
+    out.put("words", 0, 1, 1, 1, 0)
+    h = History(out, 2, 6, 2, ONE, 5)
+    h.make(5)
+    dump = h.shown(4, 2)
+    book, entry, count = out.book, dump.entry, len([s for s in dump.slots if s.used()])
+
+    def made():
+        out.lend_for(dump.sizes)
+        out.give([v for s in dump.slots[:count] for v in s.vector], [t for s in dump.slots[:count] for t, _ in s.edges])
+
+    for what, change in (("making carried out, not refused", other(7)), ("making, a number missing", lambda w: w[:7]), ("making, a number more", lambda w: w + ["0"])):
+        made()
+        out.spoil(what, change)
+        out.make(dump.sizes, dump.alpha, entry, count)
+    for what, change in (("making refused, not carried out", lambda w: w[:7] + ["0"]), ("making refused with another number", other(7))):
+        made()
+        out.spoil(what, change)
+        out.make(dump.sizes, dump.alpha, count, count)
+    made()
+    out.make(dump.sizes, dump.alpha, entry, count)
+    right = dump.sizes + [dump.alpha, dump.entry, dump.live]
+    for what, value in enumerate(right):
+        out.spoil("reading %d" % what, other(5, 1024))
+        out.read(what, 0, 0, value)
+    for what, value in ((6, 1), (7, dump.slots[0].version), (8, dump.slots[entry].live[0])):
+        out.spoil("reading %d" % what, other(5))
+        out.read(what, entry if what == 8 else 0, 0, value)
+    out.spoil("reading carried out, not refused", lambda w: w[:4] + ["6", "0"])
+    out.read(5, 0, 0, book.live)
+    out.spoil("reading of no kind", other(1, 9))
+    out.read(5, 0, 0, book.live)
+    vector = dump.slots[0].vector
+    for what, change in (("first byte", other(3)), ("last byte", other(4)), ("a byte missing", lambda w: w[:2] + ["1", w[3]]), ("empty, not there", lambda w: w[:2] + ["0"])):
+        out.spoil("vector, " + what, change)
+        out.vector(0, vector)
+    out.spoil("vector of a slot outside", lambda w: w[:2] + ["1", "0"])
+    out.vector(6, [])
+    asked = (5, 6, vector)
+    found = int(out.oracle.answers(["search 5 6 x" + bytes(vector).hex()])[0].split()[1])
+    first, last = 8, 8 + 2 * (found - 1)
+    search_wrong = [("first slot", other(first)), ("first distance", other(first + 1)), ("last slot", other(last)), ("last distance", other(last + 1))]
+    search_wrong += [("one fewer", lambda w: w[:7] + [str(found - 1)] + w[8:-2]), ("one more", lambda w: w[:7] + [str(found + 1)] + w[8:] + ["0", "0"])]
+    search_wrong += [("slots exchanged", exchanged(first, last)), ("carried out, not refused", lambda w: w[:6] + ["7"]), ("another beam", other(2, 2000))]
+    for what, change in search_wrong:
+        out.spoil("search, " + what, change)
+        out.search(*asked)
+    out.spoil("search refused, not carried out", lambda w: w[:6] + ["0", "0"])
+    out.search(5, 1025, vector)
+    out.spoil("search refused with another number", other(6))
+    out.search(5, 1025, vector)
+    for what, words in (("no word", ["", "1"]), ("another word", ["reads", "5"]), ("no number", ["read", "x"]), ("a field that is not there", ["set", "0"])):
+        out.spoil(what, lambda w, words=words: words)
+        out.put("read", 5, 0, 0, 0, book.live)
+    out.spoil("a store past the memory", other(2, 70000))
+    out.store(0, 0, 1)
+    out.spoil("more given than there is room for", other(1, 300000))
+    out.put("give", 0)
+
+
 def main():
     oracle = Oracle(sys.argv[1])
-    print("# made by compare/replay/make.py, seed %d" % SEED)
     out = List(oracle, Random(SEED))
-    for part in (size_answers, refused_makings, refused_calls, small, medium, dead_entries, wide, many, largest):
-        print("# " + part.__name__)
+    out.note("made by compare/replay/make.py, seed %d" % SEED)
+    for part in (size_answers, refused_makings, refused_calls, small, medium, dead_entries, wide, many, largest, wrong_answers):
+        out.note(part.__name__)
         part(out)
+    for path, lines in ((sys.argv[2], out.text), (sys.argv[3], out.printed())):
+        with open(path, "w") as file:
+            file.write("\n".join(lines) + "\n")
 
 
 main()

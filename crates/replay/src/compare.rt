@@ -19,11 +19,11 @@ use super::text::after;
 use super::text::ends;
 use super::text::first;
 use index::Created;
-use index::Found;
 use index::Index;
-use index::Reading;
-use index::Value;
-use index::Words;
+use index::ScratchWords;
+use reading::Found;
+use reading::Reading;
+use reading::Value;
 
 // The numbers of a line `make`.
 struct Making {
@@ -162,7 +162,7 @@ fn read(
     if 8 < what.value {
         return false;
     }
-    let got = index::read(
+    let got = reading::read(
         index,
         vectors,
         targets,
@@ -206,7 +206,7 @@ fn read_vector(
 ) -> bool {
     let slot = first(line, end);
     let count = after(line, slot);
-    let got = index::read_vector(
+    let got = reading::read_vector(
         index,
         vectors,
         targets,
@@ -228,8 +228,8 @@ fn size(line: &[u8], end: usize) -> bool {
     let value = after(line, refusal);
     let good = ends(line, value);
     match index::scratch_words(dim.value, capacity.value, degree.value) {
-        Words::Refused(r) => good && r == refusal.value,
-        Words::Words(n) => good && refusal.value == 0 && n == value.value,
+        ScratchWords::Refused(r) => good && r == refusal.value,
+        ScratchWords::Words(n) => good && refusal.value == 0 && n == value.value,
     }
 }
 
@@ -305,7 +305,7 @@ fn search(
     let s = part(lent, 6, 1024);
     let d = part(lent, 7, 1024);
     let w = part(lent, 8, scratch.len());
-    let found = index::search(
+    let found = reading::search(
         index,
         vectors,
         targets,

@@ -1,6 +1,7 @@
 // Performs the calls of a stored list of histories, and compares each answer with the one that the Rust gave. compare/replay/README.md has the form of
-// the list. It prints how many calls of each kind agreed, how many lines there were, and how many differed, malformed ones and those that ask for more
-// than its arrays hold included.
+// the list. It prints the number of each line that differs, malformed ones and those that ask for more than its arrays hold included, and then how many
+// calls of each kind agreed, how many lines there were, and how many differed. The list has wrong answers of every kind, so that a comparison that does
+// not compare is seen.
 mod compare;
 mod kinds;
 mod prepare;
@@ -27,21 +28,37 @@ struct Counts {
     of: [u64; 14],
 }
 
-// Counts a line that was performed; one that differs is written to standard error.
+// Prints one count with its name.
+fn print_count(name: &[u8], n: u64) {
+    io::write_all(1, name);
+    io::print_decimal(1, n);
+    io::write_all(1, b"\n");
+}
+
+// Counts a line that differs: its number is printed, notes not counted, and the line is written to standard error.
+fn differing(counts: Counts, line: &[u8]) -> Counts {
+    let mut new = counts;
+    new.of[DIFFERENCES] = std::num::wrapping_add_u64(new.of[DIFFERENCES], 1);
+    print_count(b"differs ", new.of[LINES]);
+    io::write_all(2, line);
+    io::write_all(2, b"\n");
+    new
+}
+
+// Counts a line that was performed.
 fn counted(counts: Counts, line: &[u8], kind: usize, good: bool) -> Counts {
     let mut new = counts;
     if kind == NOTE {
         return new;
     }
     new.of[LINES] = std::num::wrapping_add_u64(new.of[LINES], 1);
-    if good && kind < KINDS {
-        new.of[kind] = std::num::wrapping_add_u64(new.of[kind], 1);
-        return new;
+    if good {
+        if kind < KINDS {
+            new.of[kind] = std::num::wrapping_add_u64(new.of[kind], 1);
+            return new;
+        }
     }
-    new.of[DIFFERENCES] = std::num::wrapping_add_u64(new.of[DIFFERENCES], 1);
-    io::write_all(2, line);
-    io::write_all(2, b"\n");
-    new
+    differing(new, line)
 }
 
 // The state before any line: no index is made, and nothing is lent.
@@ -75,7 +92,7 @@ fn replay(
     versions: &mut [u16; 65536],
     marks: &mut [u8; 65536],
     pool: &mut [u32; 1024],
-    scratch: &mut [u32; 348160],
+    scratch: &mut [u32; 235520],
 ) -> Counts
     requires { ⌜ n ≤ length (now list) ⌝ }
 {
@@ -120,13 +137,6 @@ fn replay(
     counts
 }
 
-// Prints one count with its name.
-fn print_count(name: &[u8], n: u64) {
-    io::write_all(1, name);
-    io::print_decimal(1, n);
-    io::write_all(1, b"\n");
-}
-
 // Prints the counts.
 fn report(counts: Counts) {
     print_count(b"make ", counts.of[MAKE]);
@@ -150,7 +160,7 @@ fn replay_list(list: &[u8], n: usize)
     let mut versions = [0u16; 65536];
     let mut marks = [0u8; 65536];
     let mut pool = [0u32; 1024];
-    let mut scratch = [0u32; 348160];
+    let mut scratch = [0u32; 235520];
     report(replay(
         list,
         n,
