@@ -13,17 +13,17 @@ use super::prepare::bytes;
 use super::prepare::least;
 use super::prepare::part;
 use super::prepare::wide;
-use super::text::Number;
-use super::text::Word;
-use super::text::after;
-use super::text::ends;
-use super::text::first;
+use super::words::Word;
 use index::Created;
 use index::Index;
 use index::ScratchWords;
 use reading::Found;
 use reading::Reading;
 use reading::Value;
+use text::Number;
+use text::after;
+use text::ends;
+use text::first;
 
 // The numbers of a line `make`.
 struct Making {

@@ -5,7 +5,7 @@
 mod compare;
 mod kinds;
 mod prepare;
-mod text;
+mod words;
 
 use index::Guard;
 use index::Index;
@@ -103,7 +103,7 @@ fn replay(
         let end = text::line_end(list, at, n);
         let line = &list[at..end];
         at = end + 1;
-        let word = text::first_word(line);
+        let word = words::first_word(line);
         step = prepare::set_or_lend(line, word, step);
         step = prepare::give(line, word, step, given, rows);
         step = prepare::store(line, word, step, vectors, targets, edges, versions, marks);

@@ -5,12 +5,12 @@ use super::kinds::NOTE;
 use super::kinds::ROWS;
 use super::kinds::SET;
 use super::kinds::STORE;
-use super::text::Number;
-use super::text::Word;
-use super::text::after;
-use super::text::ends;
-use super::text::first;
+use super::words::Word;
 use index::Index;
+use text::Number;
+use text::after;
+use text::ends;
+use text::first;
 ghost use Prim.Native.Nat.{_≤_};
 
 // How many lengths a line `lend` has; after them come those of the given vectors and rows.

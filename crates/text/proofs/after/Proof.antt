@@ -1,8 +1,8 @@
 use mathlib.Core.Path.{sym, _∙_}
 use mathlib.Core.Bool.{true≢false}
 use borrow.Author.Needs.{needs}
-use Rattle.replay.proofs.text.after.Statement.{statement}
-use Rattle.replay.proofs.text.after.Tie as tie
+use Rattle.text.proofs.after.Statement.{statement}
+use Rattle.text.proofs.after.Tie as tie
 
 first-requires : tie.Need-first-requires
 first-requires c κs = search needs

@@ -1,27 +1,9 @@
-// Words and numbers of a line.
-use super::kinds::GIVE;
-use super::kinds::LEND;
-use super::kinds::MAKE;
-use super::kinds::MALFORMED;
-use super::kinds::NOTE;
-use super::kinds::READ;
-use super::kinds::ROWS;
-use super::kinds::SEARCH;
-use super::kinds::SET;
-use super::kinds::STORE;
-use super::kinds::VECTOR;
-use super::kinds::WORDS;
+// Lines of a text, and the numbers in them.
 ghost use mathlib.Core.Bool.{true, false};
 ghost use mathlib.Core.Path.{_≡_};
 ghost use Prim.Native.Nat.{_≤_, _<_};
 ghost use lib.ListN.{length};
-ghost use Rattle.replay.specs.Text.{Digit, Digits, Follows};
-
-// The word that a line begins with, and where it ends.
-pub struct Word {
-    pub kind: usize,
-    pub end: usize,
-}
+ghost use Rattle.text.specs.Text.{Digit, Digits, Follows};
 
 // A number that was read, and where it ends; whether it and those before it were there.
 pub struct Number {
@@ -43,79 +25,6 @@ pub fn line_end(text: &[u8], at: usize, n: usize) -> usize
         i += 1;
     }
     i
-}
-
-// Whether a line begins with a word.
-fn begins(line: &[u8], word: &[u8]) -> bool {
-    if line.len() < word.len() {
-        return false;
-    }
-    let mut i: usize = 0;
-    while i < word.len() {
-        if line[i] != word[i] {
-            return false;
-        }
-        i += 1;
-    }
-    true
-}
-
-// The word of a line that prepares a call.
-fn preparing(line: &[u8]) -> Word {
-    if begins(line, b"#") {
-        return Word { kind: NOTE, end: 0 };
-    }
-    if begins(line, b"lend ") {
-        return Word { kind: LEND, end: 4 };
-    }
-    if begins(line, b"give ") {
-        return Word { kind: GIVE, end: 4 };
-    }
-    if begins(line, b"rows ") {
-        return Word { kind: ROWS, end: 4 };
-    }
-    if begins(line, b"set ") {
-        return Word { kind: SET, end: 3 };
-    }
-    if begins(line, b"store ") {
-        return Word {
-            kind: STORE,
-            end: 5,
-        };
-    }
-    Word {
-        kind: MALFORMED,
-        end: 0,
-    }
-}
-
-// The word of any line.
-pub fn first_word(line: &[u8]) -> Word {
-    if begins(line, b"make ") {
-        return Word { kind: MAKE, end: 4 };
-    }
-    if begins(line, b"read ") {
-        return Word { kind: READ, end: 4 };
-    }
-    if begins(line, b"vector ") {
-        return Word {
-            kind: VECTOR,
-            end: 6,
-        };
-    }
-    if begins(line, b"search ") {
-        return Word {
-            kind: SEARCH,
-            end: 6,
-        };
-    }
-    if begins(line, b"words ") {
-        return Word {
-            kind: WORDS,
-            end: 5,
-        };
-    }
-    preparing(line)
 }
 
 // The value of a digit; 10 for any other byte.

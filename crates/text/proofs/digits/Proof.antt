@@ -4,9 +4,9 @@ use mathlib.Core.Bool.{true≢false}
 use borrow.Author.Needs.{needs}
 use native.Mathlib.Omega.{arith}
 use lib.ListN.{length}
-use Rattle.replay.proofs.Passing.{Passed, passed-none, passed-more, passed-as}
-use Rattle.replay.proofs.text.digits.Statement.{statement}
-use Rattle.replay.proofs.text.digits.Tie as tie
+use Rattle.text.proofs.Passing.{Passed, passed-none, passed-more, passed-as}
+use Rattle.text.proofs.digits.Statement.{statement}
+use Rattle.text.proofs.digits.Tie as tie
 
 abbrev Inv-loop : tie.InvT-loop
 Inv-loop line at value₀ i₀ value i = Passed line at i value

@@ -1,8 +1,8 @@
 use mathlib.Core.Path.{sym, _∙_}
 use mathlib.Core.Bool.{true≢false}
 use borrow.Author.Needs.{needs}
-use Rattle.replay.proofs.text.first.Statement.{statement}
-use Rattle.replay.proofs.text.first.Tie as tie
+use Rattle.text.proofs.first.Statement.{statement}
+use Rattle.text.proofs.first.Tie as tie
 
 shared-slice-read-if2 : tie.Need-shared-slice-read-if2
 shared-slice-read-if2 c = search needs

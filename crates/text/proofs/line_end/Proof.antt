@@ -1,7 +1,7 @@
 use Prim.Native.Nat.{_≤_, _-_}
 use borrow.Author.Needs.{needs}
-use Rattle.replay.proofs.text.line_end.Statement.{statement}
-use Rattle.replay.proofs.text.line_end.Tie as tie
+use Rattle.text.proofs.line_end.Statement.{statement}
+use Rattle.text.proofs.line_end.Tie as tie
 
 abbrev Inv-loop : tie.InvT-loop
 Inv-loop text at n i₀ i = (at ≤ i) × (i ≤ n)
