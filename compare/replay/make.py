@@ -565,12 +565,20 @@ def wrong_answers(out):
     for what, value in ((6, 1), (7, dump.slots[0].version), (8, dump.slots[entry].live[0])):
         out.spoil("reading %d" % what, other(5))
         out.read(what, entry if what == 8 else 0, 0, value)
-    out.spoil("reading carried out, not refused", lambda w: w[:4] + ["6", "0"])
-    out.read(5, 0, 0, book.live)
+    for what, change in (("carried out, not refused", other(4, 6)), ("a number more", lambda w: w + ["0"])):
+        out.spoil("reading, " + what, change)
+        out.read(5, 0, 0, book.live)
+    out.set(5, book.live + 1)
+    for what, change in (("refused, not carried out", other(4, -6)), ("refused with another number", other(4))):
+        out.spoil("reading, " + what, change)
+        out.read(5, 0, 0, book.live)
+    out.set(5, dump.live)
     out.spoil("reading of no kind", other(1, 9))
     out.read(5, 0, 0, book.live)
     vector = dump.slots[0].vector
-    for what, change in (("first byte", other(3)), ("last byte", other(4)), ("a byte missing", lambda w: w[:2] + ["1", w[3]]), ("empty, not there", lambda w: w[:2] + ["0"])):
+    vector_wrong = [("first byte", other(3)), ("last byte", other(4)), ("another length", other(2)), ("a byte more", lambda w: w + ["0"])]
+    vector_wrong += [("a byte fewer", lambda w: w[:2] + ["1", w[3]]), ("empty, not there", lambda w: w[:2] + ["0"])]
+    for what, change in vector_wrong:
         out.spoil("vector, " + what, change)
         out.vector(0, vector)
     out.spoil("vector of a slot outside", lambda w: w[:2] + ["1", "0"])
@@ -580,7 +588,7 @@ def wrong_answers(out):
     first, last = 8, 8 + 2 * (found - 1)
     search_wrong = [("first slot", other(first)), ("first distance", other(first + 1)), ("last slot", other(last)), ("last distance", other(last + 1))]
     search_wrong += [("one fewer", lambda w: w[:7] + [str(found - 1)] + w[8:-2]), ("one more", lambda w: w[:7] + [str(found + 1)] + w[8:] + ["0", "0"])]
-    search_wrong += [("slots exchanged", exchanged(first, last)), ("carried out, not refused", lambda w: w[:6] + ["7"]), ("another beam", other(2, 2000))]
+    search_wrong += [("slots exchanged", exchanged(first, last)), ("carried out, not refused", other(6, 7)), ("another beam", other(2, 2000))]
     for what, change in search_wrong:
         out.spoil("search, " + what, change)
         out.search(*asked)
