@@ -1,0 +1,76 @@
+use Rattle.insertion.proofs.Filled.{together-as}
+use Rattle.insertion.proofs.Batching.{Chunking, chunking-none, chunk-provided, chunk-assigned, chunk-later, chunking-more, chunking-done}
+use Rattle.insertion.proofs.ChunkRows.{provided-words}
+use native.Mathlib.Omega.{arith}
+use mathlib.Core.Path.{_≡_, refl, _∙_}
+use Prim.Native.Nat.{_-_}
+use lib.ListN.{length}
+use Rattle.slots.specs.Store.{arrays}
+use borrow.Author.Needs.{needs}
+use Rattle.insertion.proofs.batch.insert_chunks.Statement.{statement}
+use Rattle.insertion.proofs.batch.insert_chunks.Tie as tie
+
+abbrev Inv-loop : tie.InvT-loop
+Inv-loop dim degree alpha vectors₀ targets₀ edges₀ versions marks₀ start beam bytes slots scratch₀ count from₀ vectors targets edges marks scratch from = Chunking alpha start beam bytes slots count (arrays dim degree vectors₀ targets₀ edges₀ versions marks₀) (arrays dim degree vectors targets edges versions marks) from × (length scratch ≡ length scratch₀)
+
+abbrev μ-loop : tie.MeasureT-loop
+μ-loop dim degree alpha vectors₀ targets₀ edges₀ versions marks₀ start beam bytes slots scratch₀ count from₀ vectors targets edges marks scratch from = count - from
+
+loop-holds : tie.Need-loop-holds Inv-loop μ-loop
+loop-holds c = (chunking-none _ _ _ _ _ _ _, refl)
+
+chunk-end-requires : tie.Need-chunk-end-requires Inv-loop μ-loop
+chunk-end-requires c κs = search needs
+
+insert-part-requires : tie.Need-insert-part-requires Inv-loop μ-loop
+insert-part-requires c κs =
+    let p = c .before .before .before .before .before .before .before .before .before .before .before .before .before .before .before .before .pre in
+    let f = c .before .before .before .before .before .before .before .loop .inv .0 in
+    let h = c .before .before .before .before .before .before .loop-test .taken in
+    let e = c .before .before .before .before .before .chunk-end .ensures in
+    let l = chunk-later (p .1 .0) (p .1 .1) f h e in
+    (together-as (f .longs) (p .0), (chunk-assigned (p .1 .0) (p .1 .1) f h e, provided-words (c .before .before .before .before .before .before .before .loop .inv .1) (chunk-provided (p .1 .0) (p .1 .1) f h), l .1, l .2))
+
+loop-less : tie.Need-loop-less Inv-loop μ-loop
+loop-less c = let p = c .before .before .before .before .before .before .before .before .before .before .before .before .before .before .before .before .before .before .before .before .before .before .before .before .before .before .before .pre .1 in let l = chunk-later (p .0) (p .1) (c .before .before .before .before .before .before .before .before .before .before .before .before .before .before .before .before .before .before .loop .inv .0) (c .before .before .before .before .before .before .before .before .before .before .before .before .before .before .before .before .before .loop-test .taken) (c .before .before .before .before .before .before .before .before .before .before .before .before .before .before .before .before .chunk-end .ensures) in omega (arith, l .0, l .3)
+
+loop-again : tie.Need-loop-again Inv-loop μ-loop
+loop-again c =
+    let p = c .before .before .before .before .before .before .before .before .before .before .before .before .before .before .before .before .before .before .before .before .before .before .before .before .before .before .before .pre .1 in
+    (chunking-more (p .0) (p .1) (c .before .before .before .before .before .before .before .before .before .before .before .before .before .before .before .before .before .before .loop .inv .0) (c .before .before .before .before .before .before .before .before .before .before .before .before .before .before .before .before .before .loop-test .taken) (c .before .before .before .before .before .before .before .before .before .before .before .before .before .before .before .before .chunk-end .ensures) (c .before .before .before .before .before .before .before .before .before .before .insert-part .ensures) (c .before .before .before .before .before .before .before .before .before .vectors .given) (c .before .before .before .before .before .before .before .targets .given) (c .before .before .before .before .before .edges .given) (c .before .before .before .marks .given), c .before .scratch .given ∙ c .before .before .before .before .before .before .before .before .before .before .before .before .before .before .before .before .before .before .loop .inv .1)
+
+same-length : tie.Need-same-length Inv-loop μ-loop
+same-length c = c .before .loop .inv .0 .longs .vectors
+
+same-length-2 : tie.Need-same-length-2 Inv-loop μ-loop
+same-length-2 c = c .before .loop .inv .0 .longs .targets
+
+same-length-3 : tie.Need-same-length-3 Inv-loop μ-loop
+same-length-3 c = c .before .loop .inv .0 .longs .edges
+
+same-length-4 : tie.Need-same-length-4 Inv-loop μ-loop
+same-length-4 c = c .before .loop .inv .0 .longs .marks
+
+same-length-5 : tie.Need-same-length-5 Inv-loop μ-loop
+same-length-5 c = c .before .loop .inv .1
+
+returns : tie.Need-returns Inv-loop μ-loop
+returns c = chunking-done (c .before .loop .inv .0) (c .loop-test .left)
+
+pub insert-chunks-spec : {M : Type 1} → statement M
+insert-chunks-spec =
+    tie.close
+    (tie.spec
+    Inv-loop
+    μ-loop
+    loop-holds
+    chunk-end-requires
+    insert-part-requires
+    loop-less
+    loop-again
+    same-length
+    same-length-2
+    same-length-3
+    same-length-4
+    same-length-5
+    returns)
