@@ -5,7 +5,7 @@ use Prim.Native.Nat.{ℕ, suc, _+_, _*_, _-_, _≤_, _<_}
 use native.Mathlib.Omega.{arith}
 use lib.ListN.{length, getD}
 use borrow.Author.Count.{below-more}
-use Rattle.text.specs.Text.{decimal, Digit, Digits}
+use Rattle.text.specs.contracts.Text.{decimal, Digit, Digits}
 
 -- the digits from `at` up to `i` were read
 pub record Passed (line : List ℕ) (at i value : ℕ) : Type 0 where

@@ -3,7 +3,7 @@ ghost use mathlib.Core.Bool.{true, false};
 ghost use mathlib.Core.Path.{_≡_};
 ghost use Prim.Native.Nat.{_≤_, _<_};
 ghost use lib.ListN.{length};
-ghost use Rattle.text.specs.Text.{Digit, Digits, Follows};
+ghost use Rattle.text.specs.contracts.Text.{Digit, Digits, Follows};
 
 // A number that was read, and where it ends; whether it and those before it were there.
 pub struct Number {
