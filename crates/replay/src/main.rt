@@ -3,23 +3,20 @@
 // calls of each kind agreed, how many lines there were, and how many differed. The list has wrong answers of every kind, so that a comparison that does
 // not compare is seen.
 mod compare;
-mod kinds;
-mod prepare;
-mod words;
 
 use index::Guard;
 use index::Index;
-use kinds::DIFFERENCES;
-use kinds::KINDS;
-use kinds::LINES;
-use kinds::MAKE;
-use kinds::NOTE;
-use kinds::READ;
-use kinds::SEARCH;
-use kinds::VECTOR;
-use kinds::WORDS;
-use prepare::Lent;
-use prepare::Step;
+use lines::kinds::DIFFERENCES;
+use lines::kinds::KINDS;
+use lines::kinds::LINES;
+use lines::kinds::MAKE;
+use lines::kinds::NOTE;
+use lines::kinds::READ;
+use lines::kinds::SEARCH;
+use lines::kinds::VECTOR;
+use lines::kinds::WORDS;
+use lines::prepare::Lent;
+use lines::prepare::Step;
 ghost use Prim.Native.Nat.{_≤_};
 ghost use lib.ListN.{length};
 
@@ -103,10 +100,10 @@ fn replay(
         let end = text::line_end(list, at, n);
         let line = &list[at..end];
         at = end + 1;
-        let word = words::first_word(line);
-        step = prepare::set_or_lend(line, word, step);
-        step = prepare::give(line, word, step, given, rows);
-        step = prepare::store(line, word, step, vectors, targets, edges, versions, marks);
+        let word = lines::words::first_word(line);
+        step = lines::prepare::set_or_lend(line, word, step);
+        step = lines::prepare::give(line, word, step, given, rows);
+        step = lines::prepare::store(line, word, step, vectors, targets, edges, versions, marks);
         step = compare::make(
             line,
             word,

@@ -1,8 +1,8 @@
 use Prim.Native.Nat.{_≤_, _-_}
 use borrow.Author.Needs.{needs}
 use lib.ListN.{length}
-use Rattle.replay.proofs.words.begins.Statement.{statement}
-use Rattle.replay.proofs.words.begins.Tie as tie
+use Rattle.lines.proofs.words.begins.Statement.{statement}
+use Rattle.lines.proofs.words.begins.Tie as tie
 
 abbrev Inv-loop : tie.InvT-loop
 Inv-loop line word i₀ i = (i ≤ length word) × (length word ≤ length line)

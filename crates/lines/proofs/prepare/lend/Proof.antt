@@ -1,7 +1,7 @@
 use Prim.Native.Nat.{_≤_, _-_}
 use borrow.Author.Needs.{needs}
-use Rattle.replay.proofs.prepare.lend.Statement.{statement}
-use Rattle.replay.proofs.prepare.lend.Tie as tie
+use Rattle.lines.proofs.prepare.lend.Statement.{statement}
+use Rattle.lines.proofs.prepare.lend.Tie as tie
 
 abbrev Inv-loop : tie.InvT-loop
 Inv-loop line end step lent₀ last₀ i₀ lent last i = i ≤ 9

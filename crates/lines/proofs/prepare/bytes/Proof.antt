@@ -2,8 +2,8 @@ use Prim.Native.Nat.{_≤_, _-_}
 use mathlib.Core.Path.{_≡_}
 use borrow.Author.Needs.{needs}
 use lib.ListN.{length}
-use Rattle.replay.proofs.prepare.bytes.Statement.{statement}
-use Rattle.replay.proofs.prepare.bytes.Tie as tie
+use Rattle.lines.proofs.prepare.bytes.Statement.{statement}
+use Rattle.lines.proofs.prepare.bytes.Tie as tie
 
 abbrev Inv-loop : tie.InvT-loop
 Inv-loop line given₀ last₀ n i₀ given last i = (i ≤ n) × (length given ≡ length given₀)

@@ -2,8 +2,8 @@ use Prim.Native.Nat.{_≤_, _-_}
 use mathlib.Core.Path.{_≡_}
 use borrow.Author.Needs.{needs}
 use lib.ListN.{length}
-use Rattle.replay.proofs.prepare.words.Statement.{statement}
-use Rattle.replay.proofs.prepare.words.Tie as tie
+use Rattle.lines.proofs.prepare.words.Statement.{statement}
+use Rattle.lines.proofs.prepare.words.Tie as tie
 
 abbrev Inv-loop : tie.InvT-loop
 Inv-loop line rows₀ last₀ n i₀ rows last i = (i ≤ n) × (length rows ≡ length rows₀)
