@@ -13,6 +13,25 @@ Inv-loop dim degree vectors targets edges versions marks s scratch₀ at slot n�
 abbrev μ-loop : tie.MeasureT-loop
 μ-loop dim degree vectors targets edges versions marks s scratch₀ at slot n₀ place₀ scratch n place = degree - place
 
+-- places before the needs below, each named by what was done last there
+abbrev start : tie.After-wide Inv-loop μ-loop → tie.Start Inv-loop μ-loop
+start c = c .before .before .before .before .before .before .before
+
+abbrev start₁ : tie.In-loop Inv-loop μ-loop → tie.Start Inv-loop μ-loop
+start₁ c = start (c .before .before)
+
+abbrev at-loop₂ : tie.After-wide2 Inv-loop μ-loop → tie.At-loop Inv-loop μ-loop
+at-loop₂ c = c .before .before .before .before .before .before
+
+abbrev wide₂ : tie.After-wide2 Inv-loop μ-loop → tie.After-wide Inv-loop μ-loop
+wide₂ c = at-loop₂ c .before
+
+abbrev start₂ : tie.After-wide2 Inv-loop μ-loop → tie.Start Inv-loop μ-loop
+start₂ c = start (wide₂ c)
+
+abbrev start₃ : tie.At-match-came Inv-loop μ-loop → tie.Start Inv-loop μ-loop
+start₃ c = start (c .before .before .before .before)
+
 wide-requires : tie.Need-wide-requires Inv-loop μ-loop
 wide-requires c κs = search needs
 
@@ -20,7 +39,7 @@ loop-holds : tie.Need-loop-holds Inv-loop μ-loop
 loop-holds c = scoring-none _ _ _ _
 
 live-at-requires : tie.Need-live-at-requires Inv-loop μ-loop
-live-at-requires c κs = (c .before .before .before .before .before .before .before .before .before .pre .0 .rows, (omega (arith, c .before .before .before .before .before .before .before .before .before .pre .1 .0, c .before .before .wide .ensures), c .loop-test .taken))
+live-at-requires c κs = ((start₁ c) .pre .0 .rows, (omega (arith, (start₁ c) .pre .1 .0, c .before .before .wide .ensures), c .loop-test .taken))
 
 enum-known-r : tie.Need-enum-known-r Inv-loop μ-loop
 enum-known-r c = search needs
@@ -30,8 +49,8 @@ wide-requires-2 c κs = search needs
 
 slot-distance-requires : tie.Need-slot-distance-requires Inv-loop μ-loop
 slot-distance-requires c κs =
-    let s = c .before .before .before .before .before .before .before .before .before .before .before .before .before .before .pre in
-    scoring-near (c .before .before .before .before .before .before .loop .inv) (s .0) (s .1 .0) (c .before .before .before .before .before .loop-test .taken) (c .before .before .before .before .before .before .before .wide .ensures) (c .before .before .before .before .live-at .ensures _ _) (c .before .before .r .given .1) (c .wide2 .ensures)
+    let s = (start₂ c) .pre in
+    scoring-near ((at-loop₂ c) .loop .inv) (s .0) (s .1 .0) (c .before .before .before .before .before .loop-test .taken) ((wide₂ c) .wide .ensures) (c .before .before .before .before .live-at .ensures _ _) (c .before .before .r .given .1) (c .wide2 .ensures)
 
 mul-put : tie.Need-mul-put Inv-loop μ-loop
 mul-put c = search needs
@@ -56,7 +75,7 @@ loop-less c = search needs
 
 loop-again : tie.Need-loop-again Inv-loop μ-loop
 loop-again c =
-    let s = c .before .before .before .before .before .before .before .before .before .before .before .pre in
+    let s = (start₃ c) .pre in
     let l = c .before .before .before .loop .inv in
     let h = c .before .before .loop-test .taken in
     let e = c .before .live-at .ensures in

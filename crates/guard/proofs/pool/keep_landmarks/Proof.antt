@@ -14,6 +14,10 @@ Inv-loop marks ids pool n count list₀ m₀ i₀ list m i = Keeping (remains ma
 abbrev μ-loop : tie.MeasureT-loop
 μ-loop marks ids pool n count list₀ m₀ i₀ list m i = n - i
 
+-- places before the needs below, each named by what was done last there
+abbrev start₀ : tie.Joined2 Inv-loop μ-loop → tie.Start Inv-loop μ-loop
+start₀ c = c .before .before .before .before .before .before .before .before .before .before
+
 loop-holds : tie.Need-loop-holds Inv-loop μ-loop
 loop-holds c = keeping-none _ _ _ _ _
 
@@ -51,7 +55,7 @@ loop-again : tie.Need-loop-again Inv-loop μ-loop
 loop-again c =
     let l = c .before .before .before .before .before .loop .inv in
     let h = c .before .before .before .before .loop-test .taken in
-    let p = c .before .before .before .before .before .before .before .before .before .before .pre in
+    let p = (start₀ c) .pre in
     ⊎-elim
     (λ w. rw (w .1, w .2) (keeping-take l (p .0) (p .1) h (c .before .before .before .if1 .left) refl (c .before .stays .ensures) (w .0 .taken)))
     (λ w. rw (w .1, w .2) (keeping-skip l (p .0) h refl (c .before .stays .ensures) (w .0 .left)))

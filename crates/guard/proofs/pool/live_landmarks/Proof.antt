@@ -13,6 +13,13 @@ Inv-loop marks pool n live₀ i₀ live i = Counting (is-valid marks) pool n liv
 abbrev μ-loop : tie.MeasureT-loop
 μ-loop marks pool n live₀ i₀ live i = n - i
 
+-- places before the needs below, each named by what was done last there
+abbrev start₁ : tie.After-is-valid Inv-loop μ-loop → tie.Start Inv-loop μ-loop
+start₁ c = c .before .before .before .before .before .before .before
+
+abbrev start₂ : tie.After-plus Inv-loop μ-loop → tie.Start Inv-loop μ-loop
+start₂ c = c .before .before .before .before .before .before .before .before
+
 loop-holds : tie.Need-loop-holds Inv-loop μ-loop
 loop-holds c = counting-none _ _ _
 
@@ -29,7 +36,7 @@ is-valid-requires : tie.Need-is-valid-requires Inv-loop μ-loop
 is-valid-requires c κs = search needs
 
 plus-requires : tie.Need-plus-requires Inv-loop μ-loop
-plus-requires c κs = omega (arith, c .before .before .before .before .loop .inv .few, c .before .before .before .before .before .before .before .pre .1)
+plus-requires c κs = omega (arith, c .before .before .before .before .loop .inv .few, (start₁ c) .pre .1)
 
 add-i : tie.Need-add-i Inv-loop μ-loop
 add-i c = omega arith
@@ -38,7 +45,7 @@ loop-less : tie.Need-loop-less Inv-loop μ-loop
 loop-less c = omega arith
 
 loop-again : tie.Need-loop-again Inv-loop μ-loop
-loop-again c = counting-next (c .before .before .before .before .before .loop .inv) (c .before .before .before .before .before .before .before .before .pre .0) (c .before .before .before .before .loop-test .taken) (c .before .is-valid .ensures ∙ ap (is-valid (c .before .before .before .before .before .before .before .before .args .marks .now)) (c .before .before .wide .ensures)) (c .plus .ensures)
+loop-again c = counting-next (c .before .before .before .before .before .loop .inv) ((start₂ c) .pre .0) (c .before .before .before .before .loop-test .taken) (c .before .is-valid .ensures ∙ ap (is-valid ((start₂ c) .args .marks .now)) (c .before .before .wide .ensures)) (c .plus .ensures)
 
 returns : tie.Need-returns Inv-loop μ-loop
 returns c = counting-done (c .before .loop .inv) (c .loop-test .left)

@@ -13,6 +13,10 @@ Inv-loop marks ids n₀ i₀ n i = Naming (is-valid marks) ids n i
 abbrev μ-loop : tie.MeasureT-loop
 μ-loop marks ids n₀ i₀ n i = length ids - i
 
+-- places before the needs below, each named by what was done last there
+abbrev start₀ : tie.After-stays Inv-loop μ-loop → tie.Start Inv-loop μ-loop
+start₀ c = c .before .before .before .before .before .before .before
+
 loop-holds : tie.Need-loop-holds Inv-loop μ-loop
 loop-holds c = naming-none _ _
 
@@ -35,7 +39,7 @@ stays-requires : tie.Need-stays-requires Inv-loop μ-loop
 stays-requires c κs = search needs
 
 plus-requires : tie.Need-plus-requires Inv-loop μ-loop
-plus-requires c κs = omega (arith, c .before .before .before .before .loop .inv .few, c .before .before .before .before .before .before .before .pre)
+plus-requires c κs = omega (arith, c .before .before .before .before .loop .inv .few, (start₀ c) .pre)
 
 add-i : tie.Need-add-i Inv-loop μ-loop
 add-i c = omega arith

@@ -11,6 +11,19 @@ Inv-loop marks slots₀ count n₀ s₀ id₀ slots n s id = Gathering marks slo
 abbrev μ-loop : tie.MeasureT-loop
 μ-loop marks slots₀ count n₀ s₀ id₀ slots n s id = length marks - s
 
+-- places before the needs below, each named by what was done last there
+abbrev start : tie.At-loop Inv-loop μ-loop → tie.Start Inv-loop μ-loop
+start c = c .before .before .before
+
+abbrev start₁ : tie.After-note-arg Inv-loop μ-loop → tie.Start Inv-loop μ-loop
+start₁ c = start (c .before .before .before)
+
+abbrev at-loop₂ : tie.After-slice-known2 Inv-loop μ-loop → tie.At-loop Inv-loop μ-loop
+at-loop₂ c = c .before .before .before .before .before .before
+
+abbrev start₂ : tie.After-slice-known2 Inv-loop μ-loop → tie.Start Inv-loop μ-loop
+start₂ c = start (at-loop₂ c)
+
 loop-holds : tie.Need-loop-holds Inv-loop μ-loop
 loop-holds c = gathering-none _ _ _
 
@@ -21,19 +34,19 @@ returns : tie.Need-returns Inv-loop μ-loop
 returns c = gathering-full (c .before .before .loop .inv) (c .before .before .before .before .before .pre .0) (c .if1 .taken)
 
 note-requires : tie.Need-note-requires Inv-loop μ-loop
-note-requires c κs = gathering-room (c .before .before .before .loop .inv) (c .before .before .before .before .before .before .pre .0) (c .before .if1 .left)
+note-requires c κs = gathering-room (c .before .before .before .loop .inv) ((start₁ c) .pre .0) (c .before .if1 .left)
 
 add-s : tie.Need-add-s Inv-loop μ-loop
-add-s c = omega (arith, c .before .before .before .before .before .loop-test .taken, c .before .before .before .before .before .before .before .before .before .pre .1)
+add-s c = omega (arith, c .before .before .before .before .before .loop-test .taken, (start₂ c) .pre .1)
 
 add-id : tie.Need-add-id Inv-loop μ-loop
-add-id c = omega (arith, c .before .before .before .before .before .loop-test .taken, c .before .before .before .before .before .before .before .before .before .pre .1, c .before .before .before .before .before .before .loop .inv .equal)
+add-id c = omega (arith, c .before .before .before .before .before .loop-test .taken, (start₂ c) .pre .1, (at-loop₂ c) .loop .inv .equal)
 
 loop-less : tie.Need-loop-less Inv-loop μ-loop
 loop-less c = omega (arith, c .before .before .before .before .before .loop-test .taken)
 
 loop-again : tie.Need-loop-again Inv-loop μ-loop
-loop-again c = gathering-more (c .before .before .before .before .before .before .loop .inv) (c .before .before .before .before .before .before .before .before .before .pre .0) (c .before .before .before .before .before .loop-test .taken) (c .before .before .before .before .if1 .left) (c .before .before .note .ensures)
+loop-again c = gathering-more ((at-loop₂ c) .loop .inv) ((start₂ c) .pre .0) (c .before .before .before .before .before .loop-test .taken) (c .before .before .before .before .if1 .left) (c .before .before .note .ensures)
 
 same-length-2 : tie.Need-same-length-2 Inv-loop μ-loop
 same-length-2 c = c .before .loop .inv .size

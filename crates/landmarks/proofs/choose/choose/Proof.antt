@@ -11,6 +11,25 @@ Inv-loop dim vectors wanted list₀ at words₀ a n m₀ k₀ list words m k = C
 abbrev μ-loop : tie.MeasureT-loop
 μ-loop dim vectors wanted list₀ at words₀ a n m₀ k₀ list words m k = wanted - k
 
+-- places before the needs below, each named by what was done last there
+abbrev start : tie.At-loop Inv-loop μ-loop → tie.Start Inv-loop μ-loop
+start c = c .before .before .before .before
+
+abbrev start₁ : tie.After-farthest-id Inv-loop μ-loop → tie.Start Inv-loop μ-loop
+start₁ c = start (c .before .before .before .before)
+
+abbrev else1₂ : tie.After-slice-known3 Inv-loop μ-loop → tie.Else1 Inv-loop μ-loop
+else1₂ c = c .before .before .before .before .before .before
+
+abbrev in-loop₂ : tie.After-slice-known3 Inv-loop μ-loop → tie.In-loop Inv-loop μ-loop
+in-loop₂ c = else1₂ c .before
+
+abbrev at-loop₂ : tie.After-slice-known3 Inv-loop μ-loop → tie.At-loop Inv-loop μ-loop
+at-loop₂ c = in-loop₂ c .before
+
+abbrev start₂ : tie.After-slice-known3 Inv-loop μ-loop → tie.Start Inv-loop μ-loop
+start₂ c = start (at-loop₂ c)
+
 loop-holds : tie.Need-loop-holds Inv-loop μ-loop
 loop-holds c = choosing-none _ _ _ _ (c .before .before .before .pre .0) (c .before .before .before .pre .1)
 
@@ -27,25 +46,25 @@ farthest-id-requires : tie.Need-farthest-id-requires Inv-loop μ-loop
 farthest-id-requires c κs = c .before .before .before .loop .inv .listed .room
 
 add-list : tie.Need-add-list Inv-loop μ-loop
-add-list c = omega (arith, c .before .before .before .before .before .before .before .before .pre .1)
+add-list c = omega (arith, (start₁ c) .pre .1)
 
 mul-list : tie.Need-mul-list Inv-loop μ-loop
-mul-list c = omega (arith, c .before .before .before .before .before .before .before .before .pre .1)
+mul-list c = omega (arith, (start₁ c) .pre .1)
 
 slice-write-list : tie.Need-slice-write-list Inv-loop μ-loop
-slice-write-list c = omega (arith, c .before .before .before .before .before .before .before .before .pre .1, c .before .before .before .before .loop .inv .list-size)
+slice-write-list c = omega (arith, (start₁ c) .pre .1, c .before .before .before .before .loop .inv .list-size)
 
 draw-near-requires : tie.Need-draw-near-requires Inv-loop μ-loop
 draw-near-requires c κs = (c .before .before .before .before .before .loop .inv .listed, farthest-inside (c .before .before .before .before .before .loop .inv .listed) (c .before .before .before .if1 .left) (c .before .farthest-id .ensures))
 
 add-k : tie.Need-add-k Inv-loop μ-loop
-add-k c = omega (arith, c .before .before .before .before .before .before .before .before .before .before .before .before .pre .1)
+add-k c = omega (arith, (start₂ c) .pre .1)
 
 loop-less : tie.Need-loop-less Inv-loop μ-loop
 loop-less c = omega arith
 
 loop-again : tie.Need-loop-again Inv-loop μ-loop
-loop-again c = choosing-more (c .before .before .before .before .before .before .before .before .loop .inv) (c .before .before .before .before .before .before .before .before .before .before .before .before .pre .1) (c .before .before .before .before .before .before .before .loop-test .taken) (c .before .before .before .before .before .before .if1 .left) (c .before .before .before .before .farthest-id .ensures) (c .before .before .draw-near .ensures)
+loop-again c = choosing-more ((at-loop₂ c) .loop .inv) ((start₂ c) .pre .1) ((in-loop₂ c) .loop-test .taken) ((else1₂ c) .if1 .left) (c .before .before .before .before .farthest-id .ensures) (c .before .before .draw-near .ensures)
 
 same-length-3 : tie.Need-same-length-3 Inv-loop μ-loop
 same-length-3 c = c .before .loop .inv .list-size
