@@ -1,7 +1,7 @@
 -- Row 13 of the table: with a live slot, the landmark pool that enabling chooses is empty exactly where one slot is live (docs/DECISIONS.md, D-23).
 -- Assumes nothing.
-use Prim.Native.Nat.{ℕ, zero, suc, _+_, _%_, _≤_, _<_}
-use mathlib.Core.Bool.{Bool, true, false, not, _&&_, cond, and-true, or-false}
+use Prim.Native.Nat.{ℕ, zero, suc, _+_, _/_, _%_, max, _≤_, _<_}
+use mathlib.Core.Bool.{Bool, true, false, not, _&&_, cond, and-true, or-false, and-assoc}
 use mathlib.Core.Path.{_≡_, refl, ap, sym, _∙_}
 use mathlib.Core.List.{List, [], _∷_, _++_}
 use mathlib.Core.Option.{some}
@@ -9,52 +9,20 @@ use native.Mathlib.Omega.{arith}
 use borrow.Author.Tests.{ne-eqb, lt-ltb}
 use lib.Dec.{eqb, ltb}
 use lib.ListN.{length}
-use Rattle.lists.specs.Lists.{All, filter, range, least-of}
+use Rattle.lists.specs.Lists.{All, filter, elem, range, least-of}
 use Rattle.lists.proofs.All.{all-both, filter-test}
-use Rattle.lists.proofs.Filtered.{count-cons, count-without}
+use Rattle.lists.proofs.Filter.{filter-length, filter-and}
+use Rattle.lists.proofs.Filtered.{count-without}
 use Rattle.lists.proofs.Firsts.{filter-same}
 use Rattle.lists.proofs.Ranges.{filtered-below, times-once}
 use Rattle.vectors.specs.Space.{slot-distance}
-use Rattle.slots.specs.View.{View, live-slots, emptied}
-use Rattle.slots.specs.Store.{Store, store-view}
-use Rattle.landmarks.specs.contracts.Samples.{free, sampled, stride-of, sample-by}
-use Rattle.guard.specs.Guard.{Config, greatest-from, normalized, stays, sample, farthest, select-landmarks, residual-entry, landmark-pool}
-use Rattle.guard.specs.contracts.Pools.{or-blank, Entered}
-use Rattle.guard.proofs.Landmarks.{sample-view}
-
--- ---- how many are sampled
--- those of a stride and those between are all
-count-parts : (k : ℕ) (f : ℕ → Bool) (xs : List ℕ) → length (filter (sampled k false f) xs) + length (filter (sampled k true f) xs) ≡ length (filter f xs)
-count-parts k f [] = refl
-count-parts k f (x ∷ xs) =
-    omega (arith, count-cons (sampled k false f) x xs, count-cons (sampled k true f) x xs, count-cons f x xs, count-parts k f xs, step (eqb (x % k) 0) (f x))
-  where
-    step : (a b : Bool) → cond (a && b) 1 0 + cond (not a && b) 1 0 ≡ cond b 1 0
-    step true true = refl
-    step true false = refl
-    step false true = refl
-    step false false = refl
+use Rattle.slots.specs.View.{View, live-slots}
+use Rattle.guard.specs.Guard.{Config, greatest-from, normalized, stays, eligible, sample, farthest, select-landmarks, residual-entry, landmark-pool}
+-- so that the examples are checked first
+use Rattle.guard.proofs.Cases
 
 not-zero : (n : ℕ) → eqb (suc n) 0 ≡ false
 not-zero n = ne-eqb (suc n) 0 (λ i. omega arith)
-
--- a sample is empty where nothing can be sampled
-none-sampled : (f : ℕ → Bool) (capacity k wanted : ℕ) → 0 < wanted
-    → eqb (length (sample-by f capacity k wanted)) 0 ≡ eqb (length (filter f (range 0 capacity))) 0
-unfolding sample-by
-none-sampled f capacity k wanted h =
-    go (filter (sampled k false f) (range 0 capacity)) refl (count-parts k f (range 0 capacity))
-  where
-    go : (xs : List ℕ) → filter (sampled k false f) (range 0 capacity) ≡ xs
-        → length (filter (sampled k false f) (range 0 capacity)) + length (filter (sampled k true f) (range 0 capacity)) ≡ length (filter f (range 0 capacity))
-        → eqb (length (filter (sampled k false f) (range 0 capacity) ++ cond (ltb (length (filter (sampled k false f) (range 0 capacity))) wanted) (filter (sampled k true f) (range 0 capacity)) [])) 0
-        ≡ eqb (length (filter f (range 0 capacity))) 0
-    go [] e s =
-        let z : length (filter (sampled k true f) (range 0 capacity)) ≡ length (filter f (range 0 capacity)) = omega (arith, s, ap length e) in
-        rw (e, lt-ltb 0 wanted h, z)
-    go (x ∷ xs) e s =
-        let z : length (filter f (range 0 capacity)) ≡ 0 → ⊥ = λ i. omega (arith, s, ap length e) in
-        rw (ne-eqb (length (filter f (range 0 capacity))) 0 z, e) (not-zero (length (xs ++ cond (ltb (length (x ∷ xs)) wanted) (filter (sampled k true f) (range 0 capacity)) [])))
 
 module _ (v : View) where
   abbrev slots : List ℕ
@@ -68,23 +36,42 @@ module _ (v : View) where
       let next = greatest-from (λ s. least-of (slot-distance (v .space) s) rs) x xs in
       not-zero (length (farthest v [] n (rs ++ (next ∷ [])) (filter (λ y. not (eqb y next)) (x ∷ xs)))) ∙ sym (not-zero (length xs))
 
-  -- live, and not the slot e
-  left-of : (e : ℕ) → filter (free (stays v []) (e ∷ [])) slots ≡ filter (λ s. v .live s && not (eqb s e)) slots
-  left-of e = filter-same (free (stays v []) (e ∷ [])) (λ s. v .live s && not (eqb s e)) (λ s. rw (and-true (v .live s), or-false (eqb s e))) slots
+  -- the slots that may be sampled: live, and not the slot e
+  abbrev live-but : ℕ → ℕ → Bool
+  live-but e s = v .live s && not (eqb s e)
+
+  -- with a further test
+  eligible-of : (p : ℕ → Bool) (e : ℕ) → eligible v [] p (e ∷ []) ≡ filter (λ s. p s && live-but e s) slots
+  eligible-of p e =
+      filter-same (λ s. p s && stays v [] s && not (elem s (e ∷ []))) (λ s. p s && live-but e s)
+      (λ s. rw (and-true (v .live s), or-false (eqb s e)) (and-assoc (p s) (v .live s) (not (eqb s e)))) slots
+
+  -- a sample is empty where nothing may be sampled
+  none-sampled : (wanted sample-size e : ℕ) → 0 < wanted → eqb (length (sample v [] wanted sample-size (e ∷ []))) 0 ≡ eqb (length (filter (live-but e) slots)) 0
+  unfolding sample
+  none-sampled wanted sample-size e h = go (eligible v [] on (e ∷ [])) refl
+    where
+      on : ℕ → Bool
+      on s = eqb (s % max 1 (v .sizes .capacity / sample-size)) 0
+
+      go : (xs : List ℕ) → eligible v [] on (e ∷ []) ≡ xs
+          → eqb (length (xs ++ cond (ltb (length xs) wanted) (eligible v [] (λ s. not (elem s xs)) (e ∷ [])) [])) 0 ≡ eqb (length (filter (live-but e) slots)) 0
+      go [] q = rw (lt-ltb 0 wanted h) (ap (λ (l : List ℕ). eqb (length l) 0) (eligible-of (λ s. true) e))
+      go (x ∷ xs) q =
+          let some-on : filter on (filter (live-but e) slots) ≡ x ∷ xs = sym (filter-and on (live-but e) slots) ∙ sym (eligible-of on e) ∙ q in
+          let z : length (filter (live-but e) slots) ≡ 0 → ⊥ = λ i. omega (arith, filter-length on (filter (live-but e) slots), ap length some-on) in
+          not-zero (length (xs ++ cond (ltb (length (x ∷ xs)) wanted) (eligible v [] (λ s. not (elem s (x ∷ xs))) (e ∷ [])) [])) ∙ sym (ne-eqb (length (filter (live-but e) slots)) 0 z)
 
   module _ (e : ℕ) (live : v .live e ≡ true) (inside : e < v .sizes .capacity) where
-    live-count : length (live-slots v) ≡ length (filter (free (stays v []) (e ∷ [])) slots) + 1
-    live-count =
-        rw (left-of e)
-        (omega (arith, count-without (v .live) e live slots, times-once e 0 (v .sizes .capacity) (omega arith) (omega arith)))
+    live-count : length (live-slots v) ≡ length (filter (live-but e) slots) + 1
+    live-count = omega (arith, count-without (v .live) e live slots, times-once e 0 (v .sizes .capacity) (omega arith) (omega arith))
 
     chosen-none : (wanted sample-size : ℕ) → 0 < wanted → eqb (length (select-landmarks v [] e wanted sample-size [])) 0 ≡ eqb (length (live-slots v)) 1
     unfolding select-landmarks
     chosen-none wanted sample-size h =
         far-none wanted (e ∷ []) (sample v [] wanted sample-size (e ∷ [])) h
-        ∙ ap (λ (l : List ℕ). eqb (length l) 0) (sym (sample-view v [] e [] wanted sample-size))
-        ∙ none-sampled (free (stays v []) (e ∷ [])) (v .sizes .capacity) (stride-of (v .sizes .capacity) sample-size) wanted h
-        ∙ rw live-count (one-more (length (filter (free (stays v []) (e ∷ [])) slots)))
+        ∙ none-sampled wanted sample-size e h
+        ∙ rw live-count (one-more (length (filter (live-but e) slots)))
       where
         one-more : (n : ℕ) → eqb n 0 ≡ eqb (n + 1) 1
         one-more zero = refl
@@ -117,12 +104,3 @@ module _ (v : View) where
       go false e (s ∷ l) g =
           let a = rw (sym all ∙ g) at good in
           record { slot = s; is = rw (e, g); live = a .0 .0; inside = a .0 .1 }
-
--- what enabling finds: a slot inside
-pub entered-live : (b : Store) {marks : List ℕ} {entry start : ℕ} → Entered marks [] entry start → b .arrays .marks ≡ marks → b .capacity ≡ length marks → b .entry ≡ entry
-    → length marks ≤ 65536 → entry < length marks → 0 < length (live-slots (store-view b)) → (residual-entry (store-view b) [] ≡ some start) × (start < length marks)
-unfolding store-view emptied
-entered-live b {marks} {entry} {start} f x y z few inside live =
-    let e = enters (store-view b) (omega (arith, y, z)) live in
-    let s : start ≡ e .slot = f .does b x y z ∙ ap or-blank (e .is) in
-    (rw s (e .is), omega (arith, s, y, e .inside))

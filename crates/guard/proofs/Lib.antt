@@ -1,9 +1,2 @@
 mod Cases
-pub mod Landmarks
-pub mod Seen
-pub mod Entering
-pub mod Pooling
 pub mod Enabling
-pub mod Trying
-pub mod Naming
-pub mod Reporting
