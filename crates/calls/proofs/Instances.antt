@@ -8,6 +8,7 @@ use borrow.Author.Tests.{leb-true, ltb-true, eq-eqb}
 use lib.ListN.{length, take, drop, replicate, length-take}
 use lib.Seq.{take-all, take-nil}
 use lib.Dec.{eqb, ltb, leb}
+use Rattle.lists.proofs.Bools.{and-both}
 use Rattle.lists.specs.Lists.{All, filter, elem, foldl}
 use Rattle.lists.proofs.All.{by-cases, all-of, all-map, all-append, all-take, all-drop, all-filter, filter-test, foldl-keeps}
 use Rattle.vectors.specs.Distance.{distance}
@@ -33,7 +34,7 @@ use Rattle.guard.specs.Guard.{virtual-search-pool}
 use Rattle.calls.specs.State.{State, view-of, made, with-graph, stored}
 use Rattle.calls.specs.Runs.{slices-of}
 use Rattle.calls.specs.Instances.{AllBytes, Passes, Made, Kept, greedy, robust, nearest, Searched, Tried, Planned, Target-row, Repaired-row, Demand-2}
-use Rattle.calls.proofs.Tests.{and-both, passed-lengths}
+use Rattle.calls.proofs.Tests.{passed-lengths}
 use Rattle.calls.proofs.History.{made-both}
 
 -- ---- what the algorithms ask of a view

@@ -8,6 +8,7 @@ use native.Mathlib.Omega.{arith}
 use borrow.Author.Tests.{leb-true, ltb-true, ltb-false, eqb-true, not-false}
 use lib.ListN.{length}
 use lib.Dec.{eqb, ltb, leb}
+use Rattle.lists.proofs.Bools.{and-both}
 use Rattle.slots.specs.Sizes.{Sizes, Lengths, exact, limits, within, sizes-ok, alpha-ok, lengths-ok}
 use Rattle.slots.proofs.New.{Accepted}
 use Rattle.calls.specs.Calls.{Making}
@@ -16,10 +17,6 @@ use Rattle.calls.specs.Refusals.{Test, first-of, or-zero, names-given, e
 pub first-none : (n : ℕ) (q : Bool) (ts : List Test) → first-of ((n, q) ∷ ts) ≡ none → (q ≡ false) × (first-of ts ≡ none)
 first-none n true ts e = absurd (let z : _≡_ {A = ℕ} 0 1 = cc in omega arith)
 first-none n false ts e = (refl, e)
-
-pub and-both : (p q : Bool) → (p && q) ≡ true → (p ≡ true) × (q ≡ true)
-and-both true q e = (refl, e)
-and-both false q e = absurd (let z : _≡_ {A = ℕ} 0 1 = cc in omega arith)
 
 pub or-neither : (p q : Bool) → (p || q) ≡ false → (p ≡ false) × (q ≡ false)
 or-neither true q e = absurd (let z : _≡_ {A = ℕ} 0 1 = cc in omega arith)
@@ -113,18 +110,23 @@ module _ (lent : Lengths) (m : Making) where
       passed-lengths (m .sizes) lent
       (and-both lent-right vectors-right (and-both (lent-right && vectors-right) rows-right (not-false (lent-right && vectors-right && rows-right) (f .three)) .0) .0)
 
+  -- rows of blanks and given slots, and a given entry
+  pub given-named : first-of (making-tests limits lent m) ≡ none → (names-given (m .count) (m .rows) ≡ true) × (entry-given (m .count) (m .entry) ≡ true)
+  given-named h =
+      let named = names-given (m .count) (m .rows) in
+      let entered = entry-given (m .count) (m .entry) in
+      and-both named entered (not-false (named && entered) (five (ap or-zero h) .five))
+
   pub accepted : first-of (making-tests limits lent m) ≡ none → Accepted (m .sizes) (m .count) (m .bytes) (m .rows) (m .entry)
   accepted h =
       let f = five (ap or-zero h) in
-      let named = names-given (m .count) (m .rows) in
-      let entered = entry-given (m .count) (m .entry) in
       let long = and-both (lent-right && vectors-right) rows-right (not-false (lent-right && vectors-right && rows-right) (f .three)) in
       let sized = not-false (sizes-ok limits (m .sizes)) (f .one) in
       let room = ltb-false (m .sizes .capacity) (m .count) (f .four) in
       record {
         sizes-right = sized;
         alpha-right = not-false (alpha-ok (m .sizes .alpha)) (f .two);
-        entry-inside = entry-below (m .count) (m .sizes .capacity) (m .entry) room (capacity-positive (m .sizes) sized) (and-both named entered (not-false (named && entered) (f .five)) .1);
+        entry-inside = entry-below (m .count) (m .sizes .capacity) (m .entry) room (capacity-positive (m .sizes) sized) (given-named h .1);
         vectors-long = eqb-true (length (m .bytes)) (m .count * m .sizes .dim) (and-both lent-right vectors-right (long .0) .1);
         rows-long = eqb-true (length (m .rows)) (m .count * m .sizes .degree) (long .1);
         room = room;

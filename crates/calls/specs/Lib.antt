@@ -4,6 +4,7 @@ pub mod Refusals
 pub mod Step
 pub mod Outputs
 pub mod History
+pub mod Reached
 pub mod Runs
 pub mod Instances
 pub mod Table

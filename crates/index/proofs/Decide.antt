@@ -11,6 +11,7 @@ use lib.Pow.{pow-pos, pow-add}
 use lib.Ieee.{Float}
 use lib.ListN.{length}
 use lib.Dec.{eqb, ltb, leb}
+use Rattle.lists.proofs.Bools.{and-both}
 use Rattle.vectors.specs.Distance.{f32}
 use Rattle.lists.specs.Lists.{All, filter, range}
 use Rattle.slots.specs.Sizes.{Sizes, Slices, Lengths, lengths-of, limits, within, sizes-ok, alpha-ok, lengths-ok}
@@ -27,7 +28,7 @@ use Rattle.calls.specs.State.{State, stored, shown}
 use Rattle.calls.specs.Step.{perform, refusal, settle, step}
 use Rattle.index.specs.Index.{words-for, sizes, sizes-of, guard-of, state-of}
 use Rattle.index.specs.contracts.Deciding.{Decided, Passed}
-use Rattle.calls.proofs.Tests.{and-both, or-neither, passed-lengths}
+use Rattle.calls.proofs.Tests.{or-neither, passed-lengths}
 
 -- ---- numbers
 

@@ -1,3 +1,4 @@
 mod Cases
 pub mod Agree
 pub mod Chunks
+pub mod Reached

@@ -15,7 +15,9 @@ use Rattle.lists.proofs.All.{by-cases, all-map, all-append, all-take, all-filte
 use Rattle.lists.proofs.Unique.{Unique, all-distinct, unique-snoc, unique-distinct, unique-take, keys-snoc, or-false-l, or-false-r, eqb-flip}
 use Rattle.candidates.specs.Candidates.{Candidate, ids, nearer}
 use Rattle.candidates.specs.Quotient.{largest}
-use Rattle.prune.specs.Prune.{Selection, passes, considered, prune-scored, thresholds}
+use Rattle.vectors.specs.Space.{slot-distance}
+use Rattle.slots.specs.View.{View}
+use Rattle.prune.specs.Prune.{Selection, passes, considered, prune-scored, prune, thresholds}
 use Rattle.prune.proofs.Passes.{raised-to, raised, scan, scan-again, scan-frame, start, passes-scan, elem-other}
 use Rattle.prune.proofs.Thresholds.{Accepted, Threshold, all-thresholds, threshold-largest, below-largest}
 
@@ -188,3 +190,21 @@ in-itself (x ∷ xs) = (rw (eq-eqb (x .id) (x .id) refl), in-more x xs xs (in-it
 pub chosen-given : (degree : ℕ) (alpha : Float) (live : ℕ → Bool) (d : ℕ → ℕ → ℕ) (source : ℕ) (cs : List Candidate)
     → All (λ c. elem (c .id) (ids cs) ≡ true) (prune-scored degree alpha live d source cs)
 chosen-given degree alpha live d source cs = chosen degree alpha live d source cs (λ c. elem (c .id) (ids cs) ≡ true) (in-itself cs)
+
+-- ---- the same of a view
+
+-- the slots selected are live
+pub ids-live : (v : View) (source : ℕ) (cs : List Candidate) → All (λ t. v .live t ≡ true) (ids (prune v source cs))
+ids-live v source cs = go (prune v source cs) (chosen-live (v .sizes .degree) (v .sizes .alpha) (v .live) (slot-distance (v .space)) source cs)
+  where
+    go : (l : List Candidate) → All (λ c. v .live (c .id) ≡ true) l → All (λ t. v .live t ≡ true) (ids l)
+    go [] h = tt
+    go (c ∷ l) h = (h .0, go l (h .1))
+
+-- of none, none is selected
+pub none-chosen : (v : View) (source : ℕ) → prune v source [] ≡ []
+none-chosen v source = go (prune v source []) (chosen-given (v .sizes .degree) (v .sizes .alpha) (v .live) (slot-distance (v .space)) source [])
+  where
+    go : (l : List Candidate) → All (λ c. elem (c .id) [] ≡ true) l → l ≡ []
+    go [] h = refl
+    go (c ∷ l) h = absurd (true≢false (sym (h .0)))

@@ -9,3 +9,4 @@ mod Made
 pub mod Agree
 pub mod New
 pub mod Writes
+pub mod Reached
