@@ -6,8 +6,8 @@ cd "$(dirname "$0")/.."
 work=target/compare-search-and-prune
 rm -rf "$work"
 mkdir -p "$work/crates/exports/src"
-cp -r crates/lists crates/vectors crates/candidates crates/slots crates/walk crates/prune "$work/crates/"
-{ grep -E '^(lists|vectors|slots|candidates|walk|prune):' crates.txt; echo 'exports: lists vectors slots candidates walk prune'; } > "$work/crates.txt"
+cp -r crates/lists crates/vectors crates/distances crates/candidates crates/slots crates/walk crates/prune "$work/crates/"
+{ grep -E '^(lists|vectors|distances|slots|candidates|walk|prune):' crates.txt; echo 'exports: lists vectors distances slots candidates walk prune'; } > "$work/crates.txt"
 cat > "$work/crates/exports/src/lib.rt" <<'RT'
 ghost use Rattle.slots.specs.Store.{arrays};
 ghost use Rattle.walk.specs.contracts.Scratch as Scratch;

@@ -5,14 +5,14 @@ cd "$(dirname "$0")/../.."
 work=target/compare-distance
 rm -rf "$work"
 mkdir -p "$work/crates/exports/src"
-cp -r crates/lists crates/vectors "$work/crates/"
-printf 'lists:\nvectors: lists\nexports: vectors lists\n' > "$work/crates.txt"
+cp -r crates/lists crates/vectors crates/distances "$work/crates/"
+printf 'lists:\nvectors: lists\ndistances: lists vectors\nexports: lists vectors distances\n' > "$work/crates.txt"
 cat > "$work/crates/exports/src/lib.rt" <<'RT'
 #[no_mangle]
 pub extern "C" fn finder_distance(a: &[u8], b: &[u8]) -> u32 {
     if a.len() == b.len() {
         if a.len() <= 256 {
-            return vectors::distance(a, b);
+            return distances::distance(a, b);
         }
     }
     0

@@ -3,8 +3,8 @@
 use candidates::dist_at;
 use candidates::id_at;
 use candidates::put;
+use distances::slot_distance;
 use slots::marks::wide;
-use vectors::slot_distance;
 ghost use mathlib.Core.List.{_∷_};
 ghost use mathlib.Core.Path.{_≡_};
 ghost use Prim.Native.Nat.{_+_, _*_, min, _<_, _≤_};

@@ -39,7 +39,7 @@ fn raised(f: f32, alpha: f32, own: u32, dim: usize, vectors: &[u8], x: u32, y: u
     if f > alpha {
         return f;
     }
-    let pair = vectors::slot_distance(dim, vectors, wide(x), wide(y));
+    let pair = distances::slot_distance(dim, vectors, wide(x), wide(y));
     larger(f, candidates::quotient(own, pair))
 }
 

@@ -31,7 +31,7 @@ pub fn live_scored(
         let r = live_at(degree, targets, edges, versions, marks, slot, place);
         match r {
             Ref::At(t) => {
-                let dist = vectors::slot_distance(dim, vectors, slot, wide(t));
+                let dist = distances::slot_distance(dim, vectors, slot, wide(t));
                 candidates::put(scratch, at + 2 * n, dist, t);
                 n += 1;
             }

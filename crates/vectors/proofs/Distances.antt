@@ -10,7 +10,7 @@ use lib.Seq.{drop-cons}
 use Rattle.lists.specs.Lists.{All, part}
 use Rattle.vectors.specs.Distance.{squared-difference, distance}
 
--- ---- for the loop
+-- ---- for the loop of `distance`
 
 pub byte-square : {d : ℕ} → d < 256 → d * d ≤ 65025
 byte-square {d} h = let l : d ≤ 255 = omega arith in mul-le-mul l l
@@ -23,11 +23,20 @@ pub square-down : {x y : ℕ} → y ≤ x → (x - y) * (x - y) ≡ squared-diff
 unfolding squared-difference
 square-down {x} {y} h = let e : (x - y) + (y - x) ≡ x - y = omega arith in rw e
 
+pub square-sym : (x y : ℕ) → squared-difference x y ≡ squared-difference y x
+unfolding squared-difference
+square-sym x y = rw (add-comm (x - y) (y - x))
+
 -- one step of the sum, from the front
 pub distance-step : (a b : List ℕ) (i : ℕ) → i < length a → i < length b
     → distance (drop i a) (drop i b) ≡ squared-difference (getD a i 0) (getD b i 0) + distance (drop (i + 1) a) (drop (i + 1) b)
 unfolding distance
 distance-step a b i h k = rw (add-one, drop-cons a i 0, drop-cons b i 0)
+
+-- the same, to a place given otherwise
+pub distance-step-to : (a b : List ℕ) (i j : ℕ) → j ≡ i + 1 → i < length a → i < length b
+    → distance (drop i a) (drop i b) ≡ squared-difference (getD a i 0) (getD b i 0) + distance (drop j a) (drop j b)
+distance-step-to a b i j e h k = rw e (distance-step a b i h k)
 
 pub distance-end : (b : List ℕ) → distance [] b ≡ 0
 unfolding distance

@@ -1,12 +1,12 @@
 // The walk over the graph, in lent words: `graph_search`, the same with some slots left out, and `search_pool`.
 mod words;
 
+use distances::query_distance;
 use slots::marks::is_valid;
 use slots::marks::wide;
 use slots::rows::Ref;
 use slots::rows::live_at;
 use slots::scratch::MARKS;
-use vectors::query_distance;
 use words::EXPANDED;
 use words::Held;
 use words::MET;

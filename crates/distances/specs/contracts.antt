@@ -1,0 +1,2 @@
+-- The words of inner contracts. Nothing here has to be believed.
+pub mod Sums
