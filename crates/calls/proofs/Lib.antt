@@ -5,3 +5,4 @@ pub mod Reached
 pub mod Runs
 pub mod Instances
 pub mod Enabling
+pub mod Count

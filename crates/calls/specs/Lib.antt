@@ -6,5 +6,6 @@ pub mod Outputs
 pub mod History
 pub mod Reached
 pub mod Runs
+pub mod Count
 pub mod Instances
 pub mod Table

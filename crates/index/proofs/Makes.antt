@@ -11,12 +11,9 @@ use lib.Ieee.{Float}
 use lib.ListN.{length, drop, getD, drop-of-length-le}
 use lib.Seq.{drop-cons}
 use lib.Dec.{eqb, ltb}
-use Rattle.lists.specs.Lists.{filter, range}
-use Rattle.slots.specs.View.{live-slots}
 use Rattle.slots.specs.Store.{blank, store-view, store-ops}
-use Rattle.slots.specs.Plain.{new-plain}
 use Rattle.slots.specs.contracts.Making.{Room, New}
-use Rattle.slots.proofs.New.{Accepted, agree-new}
+use Rattle.slots.proofs.New.{Accepted}
 use Rattle.index.specs.declared.Index.{Index}
 use Rattle.index.specs.declared.Guard.the-variants.{Off}
 use Rattle.index.specs.declared.Created.{Created}
@@ -31,6 +28,7 @@ use Rattle.index.specs.contracts.Making.{fresh-index, making-of}
 use Rattle.index.specs.contracts.Deciding.{Judged}
 use Rattle.index.proofs.Decide.{first-number}
 use Rattle.calls.proofs.Tests.{none-judged, lengths-made, accepted}
+use Rattle.calls.proofs.Count.{stored-given}
 
 -- ---- row 5, one word a turn
 
@@ -104,28 +102,7 @@ module _ {m : Making} {lent : Lengths} {r₁ : Bool}
             let q = lengths-ok limits (m .sizes) lent in
             record { does = rw (sym (sized (m .sizes .alpha)) ∙ t₁, sym grown ∙ t₂, not-false q (sym (long (m .sizes .alpha)) ∙ t₃), sym given ∙ t₄) e }
 
--- ---- the live slots of a new index are those given
-
-none-above : (given a n : ℕ) → given ≤ a → length (filter (λ s. ltb s given) (range a n)) ≡ 0
-none-above given a zero h = refl
-none-above given a (suc n) h = rw (le-ltb a given h) (none-above given (suc a) n (omega arith))
-
-all-below : (given a n : ℕ) → a ≤ given → given ≤ a + n → a + length (filter (λ s. ltb s given) (range a n)) ≡ given
-all-below given a zero h k = omega arith
-all-below given a (suc n) h k = go (ltb a given) refl (λ l. all-below given (suc a) n l (omega arith))
-  where
-    rest : List ℕ
-    rest = filter (λ s. ltb s given) (range (suc a) n)
-
-    go : (q : Bool) → ltb a given ≡ q → (a < given → suc a + length rest ≡ given) → a + length (cond q (a ∷ rest) rest) ≡ given
-    go true e ih = omega (arith, ih (ltb-true a given e))
-    go false e ih = omega (arith, none-above given (suc a) n (omega (arith, ltb-false a given e)), ltb-false a given e)
-
-live-given : (m : Making) → Accepted (m .sizes) (m .count) (m .bytes) (m .rows) (m .entry) → length (live-slots (store-view (stored .new m))) ≡ m .count
-unfolding stored new-plain
-live-given m ok =
-    ap (λ v. length (live-slots v)) (agree-new (m .sizes) (m .count) (m .bytes) (m .rows) (m .entry) ok .same)
-    ∙ omega (arith, all-below (m .count) 0 (m .sizes .capacity) (omega arith) (omega (arith, ok .room)))
+-- ---- the new index
 
 -- what is written, with the new index by value, is what making makes
 made-new : {index : Index} {bytes rows : List ℕ} {s : Slices} → index .guard ≡ Off
@@ -135,7 +112,7 @@ made-new : {index : Index} {bytes rows : List ℕ} {s : Slices} → index .guard
 unfolding state-of made stored store-ops guard-of
 made-new {index} {bytes} {rows} g ok w = λ i. record {
   graph = record { arrays = w .does (index .alpha) i; capacity = index .capacity; alpha = index .alpha; entry = index .entry };
-  live = sym (live-given (making-of index bytes rows) ok) i;
+  live = sym (stored-given (making-of index bytes rows) ok) i;
   guard = ap guard-of g i;
   pool = w .pool-empty i;
 }

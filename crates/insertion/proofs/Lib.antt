@@ -7,4 +7,3 @@ pub mod Order
 pub mod Read
 pub mod ChunkRows
 pub mod Batching
-pub mod Free

@@ -18,6 +18,15 @@ module _ {A : Type 0} where
       go true = omega arith
       go false = omega arith
 
+  -- each element has p, or has it not
+  pub count-both : (p : A → Bool) (xs : List A) → length (filter p xs) + length (filter (λ x. not (p x)) xs) ≡ length xs
+  count-both p [] = refl
+  count-both p (x ∷ xs) = omega (arith, count-cons p x xs, count-cons (λ x. not (p x)) x xs, count-both p xs, one (p x))
+    where
+      one : (b : Bool) → cond b 1 0 + cond (not b) 1 0 ≡ 1
+      one true = refl
+      one false = refl
+
   pub filter-snoc : (p : A → Bool) (xs : List A) (y : A) → filter p (xs ++ (y ∷ [])) ≡ filter p xs ++ cond (p y) (y ∷ []) []
   filter-snoc p [] y = refl
   filter-snoc p (x ∷ xs) y = go (p x) (filter-snoc p xs y)

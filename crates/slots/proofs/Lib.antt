@@ -10,3 +10,4 @@ pub mod Agree
 pub mod New
 pub mod Writes
 pub mod Reached
+pub mod Live
