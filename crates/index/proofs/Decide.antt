@@ -9,12 +9,12 @@ use native.Mathlib.Omega.{arith}
 use borrow.Author.Tests.{leb-true, ltb-true, ltb-false, eqb-true, not-true, not-false, lt-leb, le-leb}
 use lib.Pow.{pow-pos, pow-add}
 use lib.Ieee.{Float}
-use lib.ListN.{length}
+use lib.ListN.{length, replicate, length-replicate}
 use lib.Dec.{eqb, ltb, leb}
 use Rattle.lists.proofs.Bools.{and-both}
 use Rattle.vectors.specs.Distance.{f32}
 use Rattle.lists.specs.Lists.{All, filter, range}
-use Rattle.slots.specs.Sizes.{Sizes, Slices, Lengths, lengths-of, limits, within, sizes-ok, alpha-ok, lengths-ok}
+use Rattle.slots.specs.Sizes.{Sizes, Slices, slices, Lengths, lengths-of, limits, within, sizes-ok, alpha-ok, lengths-ok}
 use Rattle.slots.specs.Scratch.{size-answer}
 use Rattle.vectors.specs.Vector.{Bytes}
 use Rattle.slots.specs.Store.{Store, is-valid, store-view, store-ops, arrays}
@@ -197,6 +197,46 @@ module _ {index : Index} {lent : Lengths} {marks : List ℕ} {wrong : Bool} {r�
   decided-after rest r z k =
       record { does = λ s e h. after-four (bad₁ index) (bad₂ index) (bad₃ index lent || wrong) (bad₆ index (s .marks) (index .capacity)) rest r (sym z ∙ d .does s e h) k }
 
+-- an index of which none of the four holds: all that a call may rest on
+four-passed : (index : Index) (s : Slices) (wrong : Bool) → Four (bad₁ index) (bad₂ index) (bad₃ index (lengths-of s) || wrong) (bad₆ index (s .marks) (index .capacity)) → Passed index s
+unfolding store-view state-of
+four-passed index s wrong f =
+    let m = sizes-of index in
+    let sized = not-false (sizes-ok limits m) (f .one) in
+    let b = ranges m sized in
+    let l = passed-lengths m (lengths-of s) (not-false (lengths-ok limits m (lengths-of s)) (or-neither (bad₃ index (lengths-of s)) wrong (f .three) .0)) in
+    let e = eqb (index .live) (length (filter (is-valid (s .marks)) (range 0 (index .capacity)))) in
+    let i = ltb (index .entry) (index .capacity) in
+    let o = or-neither (not e || not i) (guard-fault limits (guard-of (index .guard))) (f .six) in
+    let p = or-neither (not e) (not i) (o .0) in
+    record {
+      shaped = record {
+        vectors-long = ap (λ x. x .vectors) l;
+        targets-long = ap (λ x. x .targets) l;
+        edges-long = ap (λ x. x .edges) l;
+        versions-long = ap (λ x. x .versions) l;
+        marks-long = ap (λ x. x .marks) l;
+      };
+      pool-long = ap (λ x. x .pool) l;
+      dim-low = b .dim-low;
+      dim-high = b .dim-high;
+      capacity-low = b .capacity-low;
+      capacity-high = b .capacity-high;
+      degree-low = b .degree-low;
+      degree-high = b .degree-high;
+      sizes-right = sized;
+      alpha-right = not-false (alpha-ok (index .alpha)) (f .two);
+      entry-inside = ltb-true (index .entry) (index .capacity) (not-false i (p .1));
+      live-right = eqb-true (index .live) _ (not-false e (p .0));
+      guard-right = o .1;
+    }
+
+-- so of an index of which no test of a call holds
+pub passed-none : (index : Index) (s : Slices) (wrong : Bool) (rest : List Test) → All Numbered rest
+    → first-of (index-tests limits (lengths-of s) (shown stored (state-of index s)) wrong rest) ≡ none → Passed index s
+unfolding index-tests shown stored store-ops store-view state-of
+passed-none index s wrong rest p h = four-passed index s wrong (none-of _ _ _ _ rest p (ap or-zero h))
+
 module _ (index : Index) (s : Slices) {wrong : Bool} {rest : List Test} {r : ℕ} (p : All Numbered rest) (d : Decided index (lengths-of s) (s .marks) wrong rest r) where
   abbrev shared : List Test
   shared = four (bad₁ index) (bad₂ index) (bad₃ index (lengths-of s) || wrong) (bad₆ index (s .marks) (index .capacity)) rest
@@ -227,38 +267,29 @@ module _ (index : Index) (s : Slices) {wrong : Bool} {rest : List Test} {r : ℕ
 
   -- and says all that a call may rest on
   pub passed : r ≡ 0 → Passed index s
+  passed z = four-passed index s wrong (none-found z)
+
+-- before a call's own tests: the live count is that of the marks, whatever the other slices hold
+module _ (index : Index) {lent : Lengths} {marks : List ℕ} {wrong : Bool} (long : lent .marks ≡ length marks) (d : Decided index lent marks wrong [] 0) where
+  abbrev some-slices : Slices
+  some-slices = slices (replicate (lent .vectors) 0) (replicate (lent .targets) 0) (replicate (lent .edges) 0) (replicate (lent .versions) 0) marks (replicate (lent .pool) 0)
+
+  zeros : (n : ℕ) → n ≡ length (replicate {A = ℕ} n 0)
+  zeros n = sym (length-replicate {A = ℕ} n 0)
+
+  so-long : lent ≡ lengths-of some-slices
+  so-long = λ i. record {
+    vectors = zeros (lent .vectors) i;
+    targets = zeros (lent .targets) i;
+    edges = zeros (lent .edges) i;
+    versions = zeros (lent .versions) i;
+    marks = long i;
+    pool = zeros (lent .pool) i;
+  }
+
+  pub decided-live : index .live ≡ length (filter (is-valid marks) (range 0 (index .capacity)))
   unfolding store-view state-of
-  passed z =
-      let f = none-found z in
-      let m = sizes-of index in
-      let sized = not-false (sizes-ok limits m) (f .one) in
-      let b = ranges m sized in
-      let l = passed-lengths m (lengths-of s) (not-false (lengths-ok limits m (lengths-of s)) (or-neither (bad₃ index (lengths-of s)) wrong (f .three) .0)) in
-      let e = eqb (index .live) (length (filter (is-valid (s .marks)) (range 0 (index .capacity)))) in
-      let i = ltb (index .entry) (index .capacity) in
-      let o = or-neither (not e || not i) (guard-fault limits (guard-of (index .guard))) (f .six) in
-      let p = or-neither (not e) (not i) (o .0) in
-      record {
-        shaped = record {
-          vectors-long = ap (λ x. x .vectors) l;
-          targets-long = ap (λ x. x .targets) l;
-          edges-long = ap (λ x. x .edges) l;
-          versions-long = ap (λ x. x .versions) l;
-          marks-long = ap (λ x. x .marks) l;
-        };
-        pool-long = ap (λ x. x .pool) l;
-        dim-low = b .dim-low;
-        dim-high = b .dim-high;
-        capacity-low = b .capacity-low;
-        capacity-high = b .capacity-high;
-        degree-low = b .degree-low;
-        degree-high = b .degree-high;
-        sizes-right = sized;
-        alpha-right = not-false (alpha-ok (index .alpha)) (f .two);
-        entry-inside = ltb-true (index .entry) (index .capacity) (not-false i (p .1));
-        live-right = eqb-true (index .live) _ (not-false e (p .0));
-        guard-right = o .1;
-      }
+  decided-live = passed index some-slices tt (subst (λ n. Decided index n marks wrong [] 0) so-long d) refl .live-right
 
 -- what the functions on rows and on vectors ask
 module _ {index : Index} {s : Slices} (p : Passed index s) where
