@@ -7,7 +7,8 @@
  *     4 entry      5 live count    6 guard: 0 is off, any other value on
  *     7 landmark count    8 multiplier    9 sample    10 beam    11 length of the landmark pool
  *
- * Words 7 to 11 count only where the guard is on; a new index has 0 there. The six slices, in the order of the parameters:
+ * Words 7 to 11 count only where the guard is on. A function that writes the words writes 1 to word 6 where the guard is on, else 0 to words 6 to 11.
+ * The six slices, in the order of the parameters:
  *
  *     vectors   capacity * dim       the bytes of each slot's vector
  *     targets   capacity * degree    the references of each slot's row; FINDER_BLANK is no reference
@@ -67,6 +68,8 @@ extern "C" {
 #define FINDER_BAD_INDEX 6      /* the live count differs from the marks, the entry is not below capacity, or the guard is on with a setting or a pool outside its range */
 #define FINDER_OVER_LIMIT 7     /* a beam over FINDER_MAX_BEAM, or k over the length of an output */
 #define FINDER_SHORT_SCRATCH 8  /* the scratch is shorter than finder_scratch_words says */
+#define FINDER_BAD_BATCH 9      /* the bytes to be inserted are no whole number of vectors */
+#define FINDER_FULL 10          /* fewer slots are free than vectors are to be inserted */
 
 /*
  * How many words of scratch the calls on an index of these sizes ask for, at most 8,388,608. Written to *size.
@@ -133,6 +136,20 @@ size_t finder_vector(const uint32_t words[FINDER_INDEX_WORDS], FINDER_LENT, uint
 uint32_t finder_search(const uint32_t words[FINDER_INDEX_WORDS], FINDER_LENT,
     const uint8_t *query, size_t query_len, uint32_t k, uint32_t beam,
     uint32_t *slots, size_t slots_len, float *dists, size_t dists_len, uint32_t *scratch, size_t scratch_len,
+    uint32_t *found);
+
+/*
+ * Inserts a batch: bytes has the vectors, one after the other, bytes_len / dim of them. They go into the lowest free slots, the first vector into the
+ * lowest. Each new row is pruned from a walk from the entry with a list of at most beam slots (at least degree), and the rows that it names take the new
+ * slot up. The number of the vectors is written to *found and the slots that they got to the first *found places of slots, lowest first; the places after
+ * them stay. The words have the new live count; versions and pool are only read. The scratch is overwritten.
+ * Refusals, in order: 1, 2, 3 (one of the six slices, or fewer places in slots than vectors), 6, 7, 8, 9, 10.
+ */
+uint32_t finder_insert(uint32_t words[FINDER_INDEX_WORDS],
+    uint8_t *vectors, size_t vectors_len, uint32_t *targets, size_t targets_len, uint16_t *edges, size_t edges_len,
+    const uint16_t *versions, size_t versions_len, uint8_t *marks, size_t marks_len, const uint32_t *pool, size_t pool_len,
+    const uint8_t *bytes, size_t bytes_len, uint32_t beam,
+    uint32_t *slots, size_t slots_len, uint32_t *scratch, size_t scratch_len,
     uint32_t *found);
 
 #ifdef __cplusplus

@@ -106,6 +106,40 @@ static int search(void)
     return 0;
 }
 
+static int insert(void)
+{
+    uint32_t size = 0;
+    uint32_t found = 77;
+    uint32_t n = 77;
+    CHECK(finder_scratch_words(DIM, CAPACITY, DEGREE, &size) == 0);
+    uint8_t *bytes = block(2 * DIM);
+    uint32_t *slots = block(2 * sizeof *slots);
+    uint32_t *scratch = block(size * sizeof *scratch);
+    bytes[0] = 6;
+    bytes[1] = 7;
+    slots[0] = 77;
+    slots[1] = 77;
+    CHECK(finder_insert(words, SLICES, bytes, 2 * DIM, 2, slots, 1, scratch, size, &found) == FINDER_BAD_LENGTH);
+    CHECK(finder_insert(words, SLICES, bytes, 2 * DIM, 2, slots, 2, scratch, size, &found) == FINDER_FULL);
+    CHECK(found == 77 && slots[0] == 77 && marks[3] == 0 && words[5] == COUNT);
+    CHECK(finder_insert(words, SLICES, bytes, DIM, 2, slots, 2, scratch, size, &found) == 0);
+    CHECK(found == 1 && slots[0] == 3 && slots[1] == 77);
+    CHECK(finder_live(words, SLICES, &n) == 0 && n == CAPACITY);
+    CHECK(finder_vector(words, SLICES, 3) == DIM && vectors[3 * DIM] == 6);
+    CHECK(finder_target(words, SLICES, 3, 0, &n) == 0 && n == 1);
+    CHECK(finder_target(words, SLICES, 3, 1, &n) == 0 && n == 2);
+    CHECK(finder_target(words, SLICES, 1, 0, &n) == 0 && n == 0);
+    CHECK(finder_target(words, SLICES, 1, 1, &n) == 0 && n == 3);
+    CHECK(finder_target(words, SLICES, 2, 0, &n) == 0 && n == 3);
+    CHECK(finder_target(words, SLICES, 2, 1, &n) == 0 && n == FINDER_BLANK);
+    printf("6 is inserted into slot %u\n", (unsigned)slots[0]);
+    CHECK(finder_insert(words, SLICES, bytes, DIM, 2, slots, 2, scratch, size, &found) == FINDER_FULL && found == 1);
+    free(bytes);
+    free(slots);
+    free(scratch);
+    return 0;
+}
+
 static int refuse(void)
 {
     uint32_t n = 77;
@@ -114,7 +148,7 @@ static int refuse(void)
     words[5] = 2;
     CHECK(finder_dim(words, SLICES, &n) == FINDER_BAD_INDEX && n == 77);
     CHECK(finder_vector(words, SLICES, 2) == 0);
-    printf("an index with a live count of 2 and three marks: refused with %d\n", FINDER_BAD_INDEX);
+    printf("an index with a live count of 2 and four marks: refused with %d\n", FINDER_BAD_INDEX);
     words[3] = 0x7fc00000u;
     CHECK(finder_dim(words, SLICES, &n) == FINDER_BAD_ALPHA && n == 77);
     return 0;
@@ -125,7 +159,7 @@ int main(void)
     lend();
     CHECK(make(3.0f) == FINDER_BAD_ALPHA);
     CHECK(make(1.0f) == 0);
-    int wrong = read_all() || search() || refuse();
+    int wrong = read_all() || search() || insert() || refuse();
     take_back();
     return wrong;
 }

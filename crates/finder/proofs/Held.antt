@@ -1,13 +1,13 @@
 -- An index in words: what is written is read back, and no NaN passes. Assumes nothing.
 use Prim.Native.Nat.{ℕ, _%_, _≤_, _<_}
-use mathlib.Core.Bool.{true, false, not, _&&_}
+use mathlib.Core.Bool.{Bool, true, false, not, _&&_, cond}
 use mathlib.Core.List.{List, [], _∷_}
 use mathlib.Core.Path.{_≡_, refl, sym, ap, _∙_, subst}
 use native.Mathlib.Omega.{arith}
 use borrow.Author.Tests.{lt-ltb, le-ltb}
 use lib.Dec.{T}
 use lib.Ieee.{Float, nan, inf, fin, binary32, ofBits, toBits, nanBits, isNan, fits, le, lt, eq}
-use lib.Ieee.Bits.{is-false, nanBits-is, nanBits-above, ofBits-toBits}
+use lib.Ieee.Bits.{is-false, ofBits-fits, nanBits-is, nanBits-above, ofBits-toBits}
 use Rattle.vectors.specs.Distance.{f32}
 use Rattle.candidates.proofs.Floats.{one-bits}
 use Rattle.slots.specs.Sizes.{alpha-ok}
@@ -59,6 +59,15 @@ zero-bad = ap (λ x. le x (ofBits binary32 0) && le (ofBits binary32 0) (f32 2))
 -- a NaN's bits in word 3 do not pass
 pub nan-bad : (n : ℕ) → nanBits binary32 n ≡ true → alpha-ok (alpha-of n) ≡ false
 nan-bad n e = ap alpha-ok (sym (alpha-nan n e)) ∙ zero-bad
+
+-- alpha in a word is an f32
+pub alpha-fits : (n : ℕ) → T (fits binary32 (alpha-of n))
+unfolding alpha-of
+alpha-fits n = go (nanBits binary32 n)
+  where
+    go : (q : Bool) → T (fits binary32 (cond q (ofBits binary32 0) (ofBits binary32 n)))
+    go true = ofBits-fits binary32 0
+    go false = ofBits-fits binary32 n
 
 alpha-held : (a : Float) → T (fits binary32 a) → T (not (isNan a)) → alpha-of (toBits binary32 a) ≡ a
 alpha-held a f h =

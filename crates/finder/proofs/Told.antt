@@ -45,7 +45,7 @@ use Rattle.finder.proofs.Held.{alpha-right, words-hold}
 
 -- ---- a number of the table is not 0
 
-positive : (ts : List Test) {n : ℕ} → All Numbered ts → first-of ts ≡ some n → n ≡ 0 → ⊥
+pub positive : (ts : List Test) {n : ℕ} → All Numbered ts → first-of ts ≡ some n → n ≡ 0 → ⊥
 positive [] p e z = let y : _≡_ {A = ℕ} 0 1 = cc in omega arith
 positive ((k, true) ∷ ts) {n} p e z = let y : k ≡ n = cc in omega (arith, p .0)
 positive ((k, false) ∷ ts) p e z = positive ts (p .1) e z
@@ -58,12 +58,12 @@ making-positive lent m e =
 -- ---- a status, and what is written beside it
 
 -- what they tell of an answer v, given how what is written makes one and how a number does
-record Told {A B : Type 0} (given : A → B) (back : ℕ → B) (v : B) (before after : A) (status : ℕ) : Type 0 where
+pub record Told {A B : Type 0} (given : A → B) (back : ℕ → B) (v : B) (before after : A) (status : ℕ) : Type 0 where
   pub says : v ≡ cond (eqb status 0) (given after) (back status)
   pub kept : (status ≡ 0 → ⊥) → after ≡ before
 
 module _ {A B : Type 0} (given : A → B) (back : ℕ → B) {v : B} {before after : A} {status : ℕ} where
-  told-back : {n : ℕ} → (n ≡ 0 → ⊥) → v ≡ back n → _≡_ {A = ℕ × A} (status, after) (n, before) → Told given back v before after status
+  pub told-back : {n : ℕ} → (n ≡ 0 → ⊥) → v ≡ back n → _≡_ {A = ℕ × A} (status, after) (n, before) → Told given back v before after status
   told-back z e f =
       let s = ap (λ x. x .0) f in
       record {
@@ -71,7 +71,7 @@ module _ {A B : Type 0} (given : A → B) (back : ℕ → B) {v : B} {before aft
         kept = λ y. ap (λ x. x .1) f;
       }
 
-  told-on : {x : A} → v ≡ given x → _≡_ {A = ℕ × A} (status, after) (0, x) → Told given back v before after status
+  pub told-on : {x : A} → v ≡ given x → _≡_ {A = ℕ × A} (status, after) (0, x) → Told given back v before after status
   told-on e f =
       let s = ap (λ y. y .0) f in
       record {

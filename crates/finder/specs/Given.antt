@@ -8,7 +8,7 @@ use lib.Dec.{eqb}
 use lib.Ieee.{Float}
 use lib.ListN.{length, take, drop}
 use Rattle.slots.specs.Sizes.{Slices}
-use Rattle.calls.specs.Calls.{Making, Search}
+use Rattle.calls.specs.Calls.{Making, Search, Insert}
 use Rattle.calls.specs.Outputs.{Outputs}
 use Rattle.index.specs.declared.ScratchWords.{ScratchWords}
 use Rattle.index.specs.declared.ScratchWords.the-variants.{Refused as no-size, Words as sized}
@@ -24,6 +24,9 @@ use Rattle.reading.specs.declared.Found.{Found}
 use Rattle.reading.specs.declared.Found.the-variants.{Refused as none-found, Found as Nearest}
 use Rattle.reading.specs.Read.{Reads, Reads-vector}
 use Rattle.reading.specs.Search.{Searches}
+use Rattle.updating.specs.declared.Inserted.{Inserted}
+use Rattle.updating.specs.declared.Inserted.the-variants.{Refused as not-inserted, Done as Filled}
+use Rattle.updating.specs.Insert.{Inserts}
 use Rattle.finder.specs.IndexWords.{index-of, words-of}
 
 -- ---- the size answer
@@ -101,3 +104,15 @@ found-given status n = cond (eqb status 0) (Nearest n) (none-found status)
 pub record Searches-words (words : List ℕ) (s : Slices) (a : Search) (outputs : Outputs) (scratch : List ℕ) (outputs′ : Outputs) (scratch′ : List ℕ) (found found′ status : ℕ) : Type 0 where
   pub does : Searches (index-of words) s a outputs scratch outputs′ scratch′ (found-given status found′)
   pub kept : (status ≡ 0 → ⊥) → found′ ≡ found
+
+-- ---- insert
+
+-- what a status, the index's words and a number give
+abbrev pub inserted-given : ℕ → List ℕ → ℕ → Inserted
+inserted-given status words n = cond (eqb status 0) (Filled (index-of words) n) (not-inserted status)
+
+-- what `finder_insert` promises
+pub record Inserts-words (words : List ℕ) (s : Slices) (a : Insert) (outputs : Outputs) (scratch words′ : List ℕ) (s′ : Slices) (outputs′ : Outputs) (scratch′ : List ℕ) (found found′ status : ℕ) : Type 0 where
+  pub does : Inserts (index-of words) s a outputs scratch s′ outputs′ scratch′ (inserted-given status words′ found′)
+  pub written : status ≡ 0 → words′ ≡ words-of (index-of words′)
+  pub kept : (status ≡ 0 → ⊥) → (words′ ≡ words) × (found′ ≡ found)

@@ -1,6 +1,7 @@
-// The calls of the crates `index` and `reading` for C and Rust: include/finder.h describes each function.
+// The calls of the crates `index`, `reading` and `updating` for C and Rust: include/finder.h describes each function.
 // An index is twelve words of 32 bits beside the six slices.
 mod index_words;
+mod inserting;
 mod making;
 mod readings;
 mod search;

@@ -27,6 +27,10 @@ pub enum Error {
     Limit = 7,
     /// The scratch is too short.
     Scratch = 8,
+    /// The bytes to be inserted are no whole number of vectors.
+    Batch = 9,
+    /// Fewer slots are free than vectors are to be inserted.
+    Full = 10,
 }
 
 impl Error {
@@ -41,6 +45,8 @@ impl Error {
             6 => Error::Index,
             7 => Error::Limit,
             8 => Error::Scratch,
+            9 => Error::Batch,
+            10 => Error::Full,
             _ => unreachable!("no refusal has the number {status}"),
         })
     }
@@ -233,6 +239,41 @@ impl Finder {
         ))?;
         Ok(slots.into_iter().zip(dists).take(found as usize).collect())
     }
+
+    /// Inserts the vectors of `bytes` into the lowest free slots, and gives their slots.
+    pub fn insert(&mut self, bytes: &[u8], beam: u32) -> Result<Vec<u32>, Error> {
+        let mut slots = vec![0; bytes.len() / self.dim()?.max(1) as usize];
+        let mut found = 0;
+        // SAFETY: each pointer is that of a whole slice with its length, and what is written is borrowed by this call alone.
+        let status = unsafe {
+            raw::finder_insert(
+                &mut self.words,
+                self.vectors.as_mut_ptr(),
+                self.vectors.len(),
+                self.targets.as_mut_ptr(),
+                self.targets.len(),
+                self.edges.as_mut_ptr(),
+                self.edges.len(),
+                self.versions.as_ptr(),
+                self.versions.len(),
+                self.marks.as_mut_ptr(),
+                self.marks.len(),
+                self.pool.as_ptr(),
+                self.pool.len(),
+                bytes.as_ptr(),
+                bytes.len(),
+                beam,
+                slots.as_mut_ptr(),
+                slots.len(),
+                self.scratch.as_mut_ptr(),
+                self.scratch.len(),
+                &mut found,
+            )
+        };
+        Error::of(status)?;
+        slots.truncate(found as usize);
+        Ok(slots)
+    }
 }
 
 #[cfg(test)]
@@ -261,6 +302,22 @@ mod tests {
         let mut f = shelf();
         assert_eq!(f.search(&[2], 2, 2), Ok(vec![(1, 1.0), (0, 4.0)]));
         assert_eq!(f.search(&[0], 1, 1), Ok(vec![(1, 9.0)]));
+    }
+
+    #[test]
+    fn inserts() {
+        let mut f = shelf();
+        assert_eq!(f.insert(&[6, 7], 2), Err(Error::Full));
+        assert_eq!(f.live(), Ok(3));
+        assert_eq!(f.insert(&[], 2), Ok(vec![]));
+        assert_eq!(f.insert(&[6], 2), Ok(vec![3]));
+        assert_eq!((f.live(), f.mark(3), f.vector(3)), (Ok(4), Ok(true), &[6][..]));
+        assert_eq!((f.target(3, 0), f.target(3, 1), f.target(3, 2)), (Ok(Some(1)), Ok(Some(2)), Ok(None)));
+        assert_eq!((f.target(2, 0), f.target(2, 1)), (Ok(Some(3)), Ok(None)));
+        assert_eq!(f.search(&[6], 1, 4), Ok(vec![(3, 0.0)]));
+        let mut pairs = Finder::create(2, 4, 2, 1.0, 0, 0, &[], &[]).unwrap();
+        assert_eq!(pairs.insert(&[1, 2, 3], 4), Err(Error::Batch));
+        assert_eq!(pairs.insert(&[1, 2, 3, 4], 4), Ok(vec![0, 1]));
     }
 
     #[test]

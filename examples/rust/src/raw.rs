@@ -34,6 +34,30 @@ extern "C" {
         pool_len: usize,
         words: *mut IndexWords,
     ) -> u32;
+
+    pub fn finder_insert(
+        words: *mut IndexWords,
+        vectors: *mut u8,
+        vectors_len: usize,
+        targets: *mut u32,
+        targets_len: usize,
+        edges: *mut u16,
+        edges_len: usize,
+        versions: *const u16,
+        versions_len: usize,
+        marks: *mut u8,
+        marks_len: usize,
+        pool: *const u32,
+        pool_len: usize,
+        bytes: *const u8,
+        bytes_len: usize,
+        beam: u32,
+        slots: *mut u32,
+        slots_len: usize,
+        scratch: *mut u32,
+        scratch_len: usize,
+        found: *mut u32,
+    ) -> u32;
 }
 
 // Declares functions that take an index and its six slices first, and then what is named.

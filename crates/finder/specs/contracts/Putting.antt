@@ -11,6 +11,8 @@ use Rattle.reading.specs.declared.Value.{Value}
 use Rattle.reading.specs.declared.Value.the-variants.{Refused, Number, Alpha as Factor, Version as Stamp}
 use Rattle.reading.specs.declared.Found.{Found}
 use Rattle.reading.specs.declared.Found.the-variants.{Refused as none-found, Found as Nearest}
+use Rattle.updating.specs.declared.Inserted.{Inserted}
+use Rattle.updating.specs.declared.Inserted.the-variants.{Refused as not-inserted, Done as Filled}
 use Rattle.finder.specs.IndexWords.{words-of}
 
 -- the status of a making, and what is left in the index's words
@@ -48,3 +50,8 @@ alpha-put (Stamp n) value = (0, value)
 unfoldable pub found-put : Found → ℕ → ℕ × ℕ
 found-put (none-found n) found = (n, found)
 found-put (Nearest n) found = (0, n)
+
+-- the status of an insert, and what is left in the index's words and where the number of slots filled is to be written
+unfoldable pub inserted-put : Inserted → List ℕ → ℕ → ℕ × (List ℕ × ℕ)
+inserted-put (not-inserted n) words found = (n, (words, found))
+inserted-put (Filled i n) words found = (0, (words-of i, n))
