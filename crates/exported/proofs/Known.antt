@@ -13,7 +13,7 @@ use Rattle.vectors.specs.Distance.{f32}
 use Rattle.candidates.specs.Candidates.{Candidate}
 use Rattle.slots.specs.Sizes.{Slices, lengths-of, limits}
 use Rattle.slots.specs.Store.{Store, store-view}
-use Rattle.calls.specs.Calls.{Making, Search, Operation, create, read, read-vector, search, Answer, refused, created, alpha, vector, refused-as}
+use Rattle.calls.specs.Calls.{Making, Search, Insert, Operation, create, read, read-vector, search, insert, Answer, refused, created, alpha, vector, refused-as}
 use Rattle.calls.specs.Calls as Answers
 use Rattle.calls.specs.Outputs.{Outputs, no-outputs, written}
 use Rattle.calls.specs.Refusals.{first-of, making-tests, tests}
@@ -35,9 +35,11 @@ use Rattle.reading.specs.declared.Found.{Found}
 use Rattle.reading.specs.declared.Found.the-variants.{Refused as none-found, Found as Nearest}
 use Rattle.reading.specs.Read.{reading-of, answer-of, Reads}
 use Rattle.reading.specs.Search.{found-as, search-outputs}
+use Rattle.updating.specs.declared.Inserted.the-variants.{Refused as not-inserted, Done as Filled}
+use Rattle.updating.specs.Insert.{insert-outputs, inserted-as, index-after}
 use Rattle.finder.specs.IndexWords.{index-of, words-of}
-use Rattle.finder.specs.Given.{created-given, Creates-words, value-in, bytes-at, Reads-length, Searches-words}
-use Rattle.exported.specs.Runs.{Memory, Places, places, nowhere, in-value, in-alpha, in-version, Exported-run, making, looking, number, Exported, finder-create, finder-dim, finder-capacity, finder-degree, finder-entry, finder-live, finder-mark, finder-slot-version, finder-target, finder-alpha, finder-vector, finder-search}
+use Rattle.finder.specs.Given.{created-given, Creates-words, value-in, bytes-at, Reads-length, Searches-words, inserted-given, Inserts-words}
+use Rattle.exported.specs.Runs.{Memory, Places, places, nowhere, in-value, in-alpha, in-version, Exported-run, making, changing, looking, number, Exported, finder-create, finder-dim, finder-capacity, finder-degree, finder-entry, finder-live, finder-mark, finder-slot-version, finder-target, finder-alpha, finder-vector, finder-search, finder-insert}
 use Rattle.exported.specs.History.{put, Untouched}
 
 abbrev pub state-in : Memory → State Store
@@ -169,20 +171,37 @@ module _ {m : Making} {lent left : Memory} {status : ℕ} (c : Creates-words m (
     makes = λ m q z. c .written z;
   }
 
--- ---- a run that leaves the memory
+-- ---- a run that is no making
 
-known-looking : {o : Operation} {lent : Memory} {scratch scratch′ : List ℕ} {before after : Places} {returned : ℕ} → ((m : Making) → o ≡ create m → ⊥) → (answer : Answer)
-    → Meets (as-run (looking o lent scratch scratch′ before after returned) answer) → (returned, after) ≡ put answer before → ((n : ℕ) → put (refused-as n o) before .1 ≡ before)
-    → Known (looking o lent scratch scratch′ before after returned)
-known-looking other answer f t stays = record {
+-- where it is turned back the state is as it was, and so are the slices
+left-slices : (r : Exported-run) (answer : Answer) → Meets (as-run r answer) → (n : ℕ) → run-refusal (as-run r answer) ≡ some n → r .left .slices ≡ r .lent .slices
+unfolding run-refusal call-of step settle slices-of state-of
+left-slices r answer f n h =
+    let x = as-run r answer in
+    ap slices-of (ap (λ (y : State Store × Answer). y .0) (f .does ∙ ap (settle stored (x .before) (call-of x)) h))
+
+known-changing : {o : Operation} {lent left : Memory} {scratch scratch′ : List ℕ} {before after : Places} {returned : ℕ} → ((m : Making) → o ≡ create m → ⊥) → (answer : Answer)
+    → let r = changing o lent left scratch scratch′ before after returned in
+    Meets (as-run r answer) → (returned, after) ≡ put answer before → ((n : ℕ) → put (refused-as n o) before .1 ≡ before)
+    → ((n : ℕ) → run-refusal (as-run r answer) ≡ some n → left .words ≡ lent .words) → (Right lent → Right left) → Known r
+known-changing {o} {lent} {left} {scratch} {scratch′} {before} {after} {returned} other answer f t stays words right = record {
   answer = answer;
   meets = f;
   tells = t;
   judges = λ m q. absurd (other m q);
-  untouched = λ n h. record { memory = refl; scratch = f .keeps n h; places = refused-places _ answer f t stays n h };
-  right = λ h. h;
+  untouched = λ n h. record {
+    memory = let w = words n h in let s = left-slices (changing o lent left scratch scratch′ before after returned) answer f n h in λ i. record { words = w i; slices = s i };
+    scratch = f .keeps n h;
+    places = refused-places _ answer f t stays n h;
+  };
+  right = right;
   makes = λ m q z. absurd (other m q);
 }
+
+known-looking : {o : Operation} {lent : Memory} {scratch scratch′ : List ℕ} {before after : Places} {returned : ℕ} → ((m : Making) → o ≡ create m → ⊥) → (answer : Answer)
+    → Meets (as-run (looking o lent scratch scratch′ before after returned) answer) → (returned, after) ≡ put answer before → ((n : ℕ) → put (refused-as n o) before .1 ≡ before)
+    → Known (looking o lent scratch scratch′ before after returned)
+known-looking other answer f t stays = known-changing other answer f t stays (λ n h. refl) (λ h. h)
 
 -- ---- readings
 
@@ -250,6 +269,95 @@ module _ {lent : Memory} {a : Search} {slots slots′ : List ℕ} {dists dists�
       λ i. places (c .kept z i) (f32 0) 0 [] (o i)))
       (λ n. refl)
 
+-- ---- insert
+
+inserted-answer : (status n : ℕ) (i : Index) (ss : List ℕ) (b : Bool) → inserted-as (cond b (Filled i n) (not-inserted status)) ss ≡ cond b (Answers.inserted ss) (refused status)
+unfolding inserted-as
+inserted-answer status n i ss true = refl
+inserted-answer status n i ss false = refl
+
+module _ {lent left : Memory} {a : Insert} {slots slots′ scratch scratch′ : List ℕ} {found found′ status : ℕ}
+    (c : Inserts-words (lent .words) (lent .slices) a (insert-outputs slots) scratch (left .words) (left .slices) (insert-outputs slots′) scratch′ found found′ status) where
+  abbrev before-insert : Places
+  before-insert = places found (f32 0) 0 [] (insert-outputs slots)
+
+  abbrev after-insert : Places
+  after-insert = places found′ (f32 0) 0 [] (insert-outputs slots′)
+
+  abbrev insert-run : Exported-run
+  insert-run = changing (insert a) lent left scratch scratch′ before-insert after-insert status
+
+  abbrev filled : List ℕ
+  filled = c .does .filled
+
+  abbrev insert-answer : Answer
+  insert-answer = by-status status (Answers.inserted filled)
+
+  -- the index that the contract leaves is the one in the words
+  left-index : index-after (index-of (lent .words)) (inserted-given status (left .words) found′) ≡ index-of (left .words)
+  unfolding index-after
+  left-index = go (eqb status 0) refl
+    where
+      go : (b : Bool) → eqb status 0 ≡ b → index-after (index-of (lent .words)) (cond b (Filled (index-of (left .words)) found′) (not-inserted status)) ≡ index-of (left .words)
+      go true e = refl
+      go false e = ap index-of (sym (c .kept (eqb-false status 0 e) .0))
+
+  insert-meets : Meets (as-run insert-run insert-answer)
+  insert-meets =
+      let e = inserted-answer status found′ (index-of (left .words)) filled (eqb status 0) in
+      subst Meets
+      (λ i. record {
+        operation = insert a;
+        before = state-in lent;
+        after = state-of (left-index i) (left .slices);
+        answer = e i;
+        outputs-before = insert-outputs slots;
+        outputs-after = insert-outputs slots′;
+        scratch-before = scratch;
+        scratch-after = scratch′;
+      })
+      (c .does .meets)
+
+  insert-words-kept : (n : ℕ) → run-refusal (as-run insert-run insert-answer) ≡ some n → left .words ≡ lent .words
+  unfolding run-refusal call-of step settle refused-as
+  insert-words-kept n h = go (eqb status 0) refl
+    where
+      x : Runs.Run
+      x = as-run insert-run insert-answer
+
+      told : insert-answer ≡ refused n
+      told = ap (λ (y : State Store × Answer). y .1) (insert-meets .does ∙ ap (settle stored (x .before) (call-of x)) h)
+
+      go : (b : Bool) → eqb status 0 ≡ b → left .words ≡ lent .words
+      go true e =
+          let f : Answers.inserted filled ≡ refused n = sym (ap (λ b. cond b (Answers.inserted filled) (refused status)) e) ∙ told in
+          absurd (let z : _≡_ {A = ℕ} 0 1 = cc in omega arith)
+      go false e = c .kept (eqb-false status 0 e) .0
+
+  insert-rightly : Right lent → Right left
+  insert-rightly h = go (eqb status 0) refl
+    where
+      go : (b : Bool) → eqb status 0 ≡ b → Right left
+      go true e = c .written (eqb-true status 0 e)
+      go false e = subst (λ w. w ≡ words-of (index-of w)) (sym (c .kept (eqb-false status 0 e) .0)) h
+
+  known-insert : Known insert-run
+  unfolding put written refused-as
+  known-insert =
+      let f = insert-meets in
+      known-changing (λ m e. let z : _≡_ {A = ℕ} 0 1 = cc in omega arith) insert-answer f
+      (status-tells status (Answers.inserted filled) before-insert after-insert
+      (λ z.
+      let b = eq-eqb status 0 z in
+      let n : found′ ≡ length filled = c .does .counts (index-of (left .words)) found′ (ap (λ b. cond b (Filled (index-of (left .words)) found′) (not-inserted status)) b) in
+      let o = f .writes ∙ ap (λ b. written (cond b (Answers.inserted filled) (refused status)) (insert-outputs slots)) b in
+      λ i. (0, places (sym n i) (f32 0) 0 [] (sym o i)))
+      (λ z.
+      let b = ne-eqb status 0 z in
+      let o = f .writes ∙ ap (λ b. written (cond b (Answers.inserted filled) (refused status)) (insert-outputs slots)) b in
+      λ i. places (c .kept z .1 i) (f32 0) 0 [] (o i)))
+      (λ n. refl) insert-words-kept insert-rightly
+
 -- ---- every exported function
 
 pub known : {r : Exported-run} → Exported r → Known r
@@ -266,3 +374,4 @@ known (finder-target {slot} {place} c) = known-reading (Target slot place) _ (c 
 known (finder-alpha c) = known-reading Alpha _ (c .does) refl (λ z. ap in-alpha (c .kept z))
 known (finder-vector c) = known-vector c
 known (finder-search c) = known-search c
+known (finder-insert c) = known-insert c

@@ -5,12 +5,13 @@ use mathlib.Core.List.{List, []}
 use lib.Ieee.{Float}
 use Rattle.vectors.specs.Distance.{f32}
 use Rattle.slots.specs.Sizes.{Slices}
-use Rattle.calls.specs.Calls.{Making, read-dim, read-capacity, read-degree, read-alpha, read-entry, read-live, read-mark, read-version, read-target, Search, Operation, create, read, read-vector, search}
+use Rattle.calls.specs.Calls.{Making, read-dim, read-capacity, read-degree, read-alpha, read-entry, read-live, read-mark, read-version, read-target, Search, Insert, Operation, create, read, read-vector, search, insert}
 use Rattle.calls.specs.Calls as Calls
 use Rattle.calls.specs.Outputs.{Outputs, no-outputs}
 use Rattle.reading.specs.declared.Reading.the-variants.{Dim, Capacity, Degree, Entry, Live, Mark, Version, Target}
 use Rattle.reading.specs.Search.{search-outputs}
-use Rattle.finder.specs.Given.{Creates-words, Reads-number, Reads-alpha, bytes-at, Reads-length, Searches-words}
+use Rattle.updating.specs.Insert.{insert-outputs}
+use Rattle.finder.specs.Given.{Creates-words, Reads-number, Reads-alpha, bytes-at, Reads-length, Searches-words, Inserts-words}
 
 -- an index as the app holds it: its twelve words and its six slices
 pub record Memory : Type 0 where
@@ -57,10 +58,13 @@ pub record Exported-run : Type 0 where
 abbrev pub making : Making → Memory → Memory → ℕ → Exported-run
 making m lent left status = record { operation = create m; lent = lent; left = left; scratch = []; scratch′ = []; before = nowhere; after = nowhere; returned = status }
 
--- a run that leaves the memory
+-- a run that may change the memory, and one that leaves it
+abbrev pub changing : Operation → Memory → Memory → List ℕ → List ℕ → Places → Places → ℕ → Exported-run
+changing o lent left scratch scratch′ before after returned =
+    record { operation = o; lent = lent; left = left; scratch = scratch; scratch′ = scratch′; before = before; after = after; returned = returned }
+
 abbrev pub looking : Operation → Memory → List ℕ → List ℕ → Places → Places → ℕ → Exported-run
-looking o lent scratch scratch′ before after returned =
-    record { operation = o; lent = lent; left = lent; scratch = scratch; scratch′ = scratch′; before = before; after = after; returned = returned }
+looking o lent scratch scratch′ before after returned = changing o lent lent scratch scratch′ before after returned
 
 abbrev pub number : Calls.Reading → Memory → ℕ → ℕ → ℕ → Exported-run
 number q lent value value′ status = looking (read q) lent [] [] (in-value value) (in-value value′) status
@@ -92,3 +96,6 @@ pub data Exported : Exported-run → Type 0 where
   finder-search : {lent : Memory} {a : Search} {slots slots′ : List ℕ} {dists dists′ : List Float} {scratch scratch′ : List ℕ} {found found′ status : ℕ}
       → Searches-words (lent .words) (lent .slices) a (search-outputs slots dists) scratch (search-outputs slots′ dists′) scratch′ found found′ status
       → Exported (looking (search a) lent scratch scratch′ (places found (f32 0) 0 [] (search-outputs slots dists)) (places found′ (f32 0) 0 [] (search-outputs slots′ dists′)) status)
+  finder-insert : {lent left : Memory} {a : Insert} {slots slots′ scratch scratch′ : List ℕ} {found found′ status : ℕ}
+      → Inserts-words (lent .words) (lent .slices) a (insert-outputs slots) scratch (left .words) (left .slices) (insert-outputs slots′) scratch′ found found′ status
+      → Exported (changing (insert a) lent left scratch scratch′ (places found (f32 0) 0 [] (insert-outputs slots)) (places found′ (f32 0) 0 [] (insert-outputs slots′)) status)
