@@ -1,0 +1,3 @@
+pub mod Stands
+pub mod Enables
+pub mod Assesses

@@ -1,0 +1,37 @@
+// The calls of the guard: enabling it, reading its status, and assessing a delete.
+mod assessing;
+mod enabling;
+mod statuses;
+
+pub use assessing::assess_delete;
+pub use enabling::enable_guard;
+use guard::Report;
+use index::Index;
+pub use statuses::guard_status;
+
+// The status of a guard; all 0 where it is off.
+pub struct Status {
+    pub enabled: bool,
+    pub pool: u32,
+    pub live: u32,
+    pub count: u32,
+    pub beam: u32,
+}
+
+// An index whose guard is on, with the guard's status, or the number of a refusal.
+pub enum Enabled {
+    Refused(u32),
+    Enabled(Index, Status),
+}
+
+// The guard's status, or the number of a refusal.
+pub enum Standing {
+    Refused(u32),
+    Standing(Status),
+}
+
+// The report on a delete, or the number of a refusal.
+pub enum Assessed {
+    Refused(u32),
+    Assessed(Report),
+}
