@@ -53,6 +53,14 @@ extern "C" {
 /* The largest beam; 0 acts as 1. */
 #define FINDER_MAX_BEAM 1024
 
+/* The largest landmark count, multiplier and sample of the guard, in each of which 0 acts as 1; the guard's beam is at most FINDER_MAX_BEAM. */
+#define FINDER_MAX_LANDMARKS 64
+#define FINDER_MAX_MULTIPLIER 16
+#define FINDER_MAX_SAMPLE 65536
+
+/* The most ids that a delete names. */
+#define FINDER_MAX_IDS 256
+
 /* The six slices, as every function takes them that only reads them. */
 #define FINDER_LENT \
     const uint8_t *vectors, size_t vectors_len, const uint32_t *targets, size_t targets_len, const uint16_t *edges, size_t edges_len, \
@@ -66,10 +74,13 @@ extern "C" {
 #define FINDER_TOO_MANY 4       /* more vectors are given than there are slots */
 #define FINDER_BAD_GIVEN 5      /* a given row names neither blank nor a given slot, or the entry is not given (0 where none is given) */
 #define FINDER_BAD_INDEX 6      /* the live count differs from the marks, the entry is not below capacity, or the guard is on with a setting or a pool outside its range */
-#define FINDER_OVER_LIMIT 7     /* a beam over FINDER_MAX_BEAM, or k over the length of an output */
+#define FINDER_OVER_LIMIT 7     /* a beam or a setting of the guard over its limit, k over the length of an output, or more than FINDER_MAX_IDS ids */
 #define FINDER_SHORT_SCRATCH 8  /* the scratch is shorter than finder_scratch_words says */
 #define FINDER_BAD_BATCH 9      /* the bytes to be inserted are no whole number of vectors */
 #define FINDER_FULL 10          /* fewer slots are free than vectors are to be inserted */
+#define FINDER_GUARD_OFF 11     /* the guard is off */
+#define FINDER_NO_LIVE 12       /* no slot is live, so there is nothing to guard */
+#define FINDER_NO_LANDMARK 13   /* one slot alone is live, so there is no landmark beside the entry */
 
 /*
  * How many words of scratch the calls on an index of these sizes ask for, at most 8,388,608. Written to *size.
@@ -151,6 +162,59 @@ uint32_t finder_insert(uint32_t words[FINDER_INDEX_WORDS],
     const uint8_t *bytes, size_t bytes_len, uint32_t beam,
     uint32_t *slots, size_t slots_len, uint32_t *scratch, size_t scratch_len,
     uint32_t *found);
+
+/*
+ * The guard. It keeps a pool of landmarks, live slots far from the entry and from each other, and assesses a delete by trial walks to them.
+ */
+
+/* The guard's status; all 0 where it is off. */
+typedef struct finder_guard_status_words {
+    uint32_t enabled;        /* 1 where it is on, else 0 */
+    uint32_t pool_size;      /* how many landmarks the pool holds */
+    uint32_t live_landmarks; /* how many of them are live */
+    uint32_t landmark_count; /* how many an assessment looks at */
+    uint32_t beam;
+} finder_guard_status_words;
+
+/* The numbers of a report on a delete. */
+typedef struct finder_report_words {
+    uint32_t admitted;     /* 1 where the delete is admitted, else 0 */
+    uint32_t requested;    /* how many live slots the ids name */
+    uint32_t entry;        /* where the trial walks start; FINDER_BLANK where there was none, since no live slot was named or none stays */
+    uint32_t checked;      /* how many landmarks were looked at */
+    uint32_t baseline;     /* how many of them a walk finds now */
+    uint32_t residual;     /* how many it finds with the named slots left out */
+    uint32_t lost;         /* how many it finds now and not then */
+    uint32_t supplemental; /* how many of those looked at were chosen beside the pool */
+} finder_report_words;
+
+/*
+ * Enables the guard, which may be on already. Chooses landmark_count * multiplier landmarks at most out of a sample of about `sample` slots, writes them to
+ * the front of pool (the places after them stay), and writes the index's words and *status. In each of the four settings 0 acts as 1, and is stored so.
+ * The scratch is overwritten.
+ * Refusals, in order: 1, 2, 3, 6, 7, 8, 12, 13.
+ */
+uint32_t finder_enable_guard(uint32_t words[FINDER_INDEX_WORDS],
+    const uint8_t *vectors, size_t vectors_len, const uint32_t *targets, size_t targets_len, const uint16_t *edges, size_t edges_len,
+    const uint16_t *versions, size_t versions_len, const uint8_t *marks, size_t marks_len, uint32_t *pool, size_t pool_len,
+    uint32_t landmark_count, uint32_t multiplier, uint32_t sample, uint32_t beam, uint32_t *scratch, size_t scratch_len,
+    finder_guard_status_words *status);
+
+/*
+ * Writes the guard's status to *status.
+ * Refusals, in order: 1, 2, 3, 6.
+ */
+uint32_t finder_guard_status(const uint32_t words[FINDER_INDEX_WORDS], FINDER_LENT, finder_guard_status_words *status);
+
+/*
+ * Assesses a delete of the slots that ids name, and deletes nothing; an id that is dead or outside, or that stood there before, does not count. The
+ * landmarks looked at are written to the front of checked, those lost to the front of lost, and the numbers to *report; the places after them stay. Both
+ * lists have FINDER_MAX_LANDMARKS places at least. A delete is admitted where a walk finds some landmark now and none is lost, or where no live slot is
+ * named. The scratch is overwritten.
+ * Refusals, in order: 1, 2, 3 (one of the six slices, or a list that is too short), 6, 7, 8, 11.
+ */
+uint32_t finder_assess_delete(const uint32_t words[FINDER_INDEX_WORDS], FINDER_LENT, const uint32_t *ids, size_t ids_len,
+    uint32_t *checked, size_t checked_len, uint32_t *lost, size_t lost_len, uint32_t *scratch, size_t scratch_len, finder_report_words *report);
 
 #ifdef __cplusplus
 }

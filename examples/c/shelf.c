@@ -106,6 +106,36 @@ static int search(void)
     return 0;
 }
 
+/* The guard: landmarks are slot 2 and then slot 0; without slot 1 a walk from slot 0 meets no slot 2. */
+static int guard(void)
+{
+    static const uint32_t ids[3] = { 1, 1, 9 };
+    uint32_t size = 0;
+    CHECK(finder_scratch_words(DIM, CAPACITY, DEGREE, &size) == 0);
+    finder_guard_status_words *status = block(sizeof *status);
+    finder_report_words *report = block(sizeof *report);
+    uint32_t *checked = block(FINDER_MAX_LANDMARKS * sizeof *checked);
+    uint32_t *lost = block(FINDER_MAX_LANDMARKS * sizeof *lost);
+    uint32_t *scratch = block(size * sizeof *scratch);
+    CHECK(finder_guard_status(words, SLICES, status) == 0 && status->enabled == 0 && status->pool_size == 0);
+    CHECK(finder_assess_delete(words, SLICES, ids, 3, checked, FINDER_MAX_LANDMARKS, lost, FINDER_MAX_LANDMARKS, scratch, size, report) == FINDER_GUARD_OFF);
+    CHECK(finder_enable_guard(words, SLICES, 65, 1, 4, 4, scratch, size, status) == FINDER_OVER_LIMIT && words[6] == 0);
+    CHECK(finder_enable_guard(words, SLICES, 2, 0, 4, 4, scratch, size, status) == 0 && words[6] == 1 && words[11] == 2);
+    CHECK(status->enabled == 1 && status->pool_size == 2 && status->live_landmarks == 2 && status->landmark_count == 2 && status->beam == 4);
+    CHECK(pool[0] == 2 && pool[1] == 0);
+    CHECK(finder_assess_delete(words, SLICES, ids, 3, checked, 63, lost, FINDER_MAX_LANDMARKS, scratch, size, report) == FINDER_BAD_LENGTH);
+    CHECK(finder_assess_delete(words, SLICES, ids, 3, checked, FINDER_MAX_LANDMARKS, lost, FINDER_MAX_LANDMARKS, scratch, size, report) == 0);
+    CHECK(report->admitted == 0 && report->requested == 1 && report->entry == 0 && report->checked == 2 && report->baseline == 2);
+    CHECK(report->residual == 1 && report->lost == 1 && report->supplemental == 0 && checked[0] == 2 && checked[1] == 0 && lost[0] == 2);
+    printf("deleting slot 1: %s, %u of %u landmarks lost\n", report->admitted ? "admitted" : "not admitted", (unsigned)report->lost, (unsigned)report->checked);
+    free(status);
+    free(report);
+    free(checked);
+    free(lost);
+    free(scratch);
+    return 0;
+}
+
 static int insert(void)
 {
     uint32_t size = 0;
@@ -159,7 +189,7 @@ int main(void)
     lend();
     CHECK(make(3.0f) == FINDER_BAD_ALPHA);
     CHECK(make(1.0f) == 0);
-    int wrong = read_all() || search() || insert() || refuse();
+    int wrong = read_all() || search() || guard() || insert() || refuse();
     take_back();
     return wrong;
 }

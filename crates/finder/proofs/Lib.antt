@@ -1,3 +1,4 @@
 pub mod Held
 pub mod Told
 pub mod Filling
+pub mod Guarded

@@ -8,7 +8,8 @@ use lib.Dec.{eqb}
 use lib.Ieee.{Float}
 use lib.ListN.{length, take, drop}
 use Rattle.slots.specs.Sizes.{Slices}
-use Rattle.calls.specs.Calls.{Making, Search, Insert}
+use Rattle.guard.specs.Guard.{Config}
+use Rattle.calls.specs.Calls.{Making, Search, Insert, Assess}
 use Rattle.calls.specs.Outputs.{Outputs}
 use Rattle.index.specs.declared.ScratchWords.{ScratchWords}
 use Rattle.index.specs.declared.ScratchWords.the-variants.{Refused as no-size, Words as sized}
@@ -27,7 +28,15 @@ use Rattle.reading.specs.Search.{Searches}
 use Rattle.updating.specs.declared.Inserted.{Inserted}
 use Rattle.updating.specs.declared.Inserted.the-variants.{Refused as not-inserted, Done as Filled}
 use Rattle.updating.specs.Insert.{Inserts}
+use Rattle.guarding.specs.declared.Standing.{Standing}
+use Rattle.guarding.specs.declared.Standing.the-variants.{Refused as no-status, Standing as Stands-so}
+use Rattle.guarding.specs.declared.Enabled.{Enabled}
+use Rattle.guarding.specs.declared.Enabled.the-variants.{Refused as not-enabled, Enabled as Enabled-with}
+use Rattle.guarding.specs.declared.Assessed.{Assessed}
+use Rattle.guarding.specs.declared.Assessed.the-variants.{Refused as not-assessed, Assessed as Assessed-so}
+use Rattle.guarding.specs.Guarding.{status-of, Stands, enabled-index, Enables, Assesses}
 use Rattle.finder.specs.IndexWords.{index-of, words-of}
+use Rattle.finder.specs.GuardWords.{status-words, report-words}
 
 -- ---- the size answer
 
@@ -116,3 +125,39 @@ pub record Inserts-words (words : List ℕ) (s : Slices) (a : Insert) (outputs :
   pub does : Inserts (index-of words) s a outputs scratch s′ outputs′ scratch′ (inserted-given status words′ found′)
   pub written : status ≡ 0 → words′ ≡ words-of (index-of words′)
   pub kept : (status ≡ 0 → ⊥) → (words′ ≡ words) × (found′ ≡ found)
+
+-- ---- the guard
+
+-- the status of an answer, and what is left where the guard's status is to be written
+unfoldable pub standing-put : Standing → List ℕ → ℕ × List ℕ
+standing-put (no-status n) place = (n, place)
+standing-put (Stands-so s) place = (0, status-words (status-of s))
+
+-- what `finder_guard_status` promises
+pub record Stands-words (words : List ℕ) (s : Slices) (place place′ : List ℕ) (status : ℕ) : Type 0 where
+  pub answer : Standing
+  pub does : Stands (index-of words) s answer
+  pub told : (status, place′) ≡ standing-put answer place
+
+-- the same, with the index's words
+unfoldable pub enabled-put : Enabled → List ℕ → List ℕ → ℕ × List ℕ × List ℕ
+enabled-put (not-enabled n) words place = (n, words, place)
+enabled-put (Enabled-with i s) words place = (0, words-of i, status-words (status-of s))
+
+-- what `finder_enable_guard` promises; the words that it leaves hold the index that the app has then
+pub record Enables-words (words : List ℕ) (s : Slices) (c : Config) (scratch : List ℕ) (words′ : List ℕ) (s′ : Slices) (scratch′ place place′ : List ℕ) (status : ℕ) : Type 0 where
+  pub answer : Enabled
+  pub does : Enables (index-of words) s c scratch s′ scratch′ answer
+  pub told : (status, words′, place′) ≡ enabled-put answer words place
+  pub held : index-of words′ ≡ enabled-index (index-of words) answer
+
+-- the same, where a report's numbers are to be written
+unfoldable pub assessed-put : Assessed → List ℕ → ℕ × List ℕ
+assessed-put (not-assessed n) place = (n, place)
+assessed-put (Assessed-so r) place = (0, report-words r)
+
+-- what `finder_assess_delete` promises
+pub record Assesses-words (words : List ℕ) (s : Slices) (a : Assess) (outputs : Outputs) (scratch : List ℕ) (outputs′ : Outputs) (scratch′ place place′ : List ℕ) (status : ℕ) : Type 0 where
+  pub answer : Assessed
+  pub does : Assesses (index-of words) s a outputs scratch outputs′ scratch′ answer
+  pub told : (status, place′) ≡ assessed-put answer place

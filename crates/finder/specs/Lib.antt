@@ -1,3 +1,4 @@
 pub mod IndexWords
+pub mod GuardWords
 pub mod Given
 pub mod contracts

@@ -23,7 +23,7 @@ pub enum Error {
     Given = 5,
     /// The live count differs from the marks, the entry is outside, or the guard has a fault.
     Index = 6,
-    /// A beam over 1,024, or more asked for than the outputs hold.
+    /// A beam or a setting of the guard over its limit, more asked for than the outputs hold, or too many ids.
     Limit = 7,
     /// The scratch is too short.
     Scratch = 8,
@@ -31,6 +31,12 @@ pub enum Error {
     Batch = 9,
     /// Fewer slots are free than vectors are to be inserted.
     Full = 10,
+    /// The guard is off.
+    GuardOff = 11,
+    /// No slot is live.
+    NoLive = 12,
+    /// One slot alone is live, so there is no landmark.
+    NoLandmark = 13,
 }
 
 impl Error {
@@ -47,6 +53,9 @@ impl Error {
             8 => Error::Scratch,
             9 => Error::Batch,
             10 => Error::Full,
+            11 => Error::GuardOff,
+            12 => Error::NoLive,
+            13 => Error::NoLandmark,
             _ => unreachable!("no refusal has the number {status}"),
         })
     }
@@ -59,6 +68,41 @@ impl fmt::Display for Error {
 }
 
 impl std::error::Error for Error {}
+
+/// The guard's status; all 0 where it is off.
+#[derive(Clone, Debug, PartialEq, Eq)]
+pub struct GuardStatus {
+    pub enabled: bool,
+    pub pool_size: u32,
+    pub live_landmarks: u32,
+    pub landmark_count: u32,
+    pub beam: u32,
+}
+
+impl GuardStatus {
+    fn of(words: raw::GuardStatusWords) -> GuardStatus {
+        GuardStatus {
+            enabled: words.enabled != 0,
+            pool_size: words.pool_size,
+            live_landmarks: words.live_landmarks,
+            landmark_count: words.landmark_count,
+            beam: words.beam,
+        }
+    }
+}
+
+/// A report on a delete: the landmarks that trial walks looked for, those lost, and the counts.
+#[derive(Clone, Debug, PartialEq, Eq)]
+pub struct Report {
+    pub admitted: bool,
+    pub requested: u32,
+    pub entry: Option<u32>,
+    pub checked: Vec<u32>,
+    pub baseline: u32,
+    pub residual: u32,
+    pub lost: Vec<u32>,
+    pub supplemental: u32,
+}
 
 /// An index and its memory.
 pub struct Finder {
@@ -274,6 +318,75 @@ impl Finder {
         slots.truncate(found as usize);
         Ok(slots)
     }
+
+    /// Enables the guard, which may be on already; a setting of 0 acts as 1.
+    pub fn enable_guard(&mut self, landmark_count: u32, multiplier: u32, sample: u32, beam: u32) -> Result<GuardStatus, Error> {
+        let mut status = raw::GuardStatusWords::default();
+        // SAFETY: each pointer is that of a whole vector with its length, and what is written is borrowed by this call alone.
+        Error::of(unsafe {
+            raw::finder_enable_guard(
+                &mut self.words,
+                self.vectors.as_ptr(),
+                self.vectors.len(),
+                self.targets.as_ptr(),
+                self.targets.len(),
+                self.edges.as_ptr(),
+                self.edges.len(),
+                self.versions.as_ptr(),
+                self.versions.len(),
+                self.marks.as_ptr(),
+                self.marks.len(),
+                self.pool.as_mut_ptr(),
+                self.pool.len(),
+                landmark_count,
+                multiplier,
+                sample,
+                beam,
+                self.scratch.as_mut_ptr(),
+                self.scratch.len(),
+                &mut status,
+            )
+        })?;
+        Ok(GuardStatus::of(status))
+    }
+
+    pub fn guard_status(&self) -> Result<GuardStatus, Error> {
+        let mut status = raw::GuardStatusWords::default();
+        Error::of(with_slices!(self, finder_guard_status, &mut status))?;
+        Ok(GuardStatus::of(status))
+    }
+
+    /// Assesses a delete of the slots that the ids name; nothing is deleted.
+    pub fn assess_delete(&mut self, ids: &[u32]) -> Result<Report, Error> {
+        let mut checked = vec![0; raw::MAX_LANDMARKS];
+        let mut lost = vec![0; raw::MAX_LANDMARKS];
+        let mut words = raw::ReportWords::default();
+        Error::of(with_slices!(
+            self,
+            finder_assess_delete,
+            ids.as_ptr(),
+            ids.len(),
+            checked.as_mut_ptr(),
+            checked.len(),
+            lost.as_mut_ptr(),
+            lost.len(),
+            self.scratch.as_mut_ptr(),
+            self.scratch.len(),
+            &mut words
+        ))?;
+        checked.truncate(words.checked as usize);
+        lost.truncate(words.lost as usize);
+        Ok(Report {
+            admitted: words.admitted != 0,
+            requested: words.requested,
+            entry: (words.entry != BLANK).then_some(words.entry),
+            checked,
+            baseline: words.baseline,
+            residual: words.residual,
+            lost,
+            supplemental: words.supplemental,
+        })
+    }
 }
 
 #[cfg(test)]
@@ -318,6 +431,28 @@ mod tests {
         let mut pairs = Finder::create(2, 4, 2, 1.0, 0, 0, &[], &[]).unwrap();
         assert_eq!(pairs.insert(&[1, 2, 3], 4), Err(Error::Batch));
         assert_eq!(pairs.insert(&[1, 2, 3, 4], 4), Ok(vec![0, 1]));
+    }
+
+    #[test]
+    fn guard() {
+        let mut f = shelf();
+        let off = GuardStatus { enabled: false, pool_size: 0, live_landmarks: 0, landmark_count: 0, beam: 0 };
+        assert_eq!(f.guard_status(), Ok(off.clone()));
+        assert_eq!(f.assess_delete(&[1]), Err(Error::GuardOff));
+        assert_eq!(f.enable_guard(65, 1, 4, 4), Err(Error::Limit));
+        assert_eq!(f.guard_status(), Ok(off));
+        let on = GuardStatus { enabled: true, pool_size: 2, live_landmarks: 2, landmark_count: 2, beam: 4 };
+        assert_eq!(f.enable_guard(2, 0, 4, 4), Ok(on.clone()));
+        assert_eq!((f.guard_status(), &f.pool[..2]), (Ok(on), &[2, 0][..]));
+        let lost =
+            Report { admitted: false, requested: 1, entry: Some(0), checked: vec![2, 0], baseline: 2, residual: 1, lost: vec![2], supplemental: 0 };
+        assert_eq!(f.assess_delete(&[1, 1, 9]), Ok(lost));
+        assert!(f.assess_delete(&[2]).unwrap().admitted);
+        assert_eq!(f.assess_delete(&[0, 1, 2]).map(|r| (r.admitted, r.entry)), Ok((false, None)));
+        assert_eq!(f.assess_delete(&[0; 257]), Err(Error::Limit));
+        let one = |count, marks| Finder::create(1, 4, 2, 1.0, 0, count, &[0][..marks], &[BLANK, BLANK][..2 * marks]).unwrap();
+        assert_eq!(one(0, 0).enable_guard(2, 1, 4, 4), Err(Error::NoLive));
+        assert_eq!(one(1, 1).enable_guard(2, 1, 4, 4), Err(Error::NoLandmark));
     }
 
     #[test]

@@ -3,8 +3,32 @@
 pub const INDEX_WORDS: usize = 12;
 pub const POOL: usize = 1024;
 pub const MAX_BEAM: u32 = 1024;
+pub const MAX_LANDMARKS: usize = 64;
 
 type IndexWords = [u32; INDEX_WORDS];
+
+#[repr(C)]
+#[derive(Default)]
+pub struct GuardStatusWords {
+    pub enabled: u32,
+    pub pool_size: u32,
+    pub live_landmarks: u32,
+    pub landmark_count: u32,
+    pub beam: u32,
+}
+
+#[repr(C)]
+#[derive(Default)]
+pub struct ReportWords {
+    pub admitted: u32,
+    pub requested: u32,
+    pub entry: u32,
+    pub checked: u32,
+    pub baseline: u32,
+    pub residual: u32,
+    pub lost: u32,
+    pub supplemental: u32,
+}
 
 extern "C" {
     pub fn finder_scratch_words(dim: u32, capacity: u32, degree: u32, size: *mut u32) -> u32;
@@ -58,6 +82,29 @@ extern "C" {
         scratch_len: usize,
         found: *mut u32,
     ) -> u32;
+
+    pub fn finder_enable_guard(
+        words: *mut IndexWords,
+        vectors: *const u8,
+        vectors_len: usize,
+        targets: *const u32,
+        targets_len: usize,
+        edges: *const u16,
+        edges_len: usize,
+        versions: *const u16,
+        versions_len: usize,
+        marks: *const u8,
+        marks_len: usize,
+        pool: *mut u32,
+        pool_len: usize,
+        landmark_count: u32,
+        multiplier: u32,
+        sample: u32,
+        beam: u32,
+        scratch: *mut u32,
+        scratch_len: usize,
+        status: *mut GuardStatusWords,
+    ) -> u32;
 }
 
 // Declares functions that take an index and its six slices first, and then what is named.
@@ -107,5 +154,17 @@ on_an_index! {
         scratch: *mut u32,
         scratch_len: usize,
         found: *mut u32
+    ) -> u32;
+    fn finder_guard_status(status: *mut GuardStatusWords) -> u32;
+    fn finder_assess_delete(
+        ids: *const u32,
+        ids_len: usize,
+        checked: *mut u32,
+        checked_len: usize,
+        lost: *mut u32,
+        lost_len: usize,
+        scratch: *mut u32,
+        scratch_len: usize,
+        report: *mut ReportWords
     ) -> u32;
 }

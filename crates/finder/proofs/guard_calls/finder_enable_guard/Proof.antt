@@ -1,0 +1,37 @@
+use Rattle.finder.proofs.Guarded.{enabled-number, enables-words}
+use borrow.Author.Needs.{needs}
+use Rattle.finder.proofs.guard_calls.finder_enable_guard.Statement.{statement}
+use Rattle.finder.proofs.guard_calls.finder_enable_guard.Tie as tie
+
+-- the place after the call
+abbrev enable-guard₁ : tie.After-put-enabled-arg2 → tie.After-enable-guard
+enable-guard₁ c = c .before .before .before .before .before .before
+
+index-from-requires : tie.Need-index-from-requires
+index-from-requires c κs = search needs
+
+enable-guard-requires : tie.Need-enable-guard-requires
+enable-guard-requires c κs = search needs
+
+put-enabled-requires : tie.Need-put-enabled-requires
+put-enabled-requires c κs = enabled-number (enable-guard₁ c .enable-guard .ensures)
+
+same-length : tie.Need-same-length
+same-length c = enable-guard₁ (c .before) .enable-guard .kept .1 .1 .1 .1 .1 .1 .0
+
+same-length-2 : tie.Need-same-length-2
+same-length-2 c = enable-guard₁ (c .before) .enable-guard .kept .1 .1 .1 .1 .1 .1 .1 .1 .1 .1 .1 .0
+
+returns : tie.Need-returns
+returns c = enables-words _ _ (enable-guard₁ (c .before) .before .before .before .index-from .ensures) (enable-guard₁ (c .before) .enable-guard .ensures) (c .put-enabled .ensures)
+
+pub finder-enable-guard-spec : {M : Type 1} → statement M
+finder-enable-guard-spec =
+    tie.close
+    (tie.spec
+    index-from-requires
+    enable-guard-requires
+    put-enabled-requires
+    same-length
+    same-length-2
+    returns)
