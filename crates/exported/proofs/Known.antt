@@ -13,7 +13,9 @@ use Rattle.vectors.specs.Distance.{f32}
 use Rattle.candidates.specs.Candidates.{Candidate}
 use Rattle.slots.specs.Sizes.{Slices, lengths-of, limits}
 use Rattle.slots.specs.Store.{Store, store-view}
-use Rattle.calls.specs.Calls.{Making, Search, Insert, Operation, create, read, read-vector, search, insert, Answer, refused, created, alpha, vector, refused-as}
+use Rattle.calls.specs.Calls.{Making, Search, Insert, Operation, create, read, read-vector, search, insert, Answer, refused, created, alpha, vector, refused-as, Assess, enable, assess}
+use Rattle.guard.specs.Guard.{Config}
+use Rattle.guard.specs.declared.report.Report.{Report}
 use Rattle.calls.specs.Calls as Answers
 use Rattle.calls.specs.Outputs.{Outputs, no-outputs, written}
 use Rattle.calls.specs.Refusals.{first-of, making-tests, tests}
@@ -38,8 +40,16 @@ use Rattle.reading.specs.Search.{found-as, search-outputs}
 use Rattle.updating.specs.declared.Inserted.the-variants.{Refused as not-inserted, Done as Filled}
 use Rattle.updating.specs.Insert.{insert-outputs, inserted-as, index-after}
 use Rattle.finder.specs.IndexWords.{index-of, words-of}
-use Rattle.finder.specs.Given.{created-given, Creates-words, value-in, bytes-at, Reads-length, Searches-words, inserted-given, Inserts-words}
-use Rattle.exported.specs.Runs.{Memory, Places, places, nowhere, in-value, in-alpha, in-version, Exported-run, making, changing, looking, number, Exported, finder-create, finder-dim, finder-capacity, finder-degree, finder-entry, finder-live, finder-mark, finder-slot-version, finder-target, finder-alpha, finder-vector, finder-search, finder-insert}
+use Rattle.finder.specs.Given.{created-given, Creates-words, value-in, bytes-at, Reads-length, Searches-words, inserted-given, Inserts-words, standing-put, Stands-words, enabled-put, Enables-words, assessed-put, Assesses-words}
+use Rattle.exported.specs.Runs.{Memory, Places, places, nowhere, in-value, in-alpha, in-version, Exported-run, making, changing, looking, number, Exported, finder-create, finder-dim, finder-capacity, finder-degree, finder-entry, finder-live, finder-mark, finder-slot-version, finder-target, finder-alpha, finder-vector, finder-search, finder-insert, in-guard, finder-enable-guard, finder-guard-status, finder-assess-delete}
+use Rattle.guarding.specs.declared.Standing.{Standing}
+use Rattle.guarding.specs.declared.Standing.the-variants.{Refused as no-status, Standing as Stands-so}
+use Rattle.guarding.specs.declared.Enabled.{Enabled}
+use Rattle.guarding.specs.declared.Enabled.the-variants.{Refused as not-enabled, Enabled as Enabled-with}
+use Rattle.guarding.specs.declared.Assessed.{Assessed}
+use Rattle.guarding.specs.declared.Assessed.the-variants.{Refused as not-assessed, Assessed as Assessed-so}
+use Rattle.guarding.specs.Guarding.{standing-as, enabled-as, enabled-index, report-outputs, numbers-of, assessed-as}
+use Rattle.finder.specs.GuardWords.{report-words}
 use Rattle.exported.specs.History.{put, Untouched}
 
 abbrev pub state-in : Memory → State Store
@@ -216,24 +226,24 @@ value-as status v false = refl
 -- what is read is put where the answer is written, if the status is 0
 known-reading : {lent : Memory} {status value value′ version version′ : ℕ} {alpha alpha′ : Float} (q : Reading) (v : Value)
     → Reads (index-of (lent .words)) (lent .slices) q (cond (eqb status 0) v (Refused status))
-    → put (answer-of v) (places value alpha version [] no-outputs) ≡ (0, places value′ alpha′ version′ [] no-outputs)
-    → ((status ≡ 0 → ⊥) → _≡_ {A = Places} (places value′ alpha′ version′ [] no-outputs) (places value alpha version [] no-outputs))
-    → Known (looking (read (reading-of q)) lent [] [] (places value alpha version [] no-outputs) (places value′ alpha′ version′ [] no-outputs) status)
+    → put (answer-of v) (places value alpha version [] [] no-outputs) ≡ (0, places value′ alpha′ version′ [] [] no-outputs)
+    → ((status ≡ 0 → ⊥) → _≡_ {A = Places} (places value′ alpha′ version′ [] [] no-outputs) (places value alpha version [] [] no-outputs))
+    → Known (looking (read (reading-of q)) lent [] [] (places value alpha version [] [] no-outputs) (places value′ alpha′ version′ [] [] no-outputs) status)
 unfolding put refused-as
 known-reading {lent} {status} {value} {value′} {version} {version′} {alpha} {alpha′} q v c on kept =
-    let before = places value alpha version [] no-outputs in
-    let after = places value′ alpha′ version′ [] no-outputs in
+    let before = places value alpha version [] [] no-outputs in
+    let after = places value′ alpha′ version′ [] [] no-outputs in
     known-looking (no-making (reading-of q)) (by-status status (answer-of v))
     (subst (λ a. Meets (as-run (looking (read (reading-of q)) lent [] [] before after status) a)) (value-as status v (eqb status 0)) (c .meets))
     (status-tells status (answer-of v) before after (λ z. on) kept)
     (λ n. refl)
 
 known-vector : {lent : Memory} {slot n : ℕ} → Reads-length (lent .words) (lent .slices) slot n
-    → Known (looking (read-vector slot) lent [] [] nowhere (places 0 (f32 0) 0 (bytes-at (lent .words) (lent .slices) slot n) no-outputs) n)
+    → Known (looking (read-vector slot) lent [] [] nowhere (places 0 (f32 0) 0 (bytes-at (lent .words) (lent .slices) slot n) [] no-outputs) n)
 unfolding put refused-as
 known-vector {lent} {slot} {n} c =
     let l = bytes-at (lent .words) (lent .slices) slot n in
-    known-looking (λ m e. let z : _≡_ {A = ℕ} 0 1 = cc in omega arith) (vector l) (c .does .meets) (ap (λ k. (k, places 0 (f32 0) 0 l no-outputs)) (c .there)) (λ n. refl)
+    known-looking (λ m e. let z : _≡_ {A = ℕ} 0 1 = cc in omega arith) (vector l) (c .does .meets) (ap (λ k. (k, places 0 (f32 0) 0 l [] no-outputs)) (c .there)) (λ n. refl)
 
 -- ---- search
 
@@ -245,10 +255,10 @@ found-answer status n cs false = refl
 module _ {lent : Memory} {a : Search} {slots slots′ : List ℕ} {dists dists′ : List Float} {scratch scratch′ : List ℕ} {found found′ status : ℕ}
     (c : Searches-words (lent .words) (lent .slices) a (search-outputs slots dists) scratch (search-outputs slots′ dists′) scratch′ found found′ status) where
   abbrev before : Places
-  before = places found (f32 0) 0 [] (search-outputs slots dists)
+  before = places found (f32 0) 0 [] [] (search-outputs slots dists)
 
   abbrev after : Places
-  after = places found′ (f32 0) 0 [] (search-outputs slots′ dists′)
+  after = places found′ (f32 0) 0 [] [] (search-outputs slots′ dists′)
 
   known-search : Known (looking (search a) lent scratch scratch′ before after status)
   unfolding put written found-as refused-as
@@ -262,11 +272,11 @@ module _ {lent : Memory} {a : Search} {slots slots′ : List ℕ} {dists dists�
       let b = eq-eqb status 0 z in
       let n : found′ ≡ length cs = c .does .counts found′ (ap (λ b. cond b (Nearest found′) (none-found status)) b) in
       let o = f .writes ∙ ap (λ b. written (cond b (Answers.found cs) (refused status)) (search-outputs slots dists)) b in
-      λ i. (0, places (sym n i) (f32 0) 0 [] (sym o i)))
+      λ i. (0, places (sym n i) (f32 0) 0 [] [] (sym o i)))
       (λ z.
       let b = ne-eqb status 0 z in
       let o = f .writes ∙ ap (λ b. written (cond b (Answers.found cs) (refused status)) (search-outputs slots dists)) b in
-      λ i. places (c .kept z i) (f32 0) 0 [] (o i)))
+      λ i. places (c .kept z i) (f32 0) 0 [] [] (o i)))
       (λ n. refl)
 
 -- ---- insert
@@ -279,10 +289,10 @@ inserted-answer status n i ss false = refl
 module _ {lent left : Memory} {a : Insert} {slots slots′ scratch scratch′ : List ℕ} {found found′ status : ℕ}
     (c : Inserts-words (lent .words) (lent .slices) a (insert-outputs slots) scratch (left .words) (left .slices) (insert-outputs slots′) scratch′ found found′ status) where
   abbrev before-insert : Places
-  before-insert = places found (f32 0) 0 [] (insert-outputs slots)
+  before-insert = places found (f32 0) 0 [] [] (insert-outputs slots)
 
   abbrev after-insert : Places
-  after-insert = places found′ (f32 0) 0 [] (insert-outputs slots′)
+  after-insert = places found′ (f32 0) 0 [] [] (insert-outputs slots′)
 
   abbrev insert-run : Exported-run
   insert-run = changing (insert a) lent left scratch scratch′ before-insert after-insert status
@@ -351,12 +361,108 @@ module _ {lent left : Memory} {a : Insert} {slots slots′ scratch scratch′ : 
       let b = eq-eqb status 0 z in
       let n : found′ ≡ length filled = c .does .counts (index-of (left .words)) found′ (ap (λ b. cond b (Filled (index-of (left .words)) found′) (not-inserted status)) b) in
       let o = f .writes ∙ ap (λ b. written (cond b (Answers.inserted filled) (refused status)) (insert-outputs slots)) b in
-      λ i. (0, places (sym n i) (f32 0) 0 [] (sym o i)))
+      λ i. (0, places (sym n i) (f32 0) 0 [] [] (sym o i)))
       (λ z.
       let b = ne-eqb status 0 z in
       let o = f .writes ∙ ap (λ b. written (cond b (Answers.inserted filled) (refused status)) (insert-outputs slots)) b in
-      λ i. places (c .kept z .1 i) (f32 0) 0 [] (o i)))
+      λ i. places (c .kept z .1 i) (f32 0) 0 [] [] (o i)))
       (λ n. refl) insert-words-kept insert-rightly
+
+-- ---- the guard
+
+standing-tells : (place : List ℕ) {place′ : List ℕ} {status : ℕ} (a : Standing) → (status, place′) ≡ standing-put a place
+    → (status, in-guard place′ no-outputs) ≡ put (standing-as a) (in-guard place no-outputs)
+unfolding put standing-put standing-as
+standing-tells place (no-status n) e = λ i. (e i .0, in-guard (e i .1) no-outputs)
+standing-tells place (Stands-so s) e = λ i. (e i .0, in-guard (e i .1) no-outputs)
+
+known-status : {lent : Memory} {place place′ : List ℕ} {status : ℕ} → Stands-words (lent .words) (lent .slices) place place′ status
+    → Known (looking Answers.status lent [] [] (in-guard place no-outputs) (in-guard place′ no-outputs) status)
+unfolding put refused-as
+known-status c =
+    known-looking (λ m e. let z : _≡_ {A = ℕ} 0 1 = cc in omega arith) (standing-as (c .answer)) (c .does .meets) (standing-tells _ (c .answer) (c .told)) (λ n. refl)
+
+module _ {lent : Memory} {a : Assess} {checked checked′ lost lost′ scratch scratch′ place place′ : List ℕ} {status : ℕ}
+    (c : Assesses-words (lent .words) (lent .slices) a (report-outputs checked lost) scratch (report-outputs checked′ lost′) scratch′ place place′ status) where
+  assess-tells : (r : Assessed) → (status, place′) ≡ assessed-put r place → ((n : Report) → r ≡ Assessed-so n → n ≡ numbers-of (c .does .report))
+      → report-outputs checked′ lost′ ≡ written (assessed-as r (c .does .report)) (report-outputs checked lost)
+      → (status, in-guard place′ (report-outputs checked′ lost′)) ≡ put (assessed-as r (c .does .report)) (in-guard place (report-outputs checked lost))
+  unfolding put written assessed-put assessed-as
+  assess-tells (not-assessed n) e h o = λ i. (e i .0, in-guard (e i .1) (o i))
+  assess-tells (Assessed-so n) e h o =
+      let w = ap (λ x. x .1) e ∙ ap report-words (h n refl) in
+      λ i. (e i .0, in-guard (w i) (o i))
+
+  known-assess : Known (looking (assess a) lent scratch scratch′ (in-guard place (report-outputs checked lost)) (in-guard place′ (report-outputs checked′ lost′)) status)
+  unfolding put refused-as
+  known-assess =
+      known-looking (λ m e. let z : _≡_ {A = ℕ} 0 1 = cc in omega arith) (assessed-as (c .answer) (c .does .report)) (c .does .meets)
+      (assess-tells (c .answer) (c .told) (c .does .numbers) (c .does .meets .writes)) (λ n. refl)
+
+module _ {lent left : Memory} {config : Config} {scratch scratch′ place place′ : List ℕ} {status : ℕ}
+    (c : Enables-words (lent .words) (lent .slices) config scratch (left .words) (left .slices) scratch′ place place′ status) where
+  abbrev enabling : Exported-run
+  enabling = changing (enable config) lent left scratch scratch′ (in-guard place no-outputs) (in-guard place′ no-outputs) status
+
+  enable-meets : Meets (as-run enabling (enabled-as (c .answer)))
+  enable-meets = subst (λ i. Meets (enabled-run i)) (sym (c .held)) (c .does .meets)
+    where
+      enabled-run : Index → Runs.Run
+      enabled-run i =
+          record {
+            operation = enable config;
+            before = state-in lent;
+            after = state-of i (left .slices);
+            answer = enabled-as (c .answer);
+            outputs-before = no-outputs;
+            outputs-after = no-outputs;
+            scratch-before = scratch;
+            scratch-after = scratch′;
+          }
+
+  enable-tells : (r : Enabled) → (status, left .words, place′) ≡ enabled-put r (lent .words) place
+      → (status, in-guard place′ no-outputs) ≡ put (enabled-as r) (in-guard place no-outputs)
+  unfolding put enabled-put enabled-as
+  enable-tells (not-enabled n) e = λ i. (e i .0, in-guard (e i .2) no-outputs)
+  enable-tells (Enabled-with j s) e = λ i. (e i .0, in-guard (e i .2) no-outputs)
+
+  -- turned back, it leaves words and slices
+  enable-kept : (n : ℕ) → run-refusal (as-run enabling (enabled-as (c .answer))) ≡ some n → left ≡ lent
+  unfolding run-refusal call-of step settle refused-as slices-of state-of enabled-put enabled-as
+  enable-kept n h = go (c .answer) (c .told) (ap (λ x. x .1) back)
+    where
+      back : _≡_ {A = State Store × Answer} (state-in left, enabled-as (c .answer)) (state-in lent, refused n)
+      back = enable-meets .does ∙ ap (settle stored (state-in lent) (call-of (as-run enabling (enabled-as (c .answer))))) h
+
+      slices-kept : left .slices ≡ lent .slices
+      slices-kept = ap (λ x. slices-of (x .0)) back
+
+      go : (r : Enabled) → (status, left .words, place′) ≡ enabled-put r (lent .words) place → enabled-as r ≡ refused n → left ≡ lent
+      go (not-enabled m) e g = λ i. record { words = e i .1; slices = slices-kept i }
+      go (Enabled-with j s) e g = absurd (let z : _≡_ {A = ℕ} 0 1 = cc in omega arith)
+
+  enable-right : (r : Enabled) → (status, left .words, place′) ≡ enabled-put r (lent .words) place → index-of (left .words) ≡ enabled-index (index-of (lent .words)) r → Right lent → Right left
+  unfolding enabled-put enabled-index
+  enable-right (not-enabled n) e g h = subst (λ w. w ≡ words-of (index-of w)) (sym (ap (λ x. x .1) e)) h
+  enable-right (Enabled-with j s) e g h = ap (λ x. x .1) e ∙ ap words-of (sym g)
+
+  known-enable : Known enabling
+  unfolding put refused-as
+  known-enable =
+      let t = enable-tells (c .answer) (c .told) in
+      record {
+        answer = enabled-as (c .answer);
+        meets = enable-meets;
+        tells = t;
+        judges = λ m q. absurd (let z : _≡_ {A = ℕ} 0 1 = cc in omega arith);
+        untouched = λ n h. record {
+          memory = enable-kept n h;
+          scratch = enable-meets .keeps n h;
+          places = refused-places enabling (enabled-as (c .answer)) enable-meets t (λ n. refl) n h;
+        };
+        right = enable-right (c .answer) (c .told) (c .held);
+        makes = λ m q z. absurd (let z : _≡_ {A = ℕ} 0 1 = cc in omega arith);
+      }
 
 -- ---- every exported function
 
@@ -375,3 +481,6 @@ known (finder-alpha c) = known-reading Alpha _ (c .does) refl (λ z. ap in-alpha
 known (finder-vector c) = known-vector c
 known (finder-search c) = known-search c
 known (finder-insert c) = known-insert c
+known (finder-enable-guard c) = known-enable c
+known (finder-guard-status c) = known-status c
+known (finder-assess-delete c) = known-assess c

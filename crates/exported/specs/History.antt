@@ -17,7 +17,9 @@ use Rattle.calls.specs.Step.{step, refusal}
 use Rattle.calls.specs.History.{Seen, seen, Within}
 use Rattle.calls.specs.Runs.{lent-of}
 use Rattle.index.specs.Index.{state-of}
+use Rattle.guarding.specs.Guarding.{numbers-of}
 use Rattle.finder.specs.IndexWords.{index-of, value-words}
+use Rattle.finder.specs.GuardWords.{status-words, report-words}
 use Rattle.exported.specs.Runs.{Memory, Places, places, Exported-run, Exported}
 
 -- ---- runs on one index
@@ -54,7 +56,7 @@ pub record Hand : Type 0 where
 
 -- a version is not compared
 unfoldable pub hide-version : Places → Places
-hide-version o = places (o .value) (o .alpha) 0 (o .bytes) (o .outputs)
+hide-version o = places (o .value) (o .alpha) 0 (o .bytes) (o .guard) (o .outputs)
 
 unfoldable pub in-hand : Event → Hand
 in-hand e =
@@ -81,16 +83,16 @@ asked e =
 unfoldable pub put : Answer → Places → ℕ × Places
 put (refused n) o = (n, o)
 put created o = (0, o)
-put (number n) o = (0, places n (o .alpha) (o .version) (o .bytes) (o .outputs))
-put (alpha a) o = (0, places (o .value) a (o .version) (o .bytes) (o .outputs))
-put (version n) o = (0, places (o .value) (o .alpha) n (o .bytes) (o .outputs))
-put (vector l) o = (length l, places (o .value) (o .alpha) (o .version) l (o .outputs))
-put (found cs) o = (0, places (length cs) (o .alpha) (o .version) (o .bytes) (written (found cs) (o .outputs)))
-put (inserted ss) o = (0, places (length ss) (o .alpha) (o .version) (o .bytes) (written (inserted ss) (o .outputs)))
+put (number n) o = (0, places n (o .alpha) (o .version) (o .bytes) (o .guard) (o .outputs))
+put (alpha a) o = (0, places (o .value) a (o .version) (o .bytes) (o .guard) (o .outputs))
+put (version n) o = (0, places (o .value) (o .alpha) n (o .bytes) (o .guard) (o .outputs))
+put (vector l) o = (length l, places (o .value) (o .alpha) (o .version) l (o .guard) (o .outputs))
+put (found cs) o = (0, places (length cs) (o .alpha) (o .version) (o .bytes) (o .guard) (written (found cs) (o .outputs)))
+put (inserted ss) o = (0, places (length ss) (o .alpha) (o .version) (o .bytes) (o .guard) (written (inserted ss) (o .outputs)))
+put (standing s) o = (0, places (o .value) (o .alpha) (o .version) (o .bytes) (status-words s) (o .outputs))
+put (assessed r) o = (0, places (o .value) (o .alpha) (o .version) (o .bytes) (report-words (numbers-of r)) (written (assessed r) (o .outputs)))
 -- no exported function answers so yet
 put (deleted ts) o = (0, o)
-put (standing s) o = (0, o)
-put (assessed r) o = (0, o)
 put (applied ts r) o = (0, o)
 put (deferred r) o = (0, o)
 

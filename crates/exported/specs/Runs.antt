@@ -5,13 +5,15 @@ use mathlib.Core.List.{List, []}
 use lib.Ieee.{Float}
 use Rattle.vectors.specs.Distance.{f32}
 use Rattle.slots.specs.Sizes.{Slices}
-use Rattle.calls.specs.Calls.{Making, read-dim, read-capacity, read-degree, read-alpha, read-entry, read-live, read-mark, read-version, read-target, Search, Insert, Operation, create, read, read-vector, search, insert}
+use Rattle.calls.specs.Calls.{Making, read-dim, read-capacity, read-degree, read-alpha, read-entry, read-live, read-mark, read-version, read-target, Search, Insert, Operation, create, read, read-vector, search, insert, Assess, enable, assess}
+use Rattle.guard.specs.Guard.{Config}
 use Rattle.calls.specs.Calls as Calls
 use Rattle.calls.specs.Outputs.{Outputs, no-outputs}
 use Rattle.reading.specs.declared.Reading.the-variants.{Dim, Capacity, Degree, Entry, Live, Mark, Version, Target}
 use Rattle.reading.specs.Search.{search-outputs}
 use Rattle.updating.specs.Insert.{insert-outputs}
-use Rattle.finder.specs.Given.{Creates-words, Reads-number, Reads-alpha, bytes-at, Reads-length, Searches-words, Inserts-words}
+use Rattle.finder.specs.Given.{Creates-words, Reads-number, Reads-alpha, bytes-at, Reads-length, Searches-words, Inserts-words, Stands-words, Enables-words, Assesses-words}
+use Rattle.guarding.specs.Guarding.{report-outputs}
 
 -- an index as the app holds it: its twelve words and its six slices
 pub record Memory : Type 0 where
@@ -19,29 +21,34 @@ pub record Memory : Type 0 where
   pub slices : Slices
 
 -- where an answer is written: `*value` or `*found`; the `*value` of `finder_alpha`; that of `finder_slot_version`; a vector's bytes, which are read where
--- they lie; the output lists
+-- they lie; the words of the guard's status or of a report's numbers; the output lists
 pub record Places : Type 0 where
   pub value : ℕ
   pub alpha : Float
   pub version : ℕ
   pub bytes : List ℕ
+  pub guard : List ℕ
   pub outputs : Outputs
 
-abbrev pub places : ℕ → Float → ℕ → List ℕ → Outputs → Places
-places value alpha version bytes outputs = record { value = value; alpha = alpha; version = version; bytes = bytes; outputs = outputs }
+abbrev pub places : ℕ → Float → ℕ → List ℕ → List ℕ → Outputs → Places
+places value alpha version bytes guard outputs =
+    record { value = value; alpha = alpha; version = version; bytes = bytes; guard = guard; outputs = outputs }
 
 -- a function has only some of them: the others count as 0 or empty
 abbrev pub nowhere : Places
-nowhere = places 0 (f32 0) 0 [] no-outputs
+nowhere = places 0 (f32 0) 0 [] [] no-outputs
 
 abbrev pub in-value : ℕ → Places
-in-value n = places n (f32 0) 0 [] no-outputs
+in-value n = places n (f32 0) 0 [] [] no-outputs
 
 abbrev pub in-alpha : Float → Places
-in-alpha a = places 0 a 0 [] no-outputs
+in-alpha a = places 0 a 0 [] [] no-outputs
 
 abbrev pub in-version : ℕ → Places
-in-version n = places 0 (f32 0) n [] no-outputs
+in-version n = places 0 (f32 0) n [] [] no-outputs
+
+abbrev pub in-guard : List ℕ → Outputs → Places
+in-guard l outputs = places 0 (f32 0) 0 [] l outputs
 
 -- one run: what is asked, memory and scratch as they are lent and as they are left, what stands before and after where the answer is written, and the
 -- number returned
@@ -92,10 +99,18 @@ pub data Exported : Exported-run → Type 0 where
   finder-alpha : {lent : Memory} {value value′ : Float} {status : ℕ} → Reads-alpha (lent .words) (lent .slices) value value′ status
       → Exported (looking (read read-alpha) lent [] [] (in-alpha value) (in-alpha value′) status)
   finder-vector : {lent : Memory} {slot n : ℕ} → Reads-length (lent .words) (lent .slices) slot n
-      → Exported (looking (read-vector slot) lent [] [] nowhere (places 0 (f32 0) 0 (bytes-at (lent .words) (lent .slices) slot n) no-outputs) n)
+      → Exported (looking (read-vector slot) lent [] [] nowhere (places 0 (f32 0) 0 (bytes-at (lent .words) (lent .slices) slot n) [] no-outputs) n)
   finder-search : {lent : Memory} {a : Search} {slots slots′ : List ℕ} {dists dists′ : List Float} {scratch scratch′ : List ℕ} {found found′ status : ℕ}
       → Searches-words (lent .words) (lent .slices) a (search-outputs slots dists) scratch (search-outputs slots′ dists′) scratch′ found found′ status
-      → Exported (looking (search a) lent scratch scratch′ (places found (f32 0) 0 [] (search-outputs slots dists)) (places found′ (f32 0) 0 [] (search-outputs slots′ dists′)) status)
+      → Exported (looking (search a) lent scratch scratch′ (places found (f32 0) 0 [] [] (search-outputs slots dists)) (places found′ (f32 0) 0 [] [] (search-outputs slots′ dists′)) status)
   finder-insert : {lent left : Memory} {a : Insert} {slots slots′ scratch scratch′ : List ℕ} {found found′ status : ℕ}
       → Inserts-words (lent .words) (lent .slices) a (insert-outputs slots) scratch (left .words) (left .slices) (insert-outputs slots′) scratch′ found found′ status
-      → Exported (changing (insert a) lent left scratch scratch′ (places found (f32 0) 0 [] (insert-outputs slots)) (places found′ (f32 0) 0 [] (insert-outputs slots′)) status)
+      → Exported (changing (insert a) lent left scratch scratch′ (places found (f32 0) 0 [] [] (insert-outputs slots)) (places found′ (f32 0) 0 [] [] (insert-outputs slots′)) status)
+  finder-enable-guard : {lent left : Memory} {c : Config} {scratch scratch′ place place′ : List ℕ} {status : ℕ}
+      → Enables-words (lent .words) (lent .slices) c scratch (left .words) (left .slices) scratch′ place place′ status
+      → Exported (changing (enable c) lent left scratch scratch′ (in-guard place no-outputs) (in-guard place′ no-outputs) status)
+  finder-guard-status : {lent : Memory} {place place′ : List ℕ} {status : ℕ} → Stands-words (lent .words) (lent .slices) place place′ status
+      → Exported (looking Calls.status lent [] [] (in-guard place no-outputs) (in-guard place′ no-outputs) status)
+  finder-assess-delete : {lent : Memory} {a : Assess} {checked checked′ lost lost′ scratch scratch′ place place′ : List ℕ} {status : ℕ}
+      → Assesses-words (lent .words) (lent .slices) a (report-outputs checked lost) scratch (report-outputs checked′ lost′) scratch′ place place′ status
+      → Exported (looking (assess a) lent scratch scratch′ (in-guard place (report-outputs checked lost)) (in-guard place′ (report-outputs checked′ lost′)) status)
