@@ -168,16 +168,16 @@ uint32_t finder_insert(uint32_t words[FINDER_INDEX_WORDS],
  */
 
 /* The guard's status; all 0 where it is off. */
-typedef struct finder_guard_status_words {
+struct finder_guard_status {
     uint32_t enabled;        /* 1 where it is on, else 0 */
     uint32_t pool_size;      /* how many landmarks the pool holds */
     uint32_t live_landmarks; /* how many of them are live */
     uint32_t landmark_count; /* how many an assessment looks at */
     uint32_t beam;
-} finder_guard_status_words;
+};
 
 /* The numbers of a report on a delete. */
-typedef struct finder_report_words {
+struct finder_report {
     uint32_t admitted;     /* 1 where the delete is admitted, else 0 */
     uint32_t requested;    /* how many live slots the ids name */
     uint32_t entry;        /* where the trial walks start; FINDER_BLANK where there was none, since no live slot was named or none stays */
@@ -186,7 +186,7 @@ typedef struct finder_report_words {
     uint32_t residual;     /* how many it finds with the named slots left out */
     uint32_t lost;         /* how many it finds now and not then */
     uint32_t supplemental; /* how many of those looked at were chosen beside the pool */
-} finder_report_words;
+};
 
 /*
  * Enables the guard, which may be on already. Chooses landmark_count * multiplier landmarks at most out of a sample of about `sample` slots, writes them to
@@ -194,17 +194,17 @@ typedef struct finder_report_words {
  * The scratch is overwritten.
  * Refusals, in order: 1, 2, 3, 6, 7, 8, 12, 13.
  */
-uint32_t finder_enable_guard(uint32_t words[FINDER_INDEX_WORDS],
+uint32_t finder_guard_enable(uint32_t words[FINDER_INDEX_WORDS],
     const uint8_t *vectors, size_t vectors_len, const uint32_t *targets, size_t targets_len, const uint16_t *edges, size_t edges_len,
     const uint16_t *versions, size_t versions_len, const uint8_t *marks, size_t marks_len, uint32_t *pool, size_t pool_len,
     uint32_t landmark_count, uint32_t multiplier, uint32_t sample, uint32_t beam, uint32_t *scratch, size_t scratch_len,
-    finder_guard_status_words *status);
+    struct finder_guard_status *status);
 
 /*
  * Writes the guard's status to *status.
  * Refusals, in order: 1, 2, 3, 6.
  */
-uint32_t finder_guard_status(const uint32_t words[FINDER_INDEX_WORDS], FINDER_LENT, finder_guard_status_words *status);
+uint32_t finder_guard_status(const uint32_t words[FINDER_INDEX_WORDS], FINDER_LENT, struct finder_guard_status *status);
 
 /*
  * Assesses a delete of the slots that ids name, and deletes nothing; an id that is dead or outside, or that stood there before, does not count. The
@@ -213,8 +213,8 @@ uint32_t finder_guard_status(const uint32_t words[FINDER_INDEX_WORDS], FINDER_LE
  * named. The scratch is overwritten.
  * Refusals, in order: 1, 2, 3 (one of the six slices, or a list that is too short), 6, 7, 8, 11.
  */
-uint32_t finder_assess_delete(const uint32_t words[FINDER_INDEX_WORDS], FINDER_LENT, const uint32_t *ids, size_t ids_len,
-    uint32_t *checked, size_t checked_len, uint32_t *lost, size_t lost_len, uint32_t *scratch, size_t scratch_len, finder_report_words *report);
+uint32_t finder_assess(const uint32_t words[FINDER_INDEX_WORDS], FINDER_LENT, const uint32_t *ids, size_t ids_len,
+    uint32_t *checked, size_t checked_len, uint32_t *lost, size_t lost_len, uint32_t *scratch, size_t scratch_len, struct finder_report *report);
 
 #ifdef __cplusplus
 }

@@ -15,7 +15,7 @@ use Rattle.slots.specs.Sizes.{Slices, lengths-of, limits}
 use Rattle.slots.specs.Store.{Store, store-view}
 use Rattle.calls.specs.Calls.{Making, Search, Insert, Operation, create, read, read-vector, search, insert, Answer, refused, created, alpha, vector, refused-as, Assess, enable, assess}
 use Rattle.guard.specs.Guard.{Config}
-use Rattle.guard.specs.declared.report.Report.{Report}
+use Rattle.admission.specs.declared.report.Report.{Report}
 use Rattle.calls.specs.Calls as Answers
 use Rattle.calls.specs.Outputs.{Outputs, no-outputs, written}
 use Rattle.calls.specs.Refusals.{first-of, making-tests, tests}
@@ -41,7 +41,7 @@ use Rattle.updating.specs.declared.Inserted.the-variants.{Refused as not-insert
 use Rattle.updating.specs.Insert.{insert-outputs, inserted-as, index-after}
 use Rattle.finder.specs.IndexWords.{index-of, words-of}
 use Rattle.finder.specs.Given.{created-given, Creates-words, value-in, bytes-at, Reads-length, Searches-words, inserted-given, Inserts-words, standing-put, Stands-words, enabled-put, Enables-words, assessed-put, Assesses-words}
-use Rattle.exported.specs.Runs.{Memory, Places, places, nowhere, in-value, in-alpha, in-version, Exported-run, making, changing, looking, number, Exported, finder-create, finder-dim, finder-capacity, finder-degree, finder-entry, finder-live, finder-mark, finder-slot-version, finder-target, finder-alpha, finder-vector, finder-search, finder-insert, in-guard, finder-enable-guard, finder-guard-status, finder-assess-delete}
+use Rattle.exported.specs.Runs.{Memory, Places, places, nowhere, in-value, in-alpha, in-version, Exported-run, making, changing, looking, number, Exported, finder-create, finder-dim, finder-capacity, finder-degree, finder-entry, finder-live, finder-mark, finder-slot-version, finder-target, finder-alpha, finder-vector, finder-search, finder-insert, in-guard, finder-guard-enable, finder-guard-status, finder-assess}
 use Rattle.guarding.specs.declared.Standing.{Standing}
 use Rattle.guarding.specs.declared.Standing.the-variants.{Refused as no-status, Standing as Stands-so}
 use Rattle.guarding.specs.declared.Enabled.{Enabled}
@@ -481,6 +481,6 @@ known (finder-alpha c) = known-reading Alpha _ (c .does) refl (λ z. ap in-alpha
 known (finder-vector c) = known-vector c
 known (finder-search c) = known-search c
 known (finder-insert c) = known-insert c
-known (finder-enable-guard c) = known-enable c
+known (finder-guard-enable c) = known-enable c
 known (finder-guard-status c) = known-status c
-known (finder-assess-delete c) = known-assess c
+known (finder-assess c) = known-assess c

@@ -106,11 +106,11 @@ pub data Exported : Exported-run → Type 0 where
   finder-insert : {lent left : Memory} {a : Insert} {slots slots′ scratch scratch′ : List ℕ} {found found′ status : ℕ}
       → Inserts-words (lent .words) (lent .slices) a (insert-outputs slots) scratch (left .words) (left .slices) (insert-outputs slots′) scratch′ found found′ status
       → Exported (changing (insert a) lent left scratch scratch′ (places found (f32 0) 0 [] [] (insert-outputs slots)) (places found′ (f32 0) 0 [] [] (insert-outputs slots′)) status)
-  finder-enable-guard : {lent left : Memory} {c : Config} {scratch scratch′ place place′ : List ℕ} {status : ℕ}
+  finder-guard-enable : {lent left : Memory} {c : Config} {scratch scratch′ place place′ : List ℕ} {status : ℕ}
       → Enables-words (lent .words) (lent .slices) c scratch (left .words) (left .slices) scratch′ place place′ status
       → Exported (changing (enable c) lent left scratch scratch′ (in-guard place no-outputs) (in-guard place′ no-outputs) status)
   finder-guard-status : {lent : Memory} {place place′ : List ℕ} {status : ℕ} → Stands-words (lent .words) (lent .slices) place place′ status
       → Exported (looking Calls.status lent [] [] (in-guard place no-outputs) (in-guard place′ no-outputs) status)
-  finder-assess-delete : {lent : Memory} {a : Assess} {checked checked′ lost lost′ scratch scratch′ place place′ : List ℕ} {status : ℕ}
+  finder-assess : {lent : Memory} {a : Assess} {checked checked′ lost lost′ scratch scratch′ place place′ : List ℕ} {status : ℕ}
       → Assesses-words (lent .words) (lent .slices) a (report-outputs checked lost) scratch (report-outputs checked′ lost′) scratch′ place place′ status
       → Exported (looking (assess a) lent scratch scratch′ (in-guard place (report-outputs checked lost)) (in-guard place′ (report-outputs checked′ lost′)) status)

@@ -14,7 +14,7 @@ use Rattle.slots.specs.Sizes.{Slices, Lengths, lengths-of, limits, sizes-ok, al
 use Rattle.slots.specs.View.{View, live-slots}
 use Rattle.slots.specs.Store.{store-view, store-ops}
 use Rattle.guard.specs.Guard.{Config}
-use Rattle.guard.specs.declared.report.Report.{Report}
+use Rattle.admission.specs.declared.report.Report.{Report}
 use Rattle.calls.specs.Calls.{Assess, enable, Call, refused, standing, refused-as}
 use Rattle.calls.specs.Outputs.{Outputs, no-outputs}
 use Rattle.calls.specs.Refusals.{Test, first-of, guard-fault, index-tests, tests}

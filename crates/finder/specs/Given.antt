@@ -144,7 +144,7 @@ unfoldable pub enabled-put : Enabled → List ℕ → List ℕ → ℕ × List �
 enabled-put (not-enabled n) words place = (n, words, place)
 enabled-put (Enabled-with i s) words place = (0, words-of i, status-words (status-of s))
 
--- what `finder_enable_guard` promises; the words that it leaves hold the index that the app has then
+-- what `finder_guard_enable` promises; the words that it leaves hold the index that the app has then
 pub record Enables-words (words : List ℕ) (s : Slices) (c : Config) (scratch : List ℕ) (words′ : List ℕ) (s′ : Slices) (scratch′ place place′ : List ℕ) (status : ℕ) : Type 0 where
   pub answer : Enabled
   pub does : Enables (index-of words) s c scratch s′ scratch′ answer
@@ -156,7 +156,7 @@ unfoldable pub assessed-put : Assessed → List ℕ → ℕ × List ℕ
 assessed-put (not-assessed n) place = (n, place)
 assessed-put (Assessed-so r) place = (0, report-words r)
 
--- what `finder_assess_delete` promises
+-- what `finder_assess` promises
 pub record Assesses-words (words : List ℕ) (s : Slices) (a : Assess) (outputs : Outputs) (scratch : List ℕ) (outputs′ : Outputs) (scratch′ place place′ : List ℕ) (status : ℕ) : Type 0 where
   pub answer : Assessed
   pub does : Assesses (index-of words) s a outputs scratch outputs′ scratch′ answer

@@ -3,7 +3,7 @@ use Prim.Native.Nat.{ℕ}
 use mathlib.Core.Bool.{Bool, cond}
 use mathlib.Core.List.{List, [], _∷_}
 use Rattle.guard.specs.Guard.{Status}
-use Rattle.guard.specs.declared.report.Report.{Report}
+use Rattle.admission.specs.declared.report.Report.{Report}
 
 abbrev pub flag : Bool → ℕ
 flag b = cond b 1 0

@@ -1,7 +1,7 @@
 // The guard's calls on an index that words hold.
 use super::index_words::index_from;
 use super::index_words::words_from;
-use guard::Report;
+use admission::Report;
 use guarding::Assessed;
 use guarding::Enabled;
 use guarding::Standing;
@@ -98,7 +98,7 @@ fn put_report(answer: Assessed, report: &mut [u32; 8]) -> u32
 
 // Enables the guard, which may be on already, and writes the words of the index and the guard's status.
 #[no_mangle]
-pub extern "C" fn finder_enable_guard(
+pub extern "C" fn finder_guard_enable(
     words: &mut [u32; 12],
     vectors: &[u8],
     targets: &[u32],
@@ -154,7 +154,7 @@ pub extern "C" fn finder_guard_status(
 
 // The report on deleting `ids`: its numbers, and the landmarks checked and lost.
 #[no_mangle]
-pub extern "C" fn finder_assess_delete(
+pub extern "C" fn finder_assess(
     words: &[u32; 12],
     vectors: &[u8],
     targets: &[u32],

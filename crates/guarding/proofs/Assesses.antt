@@ -14,11 +14,11 @@ use Rattle.slots.specs.Scratch.{size-answer}
 use Rattle.slots.specs.Store.{Store, store-view, store-ops, arrays}
 use Rattle.guard.specs.Guard.{config, pool-of, no-landmarks, assess-delete-admission}
 use Rattle.guard.specs.Guard as Guards
-use Rattle.guard.specs.contracts.Pools.{guard-words}
-use Rattle.guard.specs.contracts.Reports.{Reports, Assessable}
-use Rattle.guard.specs.contracts.Reports as Reporting
-use Rattle.guard.specs.declared.report.Report.{Report}
-use Rattle.guard.proofs.Pooling.{share-enough}
+use Rattle.admission.specs.contracts.Pools.{guard-words}
+use Rattle.admission.specs.contracts.Reports.{Reports, Assessable}
+use Rattle.admission.specs.contracts.Reports as Reporting
+use Rattle.admission.specs.declared.report.Report.{Report}
+use Rattle.admission.proofs.Pooling.{share-enough}
 use Rattle.index.specs.declared.Index.{Index}
 use Rattle.index.specs.declared.Settings.{Settings}
 use Rattle.index.specs.declared.Guard.the-variants.{Off, On}

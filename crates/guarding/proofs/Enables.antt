@@ -15,9 +15,9 @@ use Rattle.slots.specs.Scratch.{size-answer}
 use Rattle.slots.specs.View.{View, live-slots}
 use Rattle.slots.specs.Store.{Store, store-view, store-ops}
 use Rattle.guard.specs.Guard.{Config, config, normalized, on, pool-of, residual-entry, landmark-pool}
-use Rattle.guard.specs.contracts.Pools.{guard-words, Entered, Poolable, Pooled}
-use Rattle.guard.proofs.Pooling.{share-enough}
-use Rattle.guard.proofs.Enabling.{entered-live}
+use Rattle.admission.specs.contracts.Pools.{guard-words, Entered, Poolable, Pooled}
+use Rattle.admission.proofs.Pooling.{share-enough}
+use Rattle.admission.proofs.Entering.{entered-live}
 use Rattle.index.specs.declared.Index.{Index}
 use Rattle.index.specs.declared.Settings.{Settings}
 use Rattle.calls.specs.Calls.{Call, enable, standing, refused-as}

@@ -6,8 +6,8 @@ use lib.ListN.{length}
 use Rattle.slots.specs.Sizes.{Slices}
 use Rattle.guard.specs.Guard.{Config}
 use Rattle.guard.specs.Guard as Guards
-use Rattle.guard.specs.contracts.Pools.{or-blank}
-use Rattle.guard.specs.declared.report.Report.{Report}
+use Rattle.admission.specs.contracts.Pools.{or-blank}
+use Rattle.admission.specs.declared.report.Report.{Report}
 use Rattle.index.specs.declared.Index.{Index}
 use Rattle.guarding.specs.declared.Status.{Status}
 use Rattle.guarding.specs.declared.Enabled.{Enabled}

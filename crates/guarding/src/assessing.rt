@@ -1,7 +1,7 @@
 // Assessing a delete.
 use super::Assessed;
-use guard::Report;
-use guard::assess_delete_admission;
+use admission::Report;
+use admission::assess_delete_admission;
 use index::Guard;
 use index::Index;
 use index::Lengths;
@@ -16,7 +16,7 @@ ghost use lib.Dec.{ltb};
 ghost use lib.ListN.{length, take};
 ghost use Rattle.slots.specs.Sizes.{limits, slices};
 ghost use Rattle.slots.specs.Store.{arrays};
-ghost use Rattle.guard.specs.contracts.Reports.{Assessable, Assessed as Reported};
+ghost use Rattle.admission.specs.contracts.Reports.{Assessable, Assessed as Reported};
 ghost use Rattle.calls.specs.Refusals.{is-off};
 ghost use Rattle.index.specs.Index.{guard-of, lengths-in};
 ghost use Rattle.index.specs.contracts.Deciding.{Decided};

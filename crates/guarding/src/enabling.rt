@@ -1,8 +1,8 @@
 // Enabling the guard.
 use super::Enabled;
 use super::statuses::status_of;
-use guard::landmark_pool;
-use guard::residual_entry;
+use admission::landmark_pool;
+use admission::residual_entry;
 use index::Guard;
 use index::Index;
 use index::Lengths;
@@ -16,7 +16,7 @@ ghost use Prim.Native.Nat.{max};
 ghost use lib.ListN.{length};
 ghost use Rattle.slots.specs.Sizes.{slices};
 ghost use Rattle.guard.specs.Guard.{config};
-ghost use Rattle.guard.specs.contracts.Pools.{Poolable, Pooled};
+ghost use Rattle.admission.specs.contracts.Pools.{Poolable, Pooled};
 ghost use Rattle.index.specs.Index.{lengths-in};
 ghost use Rattle.index.specs.contracts.Deciding.{Decided};
 ghost use Rattle.guarding.specs.Guarding.{Enables};

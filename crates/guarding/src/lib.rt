@@ -3,9 +3,9 @@ mod assessing;
 mod enabling;
 mod statuses;
 
+use admission::Report;
 pub use assessing::assess_delete;
 pub use enabling::enable_guard;
-use guard::Report;
 use index::Index;
 pub use statuses::guard_status;
 

@@ -1,7 +1,7 @@
 // The status of the guard.
 use super::Standing;
 use super::Status;
-use guard::live_landmarks;
+use admission::live_landmarks;
 use index::Guard;
 use index::Index;
 use index::Lengths;

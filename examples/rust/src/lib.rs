@@ -324,7 +324,7 @@ impl Finder {
         let mut status = raw::GuardStatusWords::default();
         // SAFETY: each pointer is that of a whole vector with its length, and what is written is borrowed by this call alone.
         Error::of(unsafe {
-            raw::finder_enable_guard(
+            raw::finder_guard_enable(
                 &mut self.words,
                 self.vectors.as_ptr(),
                 self.vectors.len(),
@@ -363,7 +363,7 @@ impl Finder {
         let mut words = raw::ReportWords::default();
         Error::of(with_slices!(
             self,
-            finder_assess_delete,
+            finder_assess,
             ids.as_ptr(),
             ids.len(),
             checked.as_mut_ptr(),

@@ -83,7 +83,7 @@ extern "C" {
         found: *mut u32,
     ) -> u32;
 
-    pub fn finder_enable_guard(
+    pub fn finder_guard_enable(
         words: *mut IndexWords,
         vectors: *const u8,
         vectors_len: usize,
@@ -156,7 +156,7 @@ on_an_index! {
         found: *mut u32
     ) -> u32;
     fn finder_guard_status(status: *mut GuardStatusWords) -> u32;
-    fn finder_assess_delete(
+    fn finder_assess(
         ids: *const u32,
         ids_len: usize,
         checked: *mut u32,

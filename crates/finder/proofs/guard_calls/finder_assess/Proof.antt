@@ -1,7 +1,7 @@
 use Rattle.finder.proofs.Guarded.{assesses-words}
 use borrow.Author.Needs.{needs}
-use Rattle.finder.proofs.guard_calls.finder_assess_delete.Statement.{statement}
-use Rattle.finder.proofs.guard_calls.finder_assess_delete.Tie as tie
+use Rattle.finder.proofs.guard_calls.finder_assess.Statement.{statement}
+use Rattle.finder.proofs.guard_calls.finder_assess.Tie as tie
 
 -- the place after the call
 abbrev assess-delete₁ : tie.After-put-report → tie.After-assess-delete
@@ -28,8 +28,8 @@ same-length-3 c = assess-delete₁ c .assess-delete .kept .1 .1 .1 .1 .1 .1 .1 .
 returns : tie.Need-returns
 returns c = assesses-words _ _ (assess-delete₁ c .before .before .before .before .index-from .ensures) (assess-delete₁ c .assess-delete .ensures) (c .put-report .ensures)
 
-pub finder-assess-delete-spec : {M : Type 1} → statement M
-finder-assess-delete-spec =
+pub finder-assess-spec : {M : Type 1} → statement M
+finder-assess-spec =
     tie.close
     (tie.spec
     index-from-requires

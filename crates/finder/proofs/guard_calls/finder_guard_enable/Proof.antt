@@ -1,7 +1,7 @@
 use Rattle.finder.proofs.Guarded.{enabled-number, enables-words}
 use borrow.Author.Needs.{needs}
-use Rattle.finder.proofs.guard_calls.finder_enable_guard.Statement.{statement}
-use Rattle.finder.proofs.guard_calls.finder_enable_guard.Tie as tie
+use Rattle.finder.proofs.guard_calls.finder_guard_enable.Statement.{statement}
+use Rattle.finder.proofs.guard_calls.finder_guard_enable.Tie as tie
 
 -- the place after the call
 abbrev enable-guard₁ : tie.After-put-enabled-arg2 → tie.After-enable-guard
@@ -25,8 +25,8 @@ same-length-2 c = enable-guard₁ (c .before) .enable-guard .kept .1 .1 .1 .1 .1
 returns : tie.Need-returns
 returns c = enables-words _ _ (enable-guard₁ (c .before) .before .before .before .index-from .ensures) (enable-guard₁ (c .before) .enable-guard .ensures) (c .put-enabled .ensures)
 
-pub finder-enable-guard-spec : {M : Type 1} → statement M
-finder-enable-guard-spec =
+pub finder-guard-enable-spec : {M : Type 1} → statement M
+finder-guard-enable-spec =
     tie.close
     (tie.spec
     index-from-requires
