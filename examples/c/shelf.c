@@ -106,6 +106,10 @@ static int search(void)
     return 0;
 }
 
+/* Five and eight words, as the library writes them. */
+_Static_assert(sizeof(finder_guard_status_words) == 5 * sizeof(uint32_t), "five words");
+_Static_assert(sizeof(finder_report_words) == 8 * sizeof(uint32_t), "eight words");
+
 /* The guard: landmarks are slot 2 and then slot 0; without slot 1 a walk from slot 0 meets no slot 2. */
 static int guard(void)
 {

@@ -12,12 +12,12 @@ use Rattle.lists.proofs.All.{filter-test}
 use Rattle.lists.proofs.Bools.{and-both}
 use Rattle.lists.proofs.Ranges.{range-cons, range-none}
 use Rattle.slots.specs.View.{View, live-slots, emptied}
-use Rattle.slots.specs.Store.{Store, blank, is-valid, store-view}
+use Rattle.slots.specs.Store.{Store, blank, or-blank, is-valid, store-view}
 use Rattle.slots.proofs.Places.{live-inside}
 use Rattle.landmarks.specs.contracts.Samples.{remains}
 use Rattle.guard.specs.Guard.{first, stays, residual-entry}
 use Rattle.guard.proofs.Enabling.{enters}
-use Rattle.admission.specs.contracts.Pools.{or-blank, Entered}
+use Rattle.admission.specs.contracts.Pools.{Entered}
 use Rattle.admission.proofs.Seen.{stays-same}
 
 -- `residual-entry` over a test

@@ -12,12 +12,12 @@ use Rattle.lists.specs.Lists.{All, filter, sorted-set, put-front}
 use Rattle.lists.proofs.All.{all-map, all-append, all-take, filter-test}
 use Rattle.vectors.specs.Space.{slot-distance, space}
 use Rattle.slots.specs.View.{View, emptied}
-use Rattle.slots.specs.Store.{Arrays, Store, blank, is-valid, store-view}
+use Rattle.slots.specs.Store.{Arrays, Store, blank, or-blank, is-valid, store-view}
 use Rattle.landmarks.specs.contracts.Samples.{remains, References}
 use Rattle.landmarks.specs.contracts.Choices.{landmarks-by, Selectable, Appended}
 use Rattle.landmarks.proofs.Selecting.{landmarks-few, landmarks-inside}
 use Rattle.guard.specs.Guard.{Config, config, Report, no-landmarks, stays, residual-entry, select-landmarks, reaches, probe, assess-slots, assess-delete-admission}
-use Rattle.admission.specs.contracts.Pools.{or-blank, Entered}
+use Rattle.admission.specs.contracts.Pools.{Entered}
 use Rattle.admission.specs.contracts.Trials.{meets, Walks, Tried}
 use Rattle.admission.specs.contracts.Reports.{probe-by, Reports, Assessable, Assessed}
 use Rattle.admission.specs.declared.report.Report as Value

@@ -1,4 +1,4 @@
-// The routability guard on lent slices: the landmark pool, trial walks and the report (`assess_delete_admission`).
+// The routability guard on lent slices: the landmark pool, trial walks and the report.
 mod entry;
 mod pool;
 mod report;

@@ -1,7 +1,7 @@
 -- Row 13 of the table: with a live slot, the landmark pool that enabling chooses is empty exactly where one slot is live (docs/DECISIONS.md, D-23).
 -- Assumes nothing.
 use Prim.Native.Nat.{ℕ, zero, suc, _+_, _/_, _%_, max, _≤_, _<_}
-use mathlib.Core.Bool.{Bool, true, false, not, _&&_, cond, and-true, or-false, and-assoc}
+use mathlib.Core.Bool.{Bool, true, false, not, _&&_, cond, and-true, or-false}
 use mathlib.Core.Path.{_≡_, refl, ap, sym, _∙_}
 use mathlib.Core.List.{List, [], _∷_, _++_}
 use mathlib.Core.Option.{some}
@@ -11,15 +11,12 @@ use lib.Dec.{eqb, ltb}
 use lib.ListN.{length}
 use Rattle.lists.specs.Lists.{All, filter, elem, range, least-of}
 use Rattle.lists.proofs.All.{all-both, filter-test}
-use Rattle.lists.proofs.Filter.{filter-length, filter-and}
-use Rattle.lists.proofs.Filtered.{count-without}
+use Rattle.lists.proofs.Filtered.{count-cons, count-without}
 use Rattle.lists.proofs.Firsts.{filter-same}
 use Rattle.lists.proofs.Ranges.{filtered-below, times-once}
 use Rattle.vectors.specs.Space.{slot-distance}
 use Rattle.slots.specs.View.{View, live-slots}
 use Rattle.guard.specs.Guard.{Config, greatest-from, normalized, stays, eligible, sample, farthest, select-landmarks, residual-entry, landmark-pool}
--- so that the examples are checked first
-use Rattle.guard.proofs.Cases
 
 not-zero : (n : ℕ) → eqb (suc n) 0 ≡ false
 not-zero n = ne-eqb (suc n) 0 (λ i. omega arith)
@@ -27,6 +24,36 @@ not-zero n = ne-eqb (suc n) 0 (λ i. omega arith)
 module _ (v : View) where
   abbrev slots : List ℕ
   slots = range 0 (v .sizes .capacity)
+
+  -- ---- how many are sampled
+
+  -- live, and no reference
+  abbrev free : List ℕ → ℕ → Bool
+  free rs s = stays v [] s && not (elem s rs)
+
+  fewer : (p : ℕ → Bool) (rs xs : List ℕ) → length (filter (λ s. p s && stays v [] s && not (elem s rs)) xs) ≤ length (filter (free rs) xs)
+  fewer p rs [] = omega arith
+  fewer p rs (x ∷ xs) =
+      omega (arith, count-cons (λ s. p s && stays v [] s && not (elem s rs)) x xs, count-cons (free rs) x xs, fewer p rs xs, step (p x) (stays v [] x) (not (elem x rs)))
+    where
+      step : (a b c : Bool) → cond (a && b && c) 1 0 ≤ cond (b && c) 1 0
+      step true b c = omega arith
+      step false b c = omega arith
+
+  -- a sample is empty where nothing can be sampled
+  none-sampled : (wanted sample-size : ℕ) (rs : List ℕ) → 0 < wanted → eqb (length (sample v [] wanted sample-size rs)) 0 ≡ eqb (length (filter (free rs) slots)) 0
+  unfolding sample
+  none-sampled wanted sample-size rs h =
+      go (eligible v [] (λ s. eqb (s % max 1 (v .sizes .capacity / sample-size)) 0) rs) (fewer (λ s. eqb (s % max 1 (v .sizes .capacity / sample-size)) 0) rs slots)
+    where
+      go : (xs : List ℕ) → length xs ≤ length (filter (free rs) slots)
+          → eqb (length (xs ++ cond (ltb (length xs) wanted) (eligible v [] (λ s. not (elem s xs)) rs) [])) 0 ≡ eqb (length (filter (free rs) slots)) 0
+      go [] k = rw (lt-ltb 0 wanted h)
+      go (x ∷ xs) k =
+          let z : length (filter (free rs) slots) ≡ 0 → ⊥ = λ i. omega (arith, k) in
+          not-zero (length (xs ++ cond (ltb (length (x ∷ xs)) wanted) (eligible v [] (λ s. not (elem s (x ∷ xs))) rs) [])) ∙ sym (ne-eqb (length (filter (free rs) slots)) 0 z)
+
+  -- ---- how many are chosen
 
   far-none : (n : ℕ) (rs xs : List ℕ) → 0 < n → eqb (length (farthest v [] n rs xs)) 0 ≡ eqb (length xs) 0
   unfolding farthest
@@ -36,42 +63,22 @@ module _ (v : View) where
       let next = greatest-from (λ s. least-of (slot-distance (v .space) s) rs) x xs in
       not-zero (length (farthest v [] n (rs ++ (next ∷ [])) (filter (λ y. not (eqb y next)) (x ∷ xs)))) ∙ sym (not-zero (length xs))
 
-  -- the slots that may be sampled: live, and not the slot e
-  abbrev live-but : ℕ → ℕ → Bool
-  live-but e s = v .live s && not (eqb s e)
-
-  -- with a further test
-  eligible-of : (p : ℕ → Bool) (e : ℕ) → eligible v [] p (e ∷ []) ≡ filter (λ s. p s && live-but e s) slots
-  eligible-of p e =
-      filter-same (λ s. p s && stays v [] s && not (elem s (e ∷ []))) (λ s. p s && live-but e s)
-      (λ s. rw (and-true (v .live s), or-false (eqb s e)) (and-assoc (p s) (v .live s) (not (eqb s e)))) slots
-
-  -- a sample is empty where nothing may be sampled
-  none-sampled : (wanted sample-size e : ℕ) → 0 < wanted → eqb (length (sample v [] wanted sample-size (e ∷ []))) 0 ≡ eqb (length (filter (live-but e) slots)) 0
-  unfolding sample
-  none-sampled wanted sample-size e h = go (eligible v [] on (e ∷ [])) refl
-    where
-      on : ℕ → Bool
-      on s = eqb (s % max 1 (v .sizes .capacity / sample-size)) 0
-
-      go : (xs : List ℕ) → eligible v [] on (e ∷ []) ≡ xs
-          → eqb (length (xs ++ cond (ltb (length xs) wanted) (eligible v [] (λ s. not (elem s xs)) (e ∷ [])) [])) 0 ≡ eqb (length (filter (live-but e) slots)) 0
-      go [] q = rw (lt-ltb 0 wanted h) (ap (λ (l : List ℕ). eqb (length l) 0) (eligible-of (λ s. true) e))
-      go (x ∷ xs) q =
-          let some-on : filter on (filter (live-but e) slots) ≡ x ∷ xs = sym (filter-and on (live-but e) slots) ∙ sym (eligible-of on e) ∙ q in
-          let z : length (filter (live-but e) slots) ≡ 0 → ⊥ = λ i. omega (arith, filter-length on (filter (live-but e) slots), ap length some-on) in
-          not-zero (length (xs ++ cond (ltb (length (x ∷ xs)) wanted) (eligible v [] (λ s. not (elem s (x ∷ xs))) (e ∷ [])) [])) ∙ sym (ne-eqb (length (filter (live-but e) slots)) 0 z)
+  -- live, and not the slot e
+  left-of : (e : ℕ) → filter (free (e ∷ [])) slots ≡ filter (λ s. v .live s && not (eqb s e)) slots
+  left-of e = filter-same (free (e ∷ [])) (λ s. v .live s && not (eqb s e)) (λ s. rw (and-true (v .live s), or-false (eqb s e))) slots
 
   module _ (e : ℕ) (live : v .live e ≡ true) (inside : e < v .sizes .capacity) where
-    live-count : length (live-slots v) ≡ length (filter (live-but e) slots) + 1
-    live-count = omega (arith, count-without (v .live) e live slots, times-once e 0 (v .sizes .capacity) (omega arith) (omega arith))
+    live-count : length (live-slots v) ≡ length (filter (free (e ∷ [])) slots) + 1
+    live-count =
+        rw (left-of e)
+        (omega (arith, count-without (v .live) e live slots, times-once e 0 (v .sizes .capacity) (omega arith) (omega arith)))
 
     chosen-none : (wanted sample-size : ℕ) → 0 < wanted → eqb (length (select-landmarks v [] e wanted sample-size [])) 0 ≡ eqb (length (live-slots v)) 1
     unfolding select-landmarks
     chosen-none wanted sample-size h =
         far-none wanted (e ∷ []) (sample v [] wanted sample-size (e ∷ [])) h
-        ∙ none-sampled wanted sample-size e h
-        ∙ rw live-count (one-more (length (filter (live-but e) slots)))
+        ∙ none-sampled wanted sample-size (e ∷ []) h
+        ∙ rw live-count (one-more (length (filter (free (e ∷ [])) slots)))
       where
         one-more : (n : ℕ) → eqb n 0 ≡ eqb (n + 1) 1
         one-more zero = refl

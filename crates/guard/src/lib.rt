@@ -1,1 +1,1 @@
-// The definitions of the routability guard; its code is the crates `landmarks` and `admission`.
+// The definition of the routability guard: landmarks, trial walks and the report. Its code is in crates `landmarks` and `admission`.

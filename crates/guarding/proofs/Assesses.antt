@@ -1,7 +1,7 @@
 -- Assessing a delete: what the code decides and reports is what the definitions say. Assumes nothing.
 use Prim.Native.Nat.{ℕ, min, _≤_, _<_}
 use mathlib.Core.Bool.{Bool, true, false, true≢false}
-use mathlib.Core.Path.{_≡_, refl, sym, ap, _∙_, subst}
+use mathlib.Core.Path.{_≡_, refl, sym, _∙_, subst}
 use mathlib.Core.List.{List, [], _∷_}
 use mathlib.Core.Option.{some}
 use native.Mathlib.Omega.{arith}
@@ -12,30 +12,27 @@ use Rattle.lists.specs.Lists.{All}
 use Rattle.slots.specs.Sizes.{Slices, Lengths, lengths-of, limits}
 use Rattle.slots.specs.Scratch.{size-answer}
 use Rattle.slots.specs.Store.{Store, store-view, store-ops, arrays}
-use Rattle.guard.specs.Guard.{config, pool-of, no-landmarks, assess-delete-admission}
-use Rattle.guard.specs.Guard as Guards
-use Rattle.admission.specs.contracts.Pools.{guard-words}
-use Rattle.admission.specs.contracts.Reports.{Reports, Assessable}
+use Rattle.guard.specs.Guard.{no-landmarks}
+use Rattle.admission.specs.contracts.Reports.{Assessable}
 use Rattle.admission.specs.contracts.Reports as Reporting
 use Rattle.admission.specs.declared.report.Report.{Report}
-use Rattle.admission.proofs.Pooling.{share-enough}
 use Rattle.index.specs.declared.Index.{Index}
 use Rattle.index.specs.declared.Settings.{Settings}
 use Rattle.index.specs.declared.Guard.the-variants.{Off, On}
-use Rattle.calls.specs.Calls.{Assess, Call, assess, assessed, refused-as}
+use Rattle.calls.specs.Calls.{Assess, Call, assess, refused-as}
 use Rattle.calls.specs.Outputs.{room-of, written}
 use Rattle.calls.specs.Refusals.{is-off, tests}
 use Rattle.calls.specs.State.{State, stored, shown}
-use Rattle.calls.specs.Step.{refusal, perform, report-by}
+use Rattle.calls.specs.Step.{refusal, perform, report-of}
 use Rattle.calls.specs.Runs.{lent-of, slices-of, call-of, run-refusal}
 use Rattle.calls.proofs.Tests.{first-none}
 use Rattle.index.specs.Index.{guard-of, state-of}
 use Rattle.index.specs.contracts.Deciding.{Decided, Passed}
-use Rattle.index.proofs.Decide.{Numbered, decided-before, decided-after, turned-back, let-through, own-none, not-wrong, passed, passed-rows, passed-marks, passed-bytes, step-back, step-on}
+use Rattle.index.proofs.Decide.{Numbered, decided-before, decided-after, turned-back, let-through, own-none, not-wrong, passed, step-back, step-on}
 use Rattle.guarding.specs.declared.Assessed.the-variants.{Refused as not-assessed, Assessed as Assessed-so}
-use Rattle.guarding.specs.Guarding.{report-outputs, numbers-of, assessed-as, Assesses}
+use Rattle.guarding.specs.Guarding.{report-outputs, assessed-as, Assesses}
 use Rattle.guarding.specs.contracts.Testing.{assess-tests}
-use Rattle.guarding.proofs.Stands.{sound-on}
+use Rattle.guarding.proofs.Shared.{assessable, reported, numbers-are}
 
 -- ---- rows 3, 7, 8 and 11
 
@@ -62,24 +59,27 @@ module _ {index : Index} {lent : Lengths} {marks : List ℕ} (checked lost ids s
   pub turns-before : (r ≡ 0 → ⊥) → Turns r
   turns-before n = decided-before right _ n
 
-  module _ (z : r ≡ 0) where
-    pub turns-many : 256 < ids → Turns 7
+  module _ {most : ℕ} (z : r ≡ 0) (i : most ≡ 256) where
+    pub turns-many : most < ids → Turns 7
     unfolding limits
-    turns-many h = decided-after right _ 7 z (rw (lt-ltb 256 ids h))
+    turns-many h = decided-after right _ 7 z (rw (lt-ltb 256 ids (rw i at h)))
 
-    module _ {s : Bool} (few : ids ≤ 256) (h : s ≡ ltb scratch (size-answer (index .capacity))) where
+    module _ {s : Bool} (few : ids ≤ most) (h : s ≡ ltb scratch (size-answer (index .capacity))) where
+      within : ltb 256 ids ≡ false
+      within = le-ltb 256 ids (rw i at few)
+
       pub turns-short : s ≡ true → Turns 8
       unfolding limits
-      turns-short t = decided-after right _ 8 z (rw (le-ltb 256 ids few, sym h ∙ t))
+      turns-short t = decided-after right _ 8 z (rw (within, sym h ∙ t))
 
       module _ {o : Bool} (t : s ≡ false) (k : o ≡ is-off (guard-of (index .guard))) where
         pub turns-off : o ≡ true → Turns 11
         unfolding limits
-        turns-off q = decided-after right _ 11 z (rw (le-ltb 256 ids few, sym h ∙ t, sym k ∙ q))
+        turns-off q = decided-after right _ 11 z (rw (within, sym h ∙ t, sym k ∙ q))
 
         pub turns-none : o ≡ false → Turns 0
         unfolding limits
-        turns-none q = decided-after right _ 0 z (rw (le-ltb 256 ids few, sym h ∙ t, sym k ∙ q))
+        turns-none q = decided-after right _ 0 z (rw (within, sym h ∙ t, sym k ∙ q))
 
 -- ---- an assessment
 
@@ -135,38 +135,9 @@ module _ (index : Index) (s : Slices) (a : Assess) (checked lost scratch : List 
     unfolding limits
     ids-few = ltb-false 256 (length (a .ids)) (own .0)
 
-    pool-most : 1024 ≤ length (s .pool)
-    unfolding limits
-    pool-most = omega (arith, able .pool-long)
-
-    words : guard-words (length (s .marks)) ≤ length scratch
-    words =
-        let m = passed-marks able in
-        omega (arith, ltb-false (length scratch) (size-answer (index .capacity)) (own .1), rw (← m) at (share-enough (index .capacity) (able .capacity-high)), ap size-answer m)
-
     module _ {t : Settings} (e : index .guard ≡ On t) where
       pub assess-ready : Assessable (arrays (index .dim) (index .degree) (s .vectors) (s .targets) (s .edges) (s .versions) (s .marks)) (t .count) (t .sample) (t .beam) (s .pool) (t .pool) (a .ids) checked lost scratch
-      assess-ready =
-          let g = sound-on (index .guard) e (able .guard-right) in
-          record {
-            bytes = passed-bytes able;
-            rows = passed-rows able;
-            count-most = g .count-most;
-            sample-some = g .sample-some;
-            beam-most = g .beam-most;
-            pool-long = omega (arith, g .pool-most, pool-most);
-            ids-few = ids-few;
-            checked-long = omega (arith, g .count-most, lists-long);
-            lost-long = omega (arith, g .count-most, lists-long);
-            room = words;
-          }
-
-      abbrev reports : Guards.Report
-      reports = assess-delete-admission (store-view (before .graph)) (config (t .count) (t .multiplier) (t .sample) (t .beam)) (take (t .pool) (s .pool)) (a .ids)
-
-      performed : perform stored before (assess a) ≡ (before, assessed reports)
-      unfolding perform shown stored store-ops state-of report-by guard-of pool-of
-      performed = rw e
+      assess-ready = assessable able e (a .ids) checked lost scratch ids-few lists-long (own .1)
 
       not-refused : (m : ℕ) → refusal stored before call ≡ some m → ⊥
       unfolding refusal tests state-of stored store-ops store-view shown room-of
@@ -175,27 +146,15 @@ module _ (index : Index) (s : Slices) (a : Assess) (checked lost scratch : List 
       pub assesses-on : {checked′ lost′ scratch′ : List ℕ} {n : Report}
           → Reporting.Assessed (arrays (index .dim) (index .degree) (s .vectors) (s .targets) (s .edges) (s .versions) (s .marks)) (index .entry) (t .count) (t .sample) (t .beam) (take (t .pool) (s .pool)) (a .ids) checked checked′ lost lost′ n
           → Assesses index s a (report-outputs checked lost) scratch (report-outputs checked′ lost′) scratch′ (Assessed-so n)
-      unfolding tests assessed-as written state-of stored store-ops store-view shown room-of call-of slices-of run-refusal
-      assesses-on {checked′} {lost′} {scratch′} {n} f =
-          let g = f .does (before .graph) (t .multiplier) refl (sym (passed-marks able)) refl in
+      unfolding tests perform assessed-as written state-of stored store-ops store-view shown room-of call-of slices-of run-refusal
+      assesses-on {n = n} f =
+          let g = reported able e (a .ids) f in
           record {
-            report = reports;
+            report = report-of (shown stored before) (a .ids);
             numbers = λ m h. let i : n ≡ m = cc in sym i ∙ numbers-are g;
             meets = record {
-              does = sym (step-on before call (let-through index s numbered d z) ∙ performed);
+              does = sym (step-on before call (let-through index s numbered d z));
               writes = λ i. report-outputs (g .checked-list i) (g .lost-list i);
               keeps = λ m h. absurd (not-refused m h);
             };
-          }
-        where
-          numbers-are : Reports reports checked checked′ lost lost′ n → n ≡ numbers-of reports
-          numbers-are g = λ i. record {
-            admitted = g .admits i;
-            requested = g .requests i;
-            entry = g .enters i;
-            checked = g .checks i;
-            baseline = g .meets-before i;
-            residual = g .meets-after i;
-            lost = g .loses i;
-            supplemental = g .adds i;
           }

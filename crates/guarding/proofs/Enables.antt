@@ -1,5 +1,5 @@
 -- Enabling the guard: what the code decides, chooses and answers is what the definitions say. Assumes nothing.
-use Prim.Native.Nat.{ℕ, max, _≤_, _<_}
+use Prim.Native.Nat.{ℕ, _≤_, _<_}
 use mathlib.Core.Bool.{Bool, true, false, not, _||_}
 use mathlib.Core.Path.{_≡_, refl, sym, ap, _∙_}
 use mathlib.Core.List.{List, [], _∷_}
@@ -15,14 +15,13 @@ use Rattle.slots.specs.Scratch.{size-answer}
 use Rattle.slots.specs.View.{View, live-slots}
 use Rattle.slots.specs.Store.{Store, store-view, store-ops}
 use Rattle.guard.specs.Guard.{Config, config, normalized, on, pool-of, residual-entry, landmark-pool}
-use Rattle.admission.specs.contracts.Pools.{guard-words, Entered, Poolable, Pooled}
-use Rattle.admission.proofs.Pooling.{share-enough}
+use Rattle.admission.specs.contracts.Pools.{Entered, Poolable, Pooled}
 use Rattle.admission.proofs.Entering.{entered-live}
 use Rattle.index.specs.declared.Index.{Index}
 use Rattle.index.specs.declared.Settings.{Settings}
 use Rattle.calls.specs.Calls.{Call, enable, standing, refused-as}
-use Rattle.calls.specs.Outputs.{no-outputs, room-of, written}
-use Rattle.calls.specs.Refusals.{Test, first-of, or-zero, guard-fault, config-over, new-pool, index-tests, tests}
+use Rattle.calls.specs.Outputs.{no-outputs, written}
+use Rattle.calls.specs.Refusals.{Test, first-of, guard-fault, config-over, new-pool, index-tests, tests}
 use Rattle.calls.specs.State.{State, stored, shown, with-guard}
 use Rattle.calls.specs.Step.{refusal, perform}
 use Rattle.calls.specs.Runs.{lent-of, slices-of, call-of, run-refusal}
@@ -34,7 +33,8 @@ use Rattle.index.proofs.Decide.{Numbered, decided-before, decided-after, turned
 use Rattle.guarding.specs.declared.Status.{Status}
 use Rattle.guarding.specs.declared.Enabled.the-variants.{Refused as not-enabled, Enabled as Enabled-with}
 use Rattle.guarding.specs.Guarding.{status-of, enabled-as, enabled-index, Enables}
-use Rattle.guarding.specs.contracts.Testing.{enable-tests, Normal, guarded, with-pool, Stood}
+use Rattle.guarding.specs.contracts.Testing.{enable-tests, Normal, guarded-index, with-pool, Stood}
+use Rattle.guarding.proofs.Shared.{pool-most, guard-room}
 
 -- ---- rows 7, 8, 12 and 13
 
@@ -172,15 +172,6 @@ module _ (index : Index) (s : Slices) (c : Config) (scratch : List ℕ) {r : ℕ
     pub marks-few : length (s .marks) ≤ 65536
     marks-few = omega (arith, passed-marks able, able .capacity-high)
 
-    words : guard-words (length (s .marks)) ≤ length scratch
-    words =
-        let m = passed-marks able in
-        omega (arith, ltb-false (length scratch) (size-answer (index .capacity)) (own .1), rw (← m) at (share-enough (index .capacity) (able .capacity-high)), ap size-answer m)
-
-    pool-most : 1024 ≤ length (s .pool)
-    unfolding limits
-    pool-most = omega (arith, able .pool-long)
-
     module _ {start : ℕ} (e : Entered (s .marks) [] (index .entry) start) where
       entered : (residual-entry (store-view (before .graph)) [] ≡ some start) × (start < length (s .marks))
       unfolding state-of
@@ -204,8 +195,8 @@ module _ (index : Index) (s : Slices) (c : Config) (scratch : List ℕ) {r : ℕ
               multiplier-some = omega (arith, m .multiplier-is);
               multiplier-most = omega (arith, m .multiplier-is, ltb-false 16 (c .multiplier) (q .1));
               sample-some = omega (arith, m .sample-is);
-              pool-long = pool-most;
-              room = words;
+              pool-long = pool-most able;
+              room = guard-room able scratch (own .1);
             }
 
         module _ {pool′ : List ℕ} {n : ℕ} (g : Pooled (index .dim) (s .vectors) (s .marks) start (t .count) (t .multiplier) (t .sample) (s .pool) pool′ n) where
@@ -227,7 +218,7 @@ module _ (index : Index) (s : Slices) (c : Config) (scratch : List ℕ) {r : ℕ
           front : take n pool′ ≡ new
           front = rw (many, words-are) (take-append-seam new (drop (length new) (s .pool)))
 
-          module _ {i : Index} (ie : i ≡ guarded index t n) where
+          module _ {i : Index} (ie : i ≡ guarded-index index t n) where
             pub status-ready : length pool′ ≡ length (s .pool) → (guard-fault limits (guard-of (i .guard)) ≡ false) × (length pool′ ≡ limits .pool)
             unfolding guard-of
             status-ready l = (rw ie (fault-free c (own .0) m (g .few)), l ∙ able .pool-long)

@@ -1,3 +1,4 @@
+pub mod Shared
 pub mod Stands
 pub mod Enables
 pub mod Assesses

@@ -1,19 +1,15 @@
 -- The status of the guard: what the code finds is what the definitions say. Assumes nothing.
-use Prim.Native.Nat.{ℕ, _≤_, _<_}
-use mathlib.Core.Bool.{true, false, _||_}
+use Prim.Native.Nat.{ℕ, _≤_}
+use mathlib.Core.Bool.{true, false}
 use mathlib.Core.Path.{_≡_, refl, sym, ap, _∙_}
 use mathlib.Core.List.{List, []}
 use native.Mathlib.Omega.{arith}
-use borrow.Author.Tests.{ltb-false, eqb-false}
-use lib.Dec.{eqb, ltb}
 use lib.ListN.{length, take}
 use lib.Seq.{length-take-le}
 use Rattle.lists.specs.Lists.{filter}
 use Rattle.slots.specs.Sizes.{Slices, lengths-of, limits}
-use Rattle.slots.specs.View.{View}
 use Rattle.slots.specs.Store.{Store, is-valid, store-view, store-ops}
-use Rattle.guard.specs.Guard.{config, on, pool-of, guard-status}
-use Rattle.guard.specs.Guard as Guards
+use Rattle.guard.specs.Guard.{pool-of, guard-status}
 use Rattle.index.specs.declared.Index.{Index}
 use Rattle.index.specs.declared.Settings.{Settings}
 use Rattle.index.specs.declared.Guard.{Guard}
@@ -24,7 +20,6 @@ use Rattle.calls.specs.Refusals.{guard-fault, tests}
 use Rattle.calls.specs.State.{State, stored, shown}
 use Rattle.calls.specs.Step.{perform}
 use Rattle.calls.specs.Runs.{lent-of, slices-of, call-of}
-use Rattle.calls.proofs.Tests.{or-neither}
 use Rattle.index.specs.Index.{guard-of, state-of}
 use Rattle.index.specs.contracts.Deciding.{Decided}
 use Rattle.index.proofs.Decide.{turned-back, let-through, passed, step-back, step-on}
@@ -32,42 +27,7 @@ use Rattle.guarding.specs.declared.Status.{Status}
 use Rattle.guarding.specs.declared.Standing.the-variants.{Refused as no-status, Standing as Stands-so}
 use Rattle.guarding.specs.Guarding.{standing-as, Stands}
 use Rattle.guarding.specs.contracts.Testing.{Stood}
-
--- ---- settings without a fault
-
-pub record Sound (s : Settings) : Type 0 where
-  pub count-most : s .count ≤ 64
-  pub sample-some : 0 < s .sample
-  pub beam-most : s .beam ≤ 1024
-  pub pool-most : s .pool ≤ 1024
-
-sound : (s : Settings) → guard-fault limits (on (config (s .count) (s .multiplier) (s .sample) (s .beam)) (s .pool)) ≡ false → Sound s
-unfolding guard-fault limits
-sound s e =
-    let z₁ = eqb (s .count) 0 in
-    let z₂ = eqb (s .multiplier) 0 in
-    let z₃ = eqb (s .sample) 0 in
-    let z₄ = eqb (s .beam) 0 in
-    let o₁ = ltb 64 (s .count) in
-    let o₂ = ltb 16 (s .multiplier) in
-    let o₃ = ltb 65536 (s .sample) in
-    let o₄ = ltb 1024 (s .beam) in
-    let a = or-neither (z₁ || z₂ || z₃ || z₄ || (o₁ || o₂ || o₃ || o₄)) (ltb 1024 (s .pool)) e in
-    let b = or-neither (z₁ || z₂ || z₃ || z₄) (o₁ || o₂ || o₃ || o₄) (a .0) in
-    let zs = or-neither (z₁ || z₂ || z₃) z₄ (b .0) in
-    let z = or-neither (z₁ || z₂) z₃ (zs .0) in
-    let os = or-neither (o₁ || o₂ || o₃) o₄ (b .1) in
-    let o = or-neither (o₁ || o₂) o₃ (os .0) in
-    record {
-      count-most = ltb-false 64 (s .count) (or-neither o₁ o₂ (o .0) .0);
-      sample-some = omega (arith, eqb-false (s .sample) 0 (z .1));
-      beam-most = ltb-false 1024 (s .beam) (os .1);
-      pool-most = ltb-false 1024 (s .pool) (a .1);
-    }
-
-pub sound-on : (g : Guard) {s : Settings} → g ≡ On s → guard-fault limits (guard-of g) ≡ false → Sound s
-unfolding guard-of
-sound-on g {s} e f = sound s (rw e at f)
+use Rattle.guarding.proofs.Shared.{sound-on}
 
 -- ---- the status of a guard
 

@@ -4,9 +4,9 @@ use mathlib.Core.List.{List, []}
 use mathlib.Core.Path.{_≡_}
 use lib.ListN.{length}
 use Rattle.slots.specs.Sizes.{Slices}
+use Rattle.slots.specs.Store.{or-blank}
 use Rattle.guard.specs.Guard.{Config}
 use Rattle.guard.specs.Guard as Guards
-use Rattle.admission.specs.contracts.Pools.{or-blank}
 use Rattle.admission.specs.declared.report.Report.{Report}
 use Rattle.index.specs.declared.Index.{Index}
 use Rattle.guarding.specs.declared.Status.{Status}
@@ -16,7 +16,7 @@ use Rattle.guarding.specs.declared.Standing.{Standing}
 use Rattle.guarding.specs.declared.Standing.the-variants.{Refused as no-status, Standing as Stands-so}
 use Rattle.guarding.specs.declared.Assessed.{Assessed}
 use Rattle.guarding.specs.declared.Assessed.the-variants.{Refused as not-assessed, Assessed as Assessed-so}
-use Rattle.calls.specs.Calls.{Assess, Operation, enable, status, assess, Answer, refused, standing, assessed}
+use Rattle.calls.specs.Calls.{Assess, enable, status, assess, Answer, refused, standing, assessed}
 use Rattle.calls.specs.Outputs.{Outputs, no-outputs}
 use Rattle.calls.specs.Runs.{Run, Meets}
 use Rattle.index.specs.Index.{state-of}

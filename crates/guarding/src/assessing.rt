@@ -61,7 +61,7 @@ fn assess_refusal(
     if r != 0 {
         return r;
     }
-    if 256 < ids {
+    if wide(limits::IDS) < ids {
         return 7;
     }
     if scratch_short(index.capacity, scratch) {

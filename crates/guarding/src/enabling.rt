@@ -20,7 +20,7 @@ ghost use Rattle.admission.specs.contracts.Pools.{Poolable, Pooled};
 ghost use Rattle.index.specs.Index.{lengths-in};
 ghost use Rattle.index.specs.contracts.Deciding.{Decided};
 ghost use Rattle.guarding.specs.Guarding.{Enables};
-ghost use Rattle.guarding.specs.contracts.Testing.{enable-tests, Normal, guarded};
+ghost use Rattle.guarding.specs.contracts.Testing.{enable-tests, Normal, guarded-index};
 
 // A setting of 0 acts, and is stored, as 1.
 fn at_least_one(n: u32) -> u32
@@ -103,7 +103,7 @@ fn choose_pool(
 
 // An index whose guard is on, with a pool of `n` landmarks.
 fn with_guard(index: Index, settings: Settings, n: u32) -> Index
-    ensures { λ r. ⌜ r ≡ guarded index settings n ⌝ }
+    ensures { λ r. ⌜ r ≡ guarded-index index settings n ⌝ }
 {
     Index {
         dim: index.dim,

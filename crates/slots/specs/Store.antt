@@ -3,6 +3,7 @@
 use Prim.Native.Nat.{ℕ, zero, suc, _+_, _-_, _*_, _%_}
 use mathlib.Core.Bool.{Bool, not, _&&_, cond}
 use mathlib.Core.List.{List, [], _∷_, _++_, map}
+use mathlib.Core.Option.{Option, none, some}
 use mathlib.Core.Path.{_≡_}
 use lib.ListN.{length, take, getD, set, replicate}
 use lib.Dec.{eqb, ltb}
@@ -15,6 +16,11 @@ use Rattle.slots.specs.Ops.{Ops}
 -- `PAD_U32`, the target of a blank reference
 abbrev pub blank : ℕ
 blank = 4294967295
+
+-- a slot as a number: blank where there is none
+abbrev pub or-blank : Option ℕ → ℕ
+or-blank none = blank
+or-blank (some s) = s
 
 -- what the functions below a call are lent: dim bytes, degree targets and as many edge versions, a version and a mark for each slot
 pub record Arrays : Type 0 where

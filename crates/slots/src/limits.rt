@@ -7,6 +7,8 @@ pub const DEGREE: u32 = 64;
 
 pub const BEAM: u32 = 1024;
 
+pub const IDS: u32 = 256;
+
 pub const LANDMARKS: u32 = 64;
 
 pub const MULTIPLIER: u32 = 16;

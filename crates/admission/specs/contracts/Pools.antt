@@ -2,13 +2,12 @@
 use Prim.Native.Nat.{ℕ, _+_, _≤_, _<_}
 use mathlib.Core.Bool.{true}
 use mathlib.Core.List.{List}
-use mathlib.Core.Option.{Option, none, some}
 use mathlib.Core.Path.{_≡_}
 use lib.ListN.{length}
 use Rattle.vectors.specs.Vector.{Bytes}
 use Rattle.slots.specs.Scratch.{work-at}
 use Rattle.slots.specs.View.{emptied}
-use Rattle.slots.specs.Store.{Store, blank, store-view}
+use Rattle.slots.specs.Store.{Store, blank, or-blank, store-view}
 use Rattle.landmarks.specs.contracts.Samples.{remains, sample-words}
 use Rattle.landmarks.specs.contracts.Choices.{Appended}
 use Rattle.guard.specs.Guard.{config, residual-entry, landmark-pool}
@@ -16,11 +15,6 @@ use Rattle.guard.specs.Guard.{config, residual-entry, landmark-pool}
 -- the guard's share of the scratch: a walk's list and marks, and the sample in the work region. The size answer has it (`share-enough`).
 abbrev pub guard-words : ℕ → ℕ
 guard-words capacity = work-at capacity + sample-words capacity
-
--- a slot as a number: blank where there is none
-abbrev pub or-blank : Option ℕ → ℕ
-or-blank none = blank
-or-blank (some s) = s
 
 -- `residual-entry` for any ids; a slot that is found stays
 pub record Entered (marks ids : List ℕ) (entry r : ℕ) : Type 0 where

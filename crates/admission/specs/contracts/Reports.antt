@@ -8,10 +8,10 @@ use lib.Dec.{eqb, ltb}
 use lib.ListN.{length, take}
 use Rattle.lists.specs.Lists.{filter, put-front}
 use Rattle.vectors.specs.Vector.{Bytes}
-use Rattle.slots.specs.Store.{Arrays, Store, store-view}
+use Rattle.slots.specs.Store.{or-blank, Arrays, Store, store-view}
 use Rattle.slots.specs.contracts.Rows.{RowShape}
 use Rattle.guard.specs.Guard.{config, Report, assess-delete-admission}
-use Rattle.admission.specs.contracts.Pools.{guard-words, or-blank}
+use Rattle.admission.specs.contracts.Pools.{guard-words}
 use Rattle.admission.specs.contracts.Trials.{lost-of}
 use Rattle.admission.specs.declared.report.Report as Value
 

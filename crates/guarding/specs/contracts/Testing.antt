@@ -34,8 +34,8 @@ pub record Normal (c : Config) (s : Settings) : Type 0 where
   pub beam-is : s .beam ≡ max 1 (c .beam)
 
 -- an index whose guard is on, with a pool of n landmarks
-abbrev pub guarded : Index → Settings → ℕ → Index
-guarded i s n =
+abbrev pub guarded-index : Index → Settings → ℕ → Index
+guarded-index i s n =
     record {
       dim = i .dim;
       capacity = i .capacity;
