@@ -2,3 +2,4 @@ mod Cases
 pub mod Agree
 pub mod Span
 pub mod Reached
+pub mod Count

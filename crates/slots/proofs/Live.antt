@@ -15,6 +15,7 @@ use Rattle.slots.specs.Ops.{Ops}
 use Rattle.slots.specs.Store.{Store, is-valid, store-view, write-neighbors, write-vector, set-mark, next-version, filled, finished, with-arrays, store-ops}
 use Rattle.slots.specs.Plain.{at, plain-ops}
 use Rattle.slots.proofs.Changes.{valid-set}
+use Rattle.slots.proofs.Places.{live-inside}
 
 -- ---- each slot is live or free
 
@@ -32,6 +33,7 @@ module _ {B : Type 0} (O : Ops B) (Fit : B → Type 0) where
 
   -- a slot that is filled is live, one that is killed is dead; nothing else changes a mark
   pub record Marking : Type 0 where
+    pub inside : (b : B) → Fit b → (s : ℕ) → O .view b .live s ≡ true → s < O .view b .sizes .capacity
     pub fills : (b : B) → Fit b → (s : ℕ) (vector : List ℕ) → Marked b (at (O .view b .sizes .capacity) (O .view b .live) s true) (O .fill b s vector)
     pub writes : (b : B) → Fit b → (s : ℕ) (ids : List ℕ) → Marked b (O .view b .live) (O .write b s ids)
     pub kills : (b : B) → Fit b → (s : ℕ) → Marked b (at (O .view b .sizes .capacity) (O .view b .live) s false) (O .kill b s)
@@ -62,6 +64,7 @@ module _ (v : View) (h : Live-inside v) (s : ℕ) where
 pub plain-marking : Marking plain-ops Live-inside
 unfolding plain-ops
 plain-marking = record {
+  inside = λ b h. h;
   fills = λ b h s vector. record { fits = filled-inside b h s; sizes = refl; live = refl };
   writes = λ b h s ids. record { fits = h; sizes = refl; live = refl };
   kills = λ b h s. record { fits = killed-inside b h s; sizes = refl; live = refl };
@@ -122,6 +125,7 @@ module _ (b : Store) (h : Marks-fit b) (s : ℕ) where
 pub store-marking : Marking store-ops Marks-fit
 unfolding store-ops store-view
 store-marking = record {
+  inside = λ b h s e. rw (← h) (live-inside (b .arrays .marks) s e);
   fills = λ b h s vector. store-fills b h s vector;
   writes = λ b h s ids. store-writes b h s ids;
   kills = λ b h s. store-kills b h s;

@@ -1,11 +1,22 @@
-// Calls that change an index: insert.
+// Calls that change the graph: insert and delete.
+mod deleting;
 mod inserting;
 
 use index::Index;
+pub use deleting::delete;
+pub use deleting::delete_ids;
+pub use deleting::delete_over;
+pub use deleting::with_fewer;
 pub use inserting::insert;
 
 // The index with its vectors inserted, and how many they are; or the number of a refusal.
 pub enum Inserted {
+    Refused(u32),
+    Done(Index, u32),
+}
+
+// The index without the slots that are emptied, and how many they are; or the number of a refusal.
+pub enum Deleted {
     Refused(u32),
     Done(Index, u32),
 }
