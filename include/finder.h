@@ -18,8 +18,9 @@
  *     pool      FINDER_POOL          the landmark pool
  *
  * A slice is a pointer and a length in elements. Every pointer is aligned and not null, also where the length is 0, and has that many elements behind it.
- * What a function writes must not overlap anything else that it is lent; what it only reads may overlap. What is written may hold anything before. No
- * function keeps a pointer or allocates, and only memset is called; several threads may read one index at a time.
+ * What a function writes must not overlap anything else that it is lent; what it only reads may overlap. Outputs, scratch and the slices of a new index
+ * may hold anything before. No function keeps a pointer or allocates, and only memset is called; several threads may read one index at a time while none
+ * changes it.
  *
  * Every function but finder_vector returns 0 where it is carried out, else the number of the refusal. Those that apply are tested in the order of their
  * numbers, and the first that holds is returned. A call that is refused writes nothing.
@@ -151,9 +152,10 @@ uint32_t finder_search(const uint32_t words[FINDER_INDEX_WORDS], FINDER_LENT,
 
 /*
  * Inserts a batch: bytes has the vectors, one after the other, bytes_len / dim of them. They go into the lowest free slots, the first vector into the
- * lowest. Each new row is pruned from a walk from the entry with a list of at most beam slots (at least degree), and the rows that it names take the new
- * slot up. The number of the vectors is written to *found and the slots that they got to the first *found places of slots, lowest first; the places after
- * them stay. The words have the new live count; versions and pool are only read. The scratch is overwritten.
+ * lowest. For each a walk from the entry, with a list of at most beam or degree slots, whichever is more, finds neighbours, of which pruning selects its
+ * row; the rows of those selected are pruned anew with the new slot among their references. The number of the vectors is written to *found and the slots
+ * that they got to the first *found places of slots, lowest first; the places after them stay. The words get the new live count; versions and pool are
+ * only read. The scratch is overwritten.
  * Refusals, in order: 1, 2, 3 (one of the six slices, or fewer places in slots than vectors), 6, 7, 8, 9, 10.
  */
 uint32_t finder_insert(uint32_t words[FINDER_INDEX_WORDS],
