@@ -23,7 +23,7 @@ use Rattle.updating.specs.declared.Inserted.the-variants.{Refused, Done}
 use Rattle.updating.specs.Insert.{inserted-as, index-after, Inserts}
 use Rattle.updating.proofs.Fills.{inserted-alpha}
 use Rattle.finder.specs.IndexWords.{index-of, words-of}
-use Rattle.finder.specs.Given.{inserted-given, Inserts-words}
+use Rattle.finder.specs.Given.{Inserts-words}
 use Rattle.finder.specs.contracts.Putting.{inserted-put}
 use Rattle.finder.proofs.Held.{alpha-right, alpha-fits, words-hold}
 use Rattle.finder.proofs.Told.{positive, Told, told-back, told-on}

@@ -2,7 +2,7 @@
 use Prim.Native.Nat.{ℕ, _+_, _-_, _*_, _/_, _≤_, _<_}
 use mathlib.Core.Bool.{Bool, true, false, not}
 use mathlib.Core.Path.{_≡_, refl, sym, ap, ap₂, _∙_, subst}
-use mathlib.Core.List.{List, [], _∷_, map}
+use mathlib.Core.List.{List, [], _∷_}
 use mathlib.Core.Option.{Option, none, some}
 use native.Mathlib.Nat.{div-zero, div-mul-le-self}
 use native.Mathlib.Omega.{arith}
@@ -15,27 +15,26 @@ use Rattle.lists.proofs.Filtered.{count-both}
 use Rattle.lists.proofs.Ranges.{length-range}
 use Rattle.slots.specs.Sizes.{Slices, slices, Lengths, lengths-of, limits, alpha-ok}
 use Rattle.slots.specs.Scratch.{size-answer}
-use Rattle.slots.specs.View.{View, live-slots, free-slots}
+use Rattle.slots.specs.View.{live-slots}
 use Rattle.slots.specs.Store.{Store, is-valid, store-view, store-ops, arrays}
 use Rattle.slots.proofs.Live.{Marks-fit, store-marking}
 use Rattle.insert.specs.Insert.{insert-batch}
 use Rattle.insert.proofs.Free.{sizes-after-insert, live-after-insert}
 use Rattle.insertion.specs.Batch.{Insertable, BatchInserted}
 use Rattle.insertion.proofs.Batching.{insert-enough, inserted-store}
-use Rattle.calls.specs.Calls.{Insert, insert, Call, Lent, inserted, refused-as}
+use Rattle.calls.specs.Calls.{Insert, insert, Call, inserted, refused-as}
 use Rattle.calls.specs.Refusals.{first-of, tests}
 use Rattle.calls.specs.Outputs.{Outputs, room-of, written}
 use Rattle.calls.specs.State.{State, stored, shown, with-graph}
-use Rattle.calls.specs.Step.{vectors-of, refusal, perform, step}
+use Rattle.calls.specs.Step.{vectors-of, refusal, perform}
 use Rattle.calls.specs.Runs.{lent-of, slices-of, call-of, run-refusal}
 use Rattle.calls.proofs.Tests.{first-none}
 use Rattle.index.specs.declared.Index.{Index}
 use Rattle.index.specs.Index.{guard-of, state-of}
 use Rattle.index.specs.contracts.Deciding.{Decided, Passed}
 use Rattle.index.proofs.Decide.{Numbered, decided-before, decided-after, decided-live, turned-back, let-through, own-none, not-wrong, passed, passed-none, passed-rows, passed-marks, passed-bytes, step-back, step-on}
-use Rattle.updating.specs.declared.Inserted.{Inserted}
 use Rattle.updating.specs.declared.Inserted.the-variants.{Refused, Done}
-use Rattle.updating.specs.Insert.{inserting, insert-outputs, inserted-as, index-after, Inserts}
+use Rattle.updating.specs.Insert.{insert-outputs, inserted-as, index-after, Inserts}
 use Rattle.updating.specs.contracts.Filling.{insert-tests, with-live}
 
 -- ---- whole vectors
