@@ -4,7 +4,6 @@ use mathlib.Core.Bool.{Bool, true, false, cond, not, _||_, true≢false}
 use mathlib.Core.Path.{_≡_, refl, ap, sym, _∙_, fun-ext}
 use mathlib.Core.List.{List, [], _∷_, _++_, map}
 use native.Mathlib.Omega.{arith}
-use borrow.Author.Tests.{eqb-true, eqb-false}
 use lib.Dec.{eqb}
 use Rattle.lists.specs.Lists.{filter, foldl, range, elem, sorted-set, concat-map}
 use Rattle.lists.proofs.Ranges.{foldl-append}
@@ -12,7 +11,7 @@ use Rattle.lists.proofs.Sweep.{elem-set, set-sweep}
 use Rattle.slots.specs.Ops.{Row, write-rows}
 use Rattle.slots.specs.View.{View}
 use Rattle.slots.specs.Store.{Store, store-view, store-ops}
-use Rattle.slots.proofs.Writes.{Writes, Whole, store-writes}
+use Rattle.slots.proofs.Writes.{Writes, sources, absorb, Whole, store-writes}
 use Rattle.candidates.specs.Candidates.{Candidate, ids}
 use Rattle.prune.specs.Prune.{prune}
 use Rattle.row.specs.Row.{live-scored}
@@ -28,22 +27,6 @@ module _ {B : Type 0} (Ok : B → Type 0) (write : B → ℕ → List ℕ → B)
   abbrev row : B → Row → B
   row b r = write b (r .source) (r .targets)
 
-  -- the slots of rows
-  abbrev sources : List Row → List ℕ
-  sources rs = map (λ r. r .source) rs
-
-  -- a write before the row is written again does not count
-  absorb : (b : B) (s : ℕ) (x : List ℕ) (rs : List Row) → Ok b → elem s (sources rs) ≡ true → foldl row (write b s x) rs ≡ foldl row b rs
-  absorb b s x [] k e = absurd (true≢false (sym e))
-  absorb b s x (r ∷ rs) k e = go (eqb s (r .source)) refl (λ (i : elem s (sources rs) ≡ true). absorb (row b r) s x rs (w .ok b (r .source) (r .targets) k) i)
-    where
-      go : (c : Bool) → eqb s (r .source) ≡ c → (elem s (sources rs) ≡ true → foldl row (write (row b r) s x) rs ≡ foldl row (row b r) rs)
-          → foldl row (write b s x) (r ∷ rs) ≡ foldl row b (r ∷ rs)
-      go true q i =
-          let z : s ≡ r .source = eqb-true s (r .source) q in
-          ap (λ (b : B). foldl row b rs) (rw z (w .same b (r .source) x (r .targets) k))
-      go false q i = ap (λ (b : B). foldl row b rs) (w .swap b s (r .source) x (r .targets) k (eqb-false s (r .source) q)) ∙ i (rw q at e)
-
   -- rows that are written again later may be left out
   left-out : (b : B) (rs ts : List Row) → Ok b → foldl row b (filter (λ r. not (elem (r .source) (sources ts))) rs ++ ts) ≡ foldl row b (rs ++ ts)
   left-out b [] ts k = refl
@@ -58,7 +41,7 @@ module _ {B : Type 0} (Ok : B → Type 0) (write : B → ℕ → List ℕ → B)
 
       go : (c : Bool) → elem (r .source) (sources ts) ≡ c → foldl row b (others ++ ts) ≡ foldl row b (rs ++ ts) → foldl row (row b r) (others ++ ts) ≡ foldl row (row b r) (rs ++ ts)
           → foldl row b (cond (not c) (r ∷ others) others ++ ts) ≡ foldl row b (r ∷ rs ++ ts)
-      go true e i j = i ∙ sym (absorb b (r .source) (r .targets) (rs ++ ts) k (in-both (r .source) rs e))
+      go true e i j = i ∙ sym (absorb Ok write w b (r .source) (r .targets) (rs ++ ts) k (in-both (r .source) rs e))
       go false e i j = j
 
   -- a row worked out from the store as it stands, and written at once

@@ -1,8 +1,8 @@
 -- The sample, slot by slot, and the whole of it. Assumes nothing.
-use Prim.Native.Nat.{ℕ, suc, _+_, _-_, _*_, _≤_, _<_}
+use Prim.Native.Nat.{ℕ, _+_, _-_, _*_, _≤_, _<_}
 use mathlib.Core.Bool.{Bool, true, false, cond}
 use mathlib.Core.Path.{_≡_, refl, ap, sym, _∙_}
-use mathlib.Core.List.{List, [], _∷_, _++_, append-assoc, append-nil}
+use mathlib.Core.List.{List, [], _++_, append-assoc, append-nil}
 use native.Mathlib.Omega.{arith}
 use borrow.Author.Tests.{lt-ltb, le-ltb}
 use lib.Dec.{ltb}
@@ -10,19 +10,11 @@ use lib.ListN.{length}
 use Rattle.lists.specs.Lists.{All, filter, range}
 use Rattle.lists.proofs.All.{by-cases, all-append}
 use Rattle.lists.proofs.Ranges.{range-cons, range-none, filtered-below}
-use Rattle.candidates.specs.Candidates.{Candidate, scored}
+use Rattle.candidates.specs.Candidates.{scored}
 use Rattle.candidates.specs.contracts.Words.{cands, put}
 use Rattle.candidates.proofs.Words.{cands-none, cands-length, cands-push, put-length}
+use Rattle.candidates.proofs.Scored.{scored-append, scored-length}
 use Rattle.landmarks.specs.contracts.Samples.{far, sampled, sample-by, sample-words, Sampled, Taken}
-
--- ---- slots with their distances
-pub scored-append : (near : ℕ → ℕ) (xs ys : List ℕ) → scored near (xs ++ ys) ≡ scored near xs ++ scored near ys
-scored-append near [] ys = refl
-scored-append near (x ∷ xs) ys = ap (λ (cs : List Candidate). record { dist = near x; id = x } ∷ cs) (scored-append near xs ys)
-
-pub scored-length : (near : ℕ → ℕ) (xs : List ℕ) → length (scored near xs) ≡ length xs
-scored-length near [] = refl
-scored-length near (x ∷ xs) = ap suc (scored-length near xs)
 
 -- ---- the slots before s are looked at, m candidates are there
 pub record Sampling (p : ℕ → Bool) (capacity a : ℕ) (w₀ : List ℕ) (n : ℕ) (w : List ℕ) (m s : ℕ) : Type 0 where

@@ -3,3 +3,5 @@ pub mod Agree
 pub mod Span
 pub mod Reached
 pub mod Count
+pub mod Sources
+pub mod Counting

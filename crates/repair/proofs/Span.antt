@@ -17,7 +17,7 @@ length-init : (x : ℕ) (xs : List ℕ) → length (init (x ∷ xs)) ≡ length 
 length-init x [] = refl
 length-init x (y ∷ ys) = ap suc (length-init y ys)
 
-one-less : (x r : ℕ) (rs : List ℕ) → length (swap-remove x (r ∷ rs)) ≡ length rs
+pub one-less : (x r : ℕ) (rs : List ℕ) → length (swap-remove x (r ∷ rs)) ≡ length rs
 one-less x r rs = length-map (init (r ∷ rs)) (λ y. cond (eqb y x) (last 0 (r ∷ rs)) y) ∙ length-init r rs
 
 -- more turns than there remain change nothing
@@ -58,7 +58,7 @@ at-most-one s x = go (eqb x s)
     go false = omega arith
 
 -- the least of a and a list is one of them
-others-fewer : (m : ℕ → ℕ) (a : ℕ) (xs : List ℕ) → length (others (least-from m a xs) (a ∷ xs)) ≤ length xs
+pub others-fewer : (m : ℕ → ℕ) (a : ℕ) (xs : List ℕ) → length (others (least-from m a xs) (a ∷ xs)) ≤ length xs
 others-fewer m a [] = rw (eq-eqb a a refl) (omega arith)
 others-fewer m a (x ∷ xs) = go (ltb (m x) (m a)) (others-fewer m x xs) (others-fewer m a xs)
   where

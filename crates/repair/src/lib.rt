@@ -1,1 +1,1 @@
-// To come: `delete_batch`: plans, repair links and stats.
+// The definition of `delete_batch`; its code is in the crates `links` and `deletion`.

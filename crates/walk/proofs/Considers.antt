@@ -13,6 +13,7 @@ use Rattle.lists.specs.Lists.{All, Ordered, filter, elem, foldl, insert-by, ini
 use Rattle.lists.proofs.All.{by-cases, all-map, all-init, all-insert}
 use Rattle.lists.proofs.Ordered.{length-insert, length-init}
 use Rattle.candidates.specs.Candidates.{Candidate, before, ids}
+use Rattle.candidates.proofs.Scored.{all-ids}
 use Rattle.walk.specs.Walk.{worst, enter, ends}
 use Rattle.walk.specs.GreedySearch.{Rules, Search, nearest, join, visit, turn, unvisited, turns, greedy-search, paper, too-far, amended}
 use Rattle.walk.proofs.Ordered.{all-enter, enter-ordered, enter-short}
@@ -42,10 +43,6 @@ all-elem P t (x ∷ xs) h e = go (eqb t x) refl e (all-elem P t xs (h .1))
     go : (b : Bool) → eqb t x ≡ b → (b || elem t xs) ≡ true → (elem t xs ≡ true → P t) → P t
     go true i f rest = rw (eqb-true t x i) (h .0)
     go false i f rest = rest f
-
-all-ids : (P : ℕ → Type 0) (cs : List Candidate) → All (λ c. P (c .id)) cs → All P (ids cs)
-all-ids P [] h = tt
-all-ids P (c ∷ cs) h = (h .0, all-ids P cs (h .1))
 
 last-all : (P : Candidate → Type 0) (a : Candidate) (cs : List Candidate) → P a → All P cs → P (last a cs)
 last-all P a [] h k = h
