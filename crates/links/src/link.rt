@@ -1,0 +1,178 @@
+// A repair link, applied to the stored row of its source at once.
+use candidates::has_id;
+use candidates::id_at;
+use candidates::put;
+use row::live_scored;
+use row::write_pruned;
+use slots::marks::wide;
+use vectors::slot_distance;
+ghost use mathlib.Core.List.{[], _∷_};
+ghost use Prim.Native.Nat.{_+_, _*_, _<_, _≤_};
+ghost use lib.ListN.{length};
+ghost use Rattle.slots.specs.Store.{arrays};
+ghost use Rattle.row.specs.Row.{Together};
+ghost use Rattle.links.specs.contracts.Linking.{link, both-ways, links-at, link-words, Room, Ends, Joined, Applied};
+
+// Adds the target `t`, with its distance to slot `s`, to the `n` candidates at `at`, unless one of them has it. Returns how many they are then.
+fn add_target(
+    dim: usize,
+    vectors: &[u8],
+    s: u32,
+    t: u32,
+    scratch: &mut [u32],
+    at: usize,
+    n: usize,
+) -> usize
+    requires { ⌜ (s * dim + dim ≤ length (now vectors)) × (t * dim + dim ≤ length (now vectors)) × (dim ≤ 256) × (at + 2 * n + 2 ≤ length (now scratch)) ⌝ }
+    ensures { λ r. ⌜ Joined dim (now (vectors .entry)) s t (now (scratch .entry)) at n r (now (scratch .exit)) ⌝ }
+{
+    let dist = slot_distance(dim, vectors, wide(s), wide(t));
+    if has_id(scratch, at, n, t) {
+        return n;
+    }
+    put(scratch, at + 2 * n, dist, t);
+    n + 1
+}
+
+// Applies a link: the stored row of `source` takes `target`, where it has it not, and is pruned. `InsertAndPrune` in the Rust.
+fn apply_link(
+    dim: usize,
+    degree: usize,
+    alpha: f32,
+    vectors: &[u8],
+    targets: &mut [u32],
+    edges: &mut [u16],
+    versions: &[u16],
+    marks: &[u8],
+    source: u32,
+    target: u32,
+    scratch: &mut [u32],
+    at: usize,
+)
+    requires { ⌜ Together (arrays dim degree (now vectors) (now targets) (now edges) (now versions) (now marks)) ⌝ }
+    requires { ⌜ (source < length (now marks)) × (target < length (now marks)) × Room degree (now scratch) at ⌝ }
+    ensures { λ _. ⌜ Applied alpha (arrays dim degree (now (vectors .entry)) (now (targets .entry)) (now (edges .entry)) (now (versions .entry)) (now (marks .entry))) (link source target ∷ [])
+        (arrays dim degree (now (vectors .entry)) (now (targets .exit)) (now (edges .exit)) (now (versions .entry)) (now (marks .entry))) (now (scratch .entry)) at (link-words degree) (now (scratch .exit)) ⌝ }
+{
+    let n = live_scored(
+        dim,
+        degree,
+        vectors,
+        targets,
+        edges,
+        versions,
+        marks,
+        source,
+        scratch,
+        at,
+    );
+    let m = add_target(dim, vectors, source, target, scratch, at, n);
+    let to = at + 2 * degree + 2;
+    write_pruned(
+        dim,
+        degree,
+        alpha,
+        vectors,
+        targets,
+        edges,
+        versions,
+        marks,
+        source,
+        scratch,
+        at,
+        m,
+        to,
+    );
+}
+
+// Applies the links of `x` and `p`, both ways.
+fn link_both(
+    dim: usize,
+    degree: usize,
+    alpha: f32,
+    vectors: &[u8],
+    targets: &mut [u32],
+    edges: &mut [u16],
+    versions: &[u16],
+    marks: &[u8],
+    x: u32,
+    p: u32,
+    scratch: &mut [u32],
+    at: usize,
+)
+    requires { ⌜ Together (arrays dim degree (now vectors) (now targets) (now edges) (now versions) (now marks)) ⌝ }
+    requires { ⌜ (x < length (now marks)) × (p < length (now marks)) × Room degree (now scratch) at ⌝ }
+    ensures { λ _. ⌜ Applied alpha (arrays dim degree (now (vectors .entry)) (now (targets .entry)) (now (edges .entry)) (now (versions .entry)) (now (marks .entry))) (both-ways x p)
+        (arrays dim degree (now (vectors .entry)) (now (targets .exit)) (now (edges .exit)) (now (versions .entry)) (now (marks .entry))) (now (scratch .entry)) at (link-words degree) (now (scratch .exit)) ⌝ }
+{
+    apply_link(
+        dim,
+        degree,
+        alpha,
+        vectors,
+        targets,
+        edges,
+        versions,
+        marks,
+        x,
+        p,
+        scratch,
+        at,
+    );
+    apply_link(
+        dim,
+        degree,
+        alpha,
+        vectors,
+        targets,
+        edges,
+        versions,
+        marks,
+        p,
+        x,
+        scratch,
+        at,
+    );
+}
+
+// Applies the links of `x` and the slots of the `n` candidates at `to`, both ways, in their order.
+pub fn link_each(
+    dim: usize,
+    degree: usize,
+    alpha: f32,
+    vectors: &[u8],
+    targets: &mut [u32],
+    edges: &mut [u16],
+    versions: &[u16],
+    marks: &[u8],
+    x: u32,
+    to: usize,
+    n: usize,
+    scratch: &mut [u32],
+    at: usize,
+)
+    requires { ⌜ Together (arrays dim degree (now vectors) (now targets) (now edges) (now versions) (now marks)) ⌝ }
+    requires { ⌜ Ends (length (now marks)) x (now scratch) to n at × Room degree (now scratch) at ⌝ }
+    ensures { λ _. ⌜ Applied alpha (arrays dim degree (now (vectors .entry)) (now (targets .entry)) (now (edges .entry)) (now (versions .entry)) (now (marks .entry))) (links-at x (now (scratch .entry)) to n)
+        (arrays dim degree (now (vectors .entry)) (now (targets .exit)) (now (edges .exit)) (now (versions .entry)) (now (marks .entry))) (now (scratch .entry)) at (link-words degree) (now (scratch .exit)) ⌝ }
+{
+    let mut i: usize = 0;
+    while i < n {
+        let p = id_at(scratch, to, i);
+        link_both(
+            dim,
+            degree,
+            alpha,
+            vectors,
+            targets,
+            edges,
+            versions,
+            marks,
+            x,
+            p,
+            scratch,
+            at,
+        );
+        i += 1;
+    }
+}
