@@ -1,0 +1,80 @@
+// A batch of deletes, in the region `work` of the scratch.
+use super::acts::mark_deleted;
+use super::acts::repair_rows;
+use slots::scratch::MARKS;
+ghost use mathlib.Core.Path.{_≡_};
+ghost use Prim.Native.Nat.{max};
+ghost use Rattle.slots.specs.Store.{arrays};
+ghost use Rattle.deletion.specs.Batch.{Deletable, BatchDeleted};
+pub use super::acts::Deleted;
+
+// The repair degree, at least 1.
+fn at_least_one(repair_degree: usize) -> usize
+    ensures { λ r. ⌜ r ≡ max 1 «repair_degree» ⌝ }
+{
+    if repair_degree == 0 { 1 } else { repair_degree }
+}
+
+// Deletes the live ones of `ids` and repairs the rows around them. Returns how many they are, and the entry after it. Their stats are left in the
+// scratch, four words each.
+pub fn delete_batch(
+    dim: usize,
+    degree: usize,
+    alpha: f32,
+    vectors: &[u8],
+    targets: &mut [u32],
+    edges: &mut [u16],
+    versions: &mut [u16],
+    marks: &mut [u8],
+    entry: u32,
+    ids: &[u32],
+    repair_beam: usize,
+    repair_degree: usize,
+    scratch: &mut [u32],
+) -> Deleted
+    requires { ⌜ Deletable (arrays dim degree (now vectors) (now targets) (now edges) (now versions) (now marks)) entry «repair_beam» «repair_degree» (now ids) (now scratch) ⌝ }
+    ensures { λ d. ⌜ BatchDeleted (arrays dim degree (now (vectors .entry)) (now (targets .entry)) (now (edges .entry)) (now (versions .entry)) (now (marks .entry))) alpha entry «repair_beam» «repair_degree» (now (ids .entry))
+        (arrays dim degree (now (vectors .entry)) (now (targets .exit)) (now (edges .exit)) (now (versions .exit)) (now (marks .exit))) (d .entry) (d .count) (now (scratch .exit)) ⌝ }
+{
+    let from = MARKS + marks.len();
+    let stats = from + 512;
+    let plans = stats + 1024;
+    let base = plans + 163840;
+    let d = mark_deleted(
+        dim,
+        degree,
+        vectors,
+        targets,
+        edges,
+        versions,
+        marks,
+        entry,
+        ids,
+        scratch,
+        from,
+        stats,
+        plans,
+    );
+    let p = d.count;
+    let e = d.entry;
+    repair_rows(
+        dim,
+        degree,
+        alpha,
+        vectors,
+        targets,
+        edges,
+        versions,
+        marks,
+        e,
+        repair_beam,
+        at_least_one(repair_degree),
+        scratch,
+        from,
+        p,
+        stats,
+        plans,
+        base,
+    );
+    Deleted { count: p, entry: e }
+}
