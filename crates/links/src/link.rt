@@ -5,7 +5,7 @@ use candidates::put;
 use row::live_scored;
 use row::write_pruned;
 use slots::marks::wide;
-use vectors::slot_distance;
+use distances::slot_distance;
 ghost use mathlib.Core.List.{[], _∷_};
 ghost use Prim.Native.Nat.{_+_, _*_, _<_, _≤_};
 ghost use lib.ListN.{length};

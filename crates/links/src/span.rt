@@ -5,7 +5,7 @@ use candidates::id_at;
 use candidates::put;
 use candidates::sort_by_distance;
 use slots::marks::wide;
-use vectors::slot_distance;
+use distances::slot_distance;
 ghost use mathlib.Core.Path.{_≡_};
 ghost use Prim.Native.Nat.{_+_, _*_, _<_, _≤_, min};
 ghost use lib.ListN.{length};
