@@ -19,6 +19,7 @@ use Rattle.slots.specs.Store.{is-valid}
 use Rattle.slots.specs.contracts.Writing.{Killed}
 use Rattle.slots.proofs.Done.{killed-marks}
 use Rattle.repair.specs.Delete.{first-or}
+use Rattle.links.proofs.Planning.{filter-scored}
 use Rattle.deletion.specs.contracts.Naming.{Gathered, Keyed, Risen, Emptied, Inside, cleared, lowest-live}
 
 pub ids-push : (w : List ℕ) (d s at n : ℕ) → at + 2 * n + 1 < length w → ids (cands (put w (at + 2 * n) d s) at (n + 1)) ≡ ids (cands w at n) ++ (s ∷ [])
@@ -91,15 +92,6 @@ module _ {w₀ : List ℕ} {at n : ℕ} {w : List ℕ} {k : ℕ} (f : Keying w�
 abbrev slots-as : List ℕ → List Candidate
 slots-as xs = scored (λ x. x) xs
 
-filter-slots : (p : ℕ → Bool) (l : List ℕ) → filter (λ c. p (c .id)) (slots-as l) ≡ slots-as (filter p l)
-filter-slots p [] = refl
-filter-slots p (x ∷ l) = go (p x) (filter-slots p l)
-  where
-    go : (b : Bool) → filter (λ c. p (c .id)) (slots-as l) ≡ slots-as (filter p l)
-        → cond b (pair x x ∷ filter (λ c. p (c .id)) (slots-as l)) (filter (λ c. p (c .id)) (slots-as l)) ≡ slots-as (cond b (x ∷ filter p l) (filter p l))
-    go true r = ap (λ (m : List Candidate). pair x x ∷ m) r
-    go false r = r
-
 insert-slots : (x : ℕ) (l : List ℕ) → insert-by nearer (pair x x) (slots-as l) ≡ slots-as (insert-by ltb x l)
 insert-slots x [] = refl
 insert-slots x (y ∷ l) = go (ltb y x) (insert-slots x l)
@@ -117,7 +109,7 @@ distinct-slots : (l : List ℕ) → distinct-by (λ c. c .id) (slots-as l) ≡ s
 distinct-slots [] = refl
 distinct-slots (x ∷ l) =
     ap (λ (m : List Candidate). pair x x ∷ m)
-    (ap (filter (λ c. not (eqb x (c .id)))) (distinct-slots l) ∙ filter-slots (λ y. not (eqb x y)) (distinct-by (λ y. y) l))
+    (ap (filter (λ c. not (eqb x (c .id)))) (distinct-slots l) ∙ filter-scored (λ y. not (eqb x y)) (λ y. y) (distinct-by (λ y. y) l))
 
 distinct-few : (k : List Candidate) → length (distinct-by (λ c. c .id) k) ≤ length k
 distinct-few [] = omega arith

@@ -21,7 +21,8 @@ use Rattle.slots.specs.Store.{Arrays, Store, arrays, vector-of, store-view, sto
 use Rattle.prune.specs.Prune.{prune}
 use Rattle.row.specs.Row.{Together, index-of, LiveScored, Prunable, WrotePruned}
 use Rattle.repair.specs.Repair.{Link, insert-and-prune}
-use Rattle.links.specs.contracts.Linking.{between, apply-link, link, both-ways, links-at, link-words, Room, Ends, Joined, Applied}
+use Rattle.repair.proofs.Sources.{both-ways}
+use Rattle.links.specs.contracts.Linking.{between, apply-link, link, links-at, link-words, Room, Ends, Joined, Applied}
 
 -- ---- a target is added; u and x are s and t as indices
 pub vectors-in : {a : Arrays} → Together a → (s t : ℕ) → s < length (a .marks) → t < length (a .marks)

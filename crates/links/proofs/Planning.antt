@@ -78,7 +78,7 @@ kept-other marks s x h = rw h (go (not (eqb x s)))
     go true = refl
     go false = refl
 
-filter-scored : (p : ℕ → Bool) (d : ℕ → ℕ) (xs : List ℕ) → filter (λ c. p (c .id)) (scored d xs) ≡ scored d (filter p xs)
+pub filter-scored : (p : ℕ → Bool) (d : ℕ → ℕ) (xs : List ℕ) → filter (λ c. p (c .id)) (scored d xs) ≡ scored d (filter p xs)
 filter-scored p d [] = refl
 filter-scored p d (x ∷ xs) = go (p x) (filter-scored p d xs)
   where

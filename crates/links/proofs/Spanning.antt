@@ -24,7 +24,8 @@ use Rattle.candidates.proofs.Scored.{ids-length, all-scored, all-ids}
 use Rattle.slots.specs.Store.{Arrays, Store}
 use Rattle.row.specs.Row.{Together, index-of}
 use Rattle.repair.specs.Repair.{swap-remove, links, span}
-use Rattle.links.specs.contracts.Linking.{between, apply-link, both-ways, links-at, link-words, Room, Ends, Applied}
+use Rattle.repair.proofs.Sources.{both-ways}
+use Rattle.links.specs.contracts.Linking.{between, apply-link, links-at, link-words, Room, Ends, Applied}
 use Rattle.links.specs.contracts.Planning.{Stored, Behind, Nearest, Scored, lower-to, Lowered, Distinct, plan-words, Area, Planned, span-at, Connected}
 use Rattle.links.proofs.Linking.{with-rows}
 use Rattle.links.proofs.Swapping.{swap-is, distinct-swap}

@@ -11,7 +11,8 @@ ghost use Prim.Native.Nat.{_+_, _*_, _<_, _≤_};
 ghost use lib.ListN.{length};
 ghost use Rattle.slots.specs.Store.{arrays};
 ghost use Rattle.row.specs.Row.{Together};
-ghost use Rattle.links.specs.contracts.Linking.{link, both-ways, links-at, link-words, Room, Ends, Joined, Applied};
+ghost use Rattle.repair.proofs.Sources.{both-ways};
+ghost use Rattle.links.specs.contracts.Linking.{link, links-at, link-words, Room, Ends, Joined, Applied};
 
 // Adds the target `t`, with its distance to slot `s`, to the `n` candidates at `at`, unless one of them has it. Returns how many they are then.
 fn add_target(

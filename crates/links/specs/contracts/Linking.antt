@@ -13,6 +13,7 @@ use Rattle.slots.specs.View.{live-neighbors}
 use Rattle.slots.specs.Store.{Arrays, Store, store-view, store-ops}
 use Rattle.row.specs.Row.{index-of}
 use Rattle.repair.specs.Repair.{Link, insert-and-prune}
+use Rattle.repair.proofs.Sources.{both-ways}
 
 -- the distance of two slots of lent bytes
 abbrev pub between : ℕ → List ℕ → ℕ → ℕ → ℕ
@@ -26,10 +27,6 @@ apply-link b l =
 
 abbrev pub link : ℕ → ℕ → Link
 link s t = record { source = s; target = t }
-
--- links both ways
-abbrev pub both-ways : ℕ → ℕ → List Link
-both-ways x p = link x p ∷ link p x ∷ []
 
 -- x and each of the n candidates at `to`
 abbrev pub links-at : ℕ → List ℕ → ℕ → ℕ → List Link
