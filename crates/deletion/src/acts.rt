@@ -13,7 +13,7 @@ ghost use Rattle.row.specs.Row.{Together};
 ghost use Rattle.deletion.specs.contracts.Acts.{Takeable, Marked, Finishable, AllFinished, Repairable, Repaired};
 
 // How many slots a delete empties, and the entry after it.
-pub struct Deleted {
+pub struct Emptied {
     pub count: usize,
     pub entry: u32,
 }
@@ -33,7 +33,7 @@ pub fn mark_deleted(
     from: usize,
     stats: usize,
     plans: usize,
-) -> Deleted
+) -> Emptied
     requires { ⌜ Together (arrays dim degree (now vectors) (now targets) (now edges) (now versions) (now marks)) ⌝ }
     requires { ⌜ Takeable (now marks) entry (now ids) (now scratch) from stats plans ⌝ }
     ensures { λ d. ⌜ Marked (arrays dim degree (now (vectors .entry)) (now (targets .entry)) (now (edges .entry)) (now (versions .entry)) (now (marks .entry))) entry (now (ids .entry)) (now (scratch .entry)) from stats plans (d .count) (d .entry) (now (marks .exit)) (now (scratch .exit)) ⌝ }
@@ -55,7 +55,7 @@ pub fn mark_deleted(
     );
     clear(marks, scratch, from, p);
     let e = new_entry(marks, entry, scratch, from, p);
-    Deleted { count: p, entry: e }
+    Emptied { count: p, entry: e }
 }
 
 // The last act on the slots of the `n` candidates at `at`: the next version, and an empty row.

@@ -6,7 +6,7 @@ ghost use mathlib.Core.Path.{_≡_};
 ghost use Prim.Native.Nat.{max};
 ghost use Rattle.slots.specs.Store.{arrays};
 ghost use Rattle.deletion.specs.Batch.{Deletable, BatchDeleted};
-pub use super::acts::Deleted;
+pub use super::acts::Emptied;
 
 // The repair degree, at least 1.
 fn at_least_one(repair_degree: usize) -> usize
@@ -31,7 +31,7 @@ pub fn delete_batch(
     repair_beam: usize,
     repair_degree: usize,
     scratch: &mut [u32],
-) -> Deleted
+) -> Emptied
     requires { ⌜ Deletable (arrays dim degree (now vectors) (now targets) (now edges) (now versions) (now marks)) entry «repair_beam» «repair_degree» (now ids) (now scratch) ⌝ }
     ensures { λ d. ⌜ BatchDeleted (arrays dim degree (now (vectors .entry)) (now (targets .entry)) (now (edges .entry)) (now (versions .entry)) (now (marks .entry))) alpha entry «repair_beam» «repair_degree» (now (ids .entry))
         (arrays dim degree (now (vectors .entry)) (now (targets .exit)) (now (edges .exit)) (now (versions .exit)) (now (marks .exit))) (d .entry) (d .count) (now (scratch .exit)) ⌝ }
@@ -76,5 +76,5 @@ pub fn delete_batch(
         plans,
         base,
     );
-    Deleted { count: p, entry: e }
+    Emptied { count: p, entry: e }
 }

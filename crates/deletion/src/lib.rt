@@ -5,7 +5,7 @@ mod named;
 mod plans;
 mod stats;
 
-pub use batch::Deleted;
+pub use batch::Emptied;
 pub use batch::delete_batch;
 pub use stats::DeleteStats;
 pub use stats::write_stats;
