@@ -2,10 +2,10 @@
 use candidates::has_id;
 use candidates::id_at;
 use candidates::put;
+use distances::slot_distance;
 use row::live_scored;
 use row::write_pruned;
 use slots::marks::wide;
-use distances::slot_distance;
 ghost use mathlib.Core.List.{[], _∷_};
 ghost use Prim.Native.Nat.{_+_, _*_, _<_, _≤_};
 ghost use lib.ListN.{length};

@@ -114,7 +114,7 @@ module _ {index : Index} {s : Slices} (able : Passed index s) (a : Delete) where
 
     -- as many fewer are live
     live-before : index .live ≡ length (live-slots (store-view left)) + n
-    unfolding store-ops
+    unfolding store-ops state-of
     live-before =
         let c = live-after-delete store-ops Marks-fit store-marking given (passed-marks able) (a .repair-beam) (a .repair-degree) (a .ids) in
         able .live-right ∙ c ∙ ap₂ (λ (g : Store) (m : ℕ). length (live-slots (store-view g)) + m) (ap (λ x. x .0) does-delete) (sym emptied-are)
@@ -183,7 +183,7 @@ module _ (index : Index) (s : Slices) (a : Delete) (room : ℕ) (scratch : List 
 
       pub deletes-on : {i : Index} → i ≡ with-entry index entry′ (index .live - n)
           → Deletes index s a room scratch (slices (s .vectors) targets′ edges′ versions′ marks′ (s .pool)) scratch′ (Done i n)
-      unfolding tests perform deleted-as index-left written stored store-ops shown room-of call-of slices-of run-refusal
+      unfolding tests perform deleted-as index-left written state-of stored store-ops store-view shown room-of call-of slices-of run-refusal
       deletes-on {i} e =
           let w = state-left able a b lm e in
           let q = does-delete able a b lm in

@@ -2,11 +2,11 @@
 mod deleting;
 mod inserting;
 
-use index::Index;
 pub use deleting::delete;
 pub use deleting::delete_ids;
 pub use deleting::delete_over;
 pub use deleting::with_fewer;
+use index::Index;
 pub use inserting::insert;
 
 // The index with its vectors inserted, and how many they are; or the number of a refusal.
