@@ -1,8 +1,9 @@
 #!/usr/bin/env python3
 """compare/faults.py [calls]
 
-Puts one fault at a time into a copy of the Rust, below target/, and says in which call compare/histories.sh finds the first difference and how many
-calls differ; 20,000 calls where not given, seed 1. So it shows what that comparison can see. Run compare/histories.sh first: it builds the library.
+Puts one fault at a time into a copy of the comparing program, below target/, and says in which call compare/histories.sh finds the first difference and
+how many calls differ; 20,000 calls where not given, seed 1. So it shows what that comparison can see. A fault is put into the Rust, or, since the archive is
+built of proved code only, into what the library's call has left by the time that it is compared. Run compare/histories.sh first: it builds the library.
 """
 import os
 import re
@@ -12,9 +13,42 @@ import sys
 
 ROOT = os.path.dirname(os.path.dirname(os.path.abspath(__file__)))
 COPY = os.path.join(ROOT, "target", "faults")
-WALK, ROWS, DRIVER = "sorted/src/lib.rs", "sorted/src/mmap_dynamic.rs", "driver.rs"
+WALK, ROWS, DRIVER, UPDATES = "sorted/src/lib.rs", "sorted/src/mmap_dynamic.rs", "driver.rs", "histories/src/updates.rs"
 LIVE = ".filter(|(t, v)| self.is_valid(*t) && self.node_version(*t) == *v)"
-FAULTS = [
+SLOTS = "        let slots = (0..self.meta.capacity)\n"
+OUTGOING = """            for plan in &plans {
+                let outgoing = plan
+                    .outgoing
+                    .iter()
+                    .map(|(target, _)| *target)
+                    .collect::<Vec<_>>();
+                self.write_neighbors(plan.id, &outgoing);
+            }
+"""
+TARGETS = """            for (source, neighbors) in reverse_updates {
+                self.write_neighbors(source, &neighbors);
+            }
+"""
+TAKEN = """                if factors[i] > alpha {
+                    continue;
+                }
+                let sid = c[i].0;
+                factors[i] = f32::MAX;
+                selected.push(sid);
+                for j in i + 1..c.len() {
+                    if factors[j] > target {
+                        continue;
+                    }
+                    let pair = self.dist"""
+KEPT = "    fn prune_scored(&self, source: u32, candidates: Vec<(u32, f32)>) -> Vec<u32> {\n"
+FEWER = """        let mut seen = HashSet::new();
+        let mut candidates: Vec<(u32, f32)> = candidates.into_iter().filter(|(id, _)| *id != source && self.is_valid(*id)).collect();
+        candidates.sort_by(|a, b| a.1.total_cmp(&b.1));
+        candidates.retain(|x| seen.insert(x.0));
+        candidates.truncate(749);
+"""
+INSERTED = "    let text = if bytes.len() <= 1_024"  # where finder_insert has returned
+in_rust = [
     ("ties by the higher slot", WALK, ".then_with(|| self.id.cmp(&other.id)),", ".then_with(|| other.id.cmp(&self.id)),"),
     ("the last sort by distance alone, as published", WALK, "    results.sort();", "    results.sort_by(|a, b| a.dist.total_cmp(&b.dist));"),
     ("the walk ends only where the next is farther than the worst", WALK, "best.dist >= work.peek().unwrap().dist", "best.dist > work.peek().unwrap().dist"),
@@ -27,7 +61,46 @@ FAULTS = [
     ("one pair fewer than k", ROWS, "            .take(k)\n", "            .take(k.saturating_sub(1))\n"),
     ("blank rows of free slots not written", ROWS, ".fill(0xff);", ".fill(0);"),
     ("the last byte left out of the distance", DRIVER, "    a.iter()\n        .zip(b)\n        .map(|(&x, &y)| {\n            let d = x", "    a.iter()\n        .zip(b)\n        .take(a.len().max(2) - 1)\n        .map(|(&x, &y)| {\n            let d = x"),
+    ("insert: highest free slots first", ROWS, SLOTS, SLOTS + "            .rev()\n"),
+    ("insert: chunks of 255", ROWS, "const INSERT_MICRO_BATCH_SIZE: usize = 256;", "const INSERT_MICRO_BATCH_SIZE: usize = 255;"),
+    ("insert: chunks of 257", ROWS, "const INSERT_MICRO_BATCH_SIZE: usize = 256;", "const INSERT_MICRO_BATCH_SIZE: usize = 257;"),
+    ("insert: a row of a filled slot not made blank before the walks", ROWS, "                self.fill_neighbors(id);\n                self.set_valid(id, true);", "                self.set_valid(id, true);"),
+    ("insert: the beam alone, not at least the degree", ROWS, "self.search_pool(vector, beam.max(self.meta.max_degree))", "self.search_pool(vector, beam)"),
+    ("insert: incoming references the other way round", ROWS, "candidates.extend(incoming.iter().copied());", "candidates.extend(incoming.iter().rev().copied());"),
+    ("insert: incoming references before those of the row", ROWS, "candidates.extend(incoming.iter().copied());", "candidates.splice(0..0, incoming.iter().copied());"),
+    ("insert: a target's former references dropped", ROWS, "                        .live_neighbors(*source)\n                        .into_iter()\n", "                        .live_neighbors(*source)\n                        .into_iter()\n                        .take(0)\n"),
+    ("insert: target rows written before the outgoing ones", ROWS, OUTGOING + TARGETS, TARGETS + OUTGOING),
+    ("insert: references written with version 0", ROWS, "                self.node_version(target)\n", "                0\n"),
+    ("insert: the live count not raised", ROWS, "self.live_count += slot_chunk.len();", ""),
+    ("pruning: an equal factor is dropped", ROWS, TAKEN, TAKEN.replace("factors[i] > alpha", "factors[i] >= alpha")),
+    ("pruning: one that was taken is taken again", ROWS, TAKEN, TAKEN.replace("factors[i] = f32::MAX", "factors[i] = 0.0")),
+    ("pruning: 749 candidates kept", ROWS, KEPT, KEPT + FEWER),
+    ("pruning: the source is not dropped", ROWS, KEPT, KEPT + "        let source = PAD_U32;\n"),
 ]
+by_library = [
+    ("another slot is given", "if got == 0 && bytes.len() > 0 { unsafe { *slots.mut_ptr() += 1 } }"),
+    ("a slot past the answer is written", "if got == 0 { unsafe { *slots.mut_ptr().add(bytes.len() / dim) ^= 1 } }"),
+    ("one slot more is counted", "if got == 0 { unsafe { *found.mut_ptr() += 1 } }"),
+    ("the live count is one short", "if got == 0 && bytes.len() > 0 { unsafe { *h.both.words.mut_ptr().add(5) -= 1 } }"),
+    ("the words are not updated", "if got == 0 { unsafe { h.both.words.mut_ptr().copy_from(given.as_ptr(), 12) } }"),
+    ("the entry becomes the first filled slot", "if got == 0 && bytes.len() > 0 { unsafe { *h.both.words.mut_ptr().add(4) = slots.items()[0] } }"),
+    ("the last reference of a filled slot is changed", "if got == 0 && bytes.len() > 0 { unsafe { *h.both.six.targets.mut_ptr().add((slots.items()[0] as usize + 1) * given[2] as usize - 1) ^= 1 } }"),
+    ("the version of a reference is changed", "if got == 0 && bytes.len() > 0 { unsafe { *h.both.six.edges.mut_ptr().add(slots.items()[0] as usize * given[2] as usize) ^= 1 } }"),
+    ("the version of a filled slot is raised", "if got == 0 && bytes.len() > 0 { unsafe { *h.both.six.versions.mut_ptr().add(slots.items()[0] as usize) += 1 } }"),
+    ("a filled slot is marked 2", "if got == 0 && bytes.len() > 0 { unsafe { *h.both.six.marks.mut_ptr().add(slots.items()[0] as usize) = 2 } }"),
+    ("the last byte of a vector is changed", "if got == 0 && bytes.len() > 0 { unsafe { *h.both.six.vectors.mut_ptr().add((slots.items()[0] as usize + 1) * dim - 1) ^= 1 } }"),
+    ("the pool is written", "if got == 0 { unsafe { *h.both.six.pool.mut_ptr().add(1_023) ^= 1 } }"),
+    ("the bytes given are written", "if got == 0 && bytes.len() > 0 { unsafe { *bytes.mut_ptr() ^= 1 } }"),
+    ("a byte past the vectors is written", "if got == 0 { unsafe { *h.both.six.vectors.mut_ptr().add(a.lent[0]) ^= 1 } }"),
+    ("10 where it is 9", "let got = if got == 9 { 10 } else { got };"),
+    ("carried out where it is 7", "let got = if got == 7 { 0 } else { got };"),
+    ("3 where slots for half a vector are missing", "let got = if number == 9 && room == bytes.len() / dim { 3 } else { got };"),
+    ("scratch is written though refused", "if got == 10 { unsafe { *h.scratch.mut_ptr() ^= 1 } }"),
+    ("slots are written though refused", "if got == 10 && room > 0 { unsafe { *slots.mut_ptr() ^= 1 } }"),
+    ("a mark is set though refused", "if got == 10 { unsafe { *h.both.six.marks.mut_ptr() ^= 1 } }"),
+    ("scratch past its end is written", "if got == 0 { unsafe { *h.scratch.mut_ptr().add(words) ^= 1 } }"),
+]
+FAULTS = in_rust + [("insert of the library: " + name, UPDATES, INSERTED, "    " + code + "\n" + INSERTED) for name, code in by_library]
 
 
 def run(*command, **more):
@@ -39,8 +112,8 @@ def main():
     shutil.rmtree(os.path.join(COPY, "rust"), ignore_errors=True)
     shutil.copytree(os.path.join(ROOT, "compare", "rust"), os.path.join(COPY, "rust"), ignore=shutil.ignore_patterns("target"))
     env = dict(os.environ, LIBRARY=os.path.join(ROOT, "target", "staticlib"), CARGO_TARGET_DIR=os.path.join(COPY, "built"), RAYON_NUM_THREADS="1")
+    original = {f: open(os.path.join(COPY, "rust", f)).read() for f in (DRIVER, UPDATES)}
     for name, file, old, new in FAULTS:
-        original = {f: open(os.path.join(COPY, "rust", f)).read() for f in (DRIVER,)}
         run("./prepare.sh", check=True)
         path = os.path.join(COPY, "rust", file)
         text = open(path).read()

@@ -2,9 +2,9 @@
 """make.py ORACLE LIST PRINTED
 
 Drives the Rust (compare/rust, variant `sorted`) through random histories and writes them with its answers to LIST, which the
-program `replay` performs. The Rust reaches an index by inserts and deletes; its dump is then made and stored in the list, and read
-and searched. The Rust gives answers; the refusals that only the port has are worked out here, from document 01's table. Some
-lines are made wrong on purpose (`spoil`); PRINTED is what `replay` must print: the number of each of these, and the counts.
+program `replay` performs. Deletes are no lines of the list yet: after them the Rust's dump is made and stored in the list. The Rust
+gives answers; the refusals that only the port has are worked out here, from document 01's table. Some lines are made wrong on
+purpose (`spoil`); PRINTED is what `replay` must print: the number of each of these, and the counts.
 """
 import subprocess
 import sys
@@ -66,6 +66,7 @@ def numbers(text):
 
 class Slot:
     def __init__(self, words):
+        self.words = words
         self.mark, self.version = int(words[3]), int(words[5])
         edges = [(e + "/0").split("/")[:2] for e in words[7].split(",")]
         self.edges = [(BLANK if t == "-" else int(t), int(v)) for t, v in edges]
@@ -124,25 +125,38 @@ class Book:
     def __init__(self):
         self.sizes, self.alpha, self.entry, self.live, self.marked, self.lent = [0, 0, 0], 0, 0, 0, 0, [0] * 9
 
-    def refusal(self, query=None):
+    def refusal(self, wrong_length=False):
         if sizes_bad(*self.sizes):
             return 1
         if alpha_bad(self.alpha):
             return 2
-        if self.lent[:6] != exact(*self.sizes) or (query is not None and query != self.sizes[0]):
+        if self.lent[:6] != exact(*self.sizes) or wrong_length:
             return 3
         if self.live != self.marked or self.entry >= self.sizes[1]:
             return 6
         return 0
 
     def search_refusal(self, k, beam, query):
-        if refused := self.refusal(query):
+        if refused := self.refusal(query != self.sizes[0]):
             return refused
         if beam > 1024 or k > self.lent[6] or k > self.lent[7]:
             return 7
-        if self.lent[8] < scratch_words(self.sizes[1]):
-            return 8
-        return 0
+        return self.short_scratch()
+
+    def insert_refusal(self, beam, given):
+        dim = max(1, self.sizes[0])
+        if refused := self.refusal(self.lent[6] < given // dim):
+            return refused
+        if beam > 1024:
+            return 7
+        if refused := self.short_scratch():
+            return refused
+        if given % dim:
+            return 9
+        return 10 if given // dim > self.sizes[1] - self.live else 0
+
+    def short_scratch(self):
+        return 8 if self.lent[8] < scratch_words(self.sizes[1]) else 0
 
 
 # ---------------------------------------------------------------- the list
@@ -176,7 +190,7 @@ class List:
 
     def printed(self):
         """What `replay` must print."""
-        counts = [(kind, self.agreed[kind]) for kind in ("make", "read", "vector", "search", "words")]
+        counts = [(kind, self.agreed[kind]) for kind in ("make", "read", "vector", "search", "words", "insert")]
         counts += [("lines", self.lines), ("differences", len(self.wrong))]
         return ["differs %d" % n for n in self.wrong] + ["%s %d" % c for c in counts]
 
@@ -239,6 +253,21 @@ class List:
     def search(self, k, beam, query):
         self.searches([(k, beam, query)])
 
+    def insert(self, beam, given):
+        """Inserts the vectors that these bytes hold, on the Rust too where it is not refused."""
+        b, dim = self.book, self.book.sizes[0]
+        change, self.change, self.given = self.change, None, given
+        self.put("give", len(given), *given)
+        self.change = change
+        if refused := b.insert_refusal(beam, len(given)):
+            return self.put("insert", beam, refused)
+        vectors = ["x" + bytes(given[i:i + dim]).hex() for i in range(0, len(given), dim)]
+        asked = " ".join(["insert", str(beam), str(len(vectors))] + vectors)
+        slots = self.oracle.answers([asked])[0].split()[1:]
+        self.oracle.call(asked)
+        b.live, b.marked = b.live + len(vectors), b.marked + len(vectors)
+        self.put("insert", beam, 0, *slots)
+
     # ------------------------------------------------------------ an index as the Rust holds it
 
     def copy(self, dump, most=2048):
@@ -300,11 +329,16 @@ class List:
 
 
 class History:
-    """Random calls to the Rust, and copies of what they reach."""
+    """Random calls to the Rust and in the list. `apart`: the Rust made a call alone, so that its index is to be copied before the list goes on."""
 
     def __init__(self, out, dim, capacity, degree, alpha, values):
         self.out, self.oracle, self.random = out, out.oracle, out.random
-        self.sizes, self.alpha, self.values = [dim, capacity, degree], alpha, values
+        self.sizes, self.alpha, self.values, self.apart = [dim, capacity, degree], alpha, values, True
+
+    def join(self):
+        if self.apart:
+            self.out.copy(self.oracle.dump())
+            self.apart = False
 
     def vector(self):
         step = 255 // (self.values - 1)
@@ -322,39 +356,62 @@ class History:
         entry = self.random.pick([i for i in range(count) if i not in ends] or [0])
         alpha = "0x%08x" % (0x3F800000 + (self.alpha - ONE) // 2)
         self.oracle.call("make", *self.sizes, alpha, entry, count, *["x" + v for v in vectors], *rows)
+        self.apart = True
 
-    def insert(self, most):
-        n = self.random.among(1, most)
-        vectors = ["x" + bytes(self.vector()).hex() for _ in range(n)]
-        self.oracle.call("insert", self.random.below(12), n, *vectors)
+    def insert(self, most, reads=2):
+        """One vector or more, and readings of some slots whose rows they changed; more vectors than fit are refused."""
+        self.insert_just(self.random.among(1, most), self.random.below(12), reads)
+
+    def insert_just(self, n, beam, reads):
+        self.join()
+        before = self.oracle.dump()
+        self.out.insert(beam, [x for _ in range(n) for x in self.vector()])
+        after = self.oracle.dump()
+        changed = [i for i, (old, new) in enumerate(zip(before.slots, after.slots)) if old.words != new.words]
+        self.out.read(5, 0, 0, after.live)
+        for i in sorted({self.random.pick(changed) for _ in range(reads)} if changed else []):
+            self.out.read_slot(after, i)
 
     def delete(self, ids):
         self.oracle.call("delete", self.random.below(8), self.random.below(4), *ids)
+        self.apart = True
 
     def some(self, n):
         return [self.random.below(self.sizes[1]) for _ in range(n)]
 
     def changes(self, rounds, most):
-        for _ in range(rounds):
-            if self.random.below(2):
-                self.insert(most)
-            else:
-                self.delete(self.some(self.random.among(1, most)))
+        """Deletes, and then inserts: one copy for all."""
+        for _ in range(rounds // 2):
+            self.delete(self.some(self.random.among(1, most)))
+        for _ in range(rounds // 2):
+            self.insert(most)
 
     def alter(self):
-        """Hand-made states: other versions, marks and references, an entry anywhere."""
-        capacity, degree = self.sizes[1:]
+        """Hand-made states, on both sides: other versions, marks and references, an entry anywhere."""
+        self.join()
+        out, (capacity, degree) = self.out, self.sizes[1:]
         for slot in self.some(3):
-            self.oracle.call("setversion", slot, self.random.pick([0, 1, 65535]))
+            version = self.random.pick([0, 1, 65535])
+            self.oracle.call("setversion", slot, version)
+            out.store(1, slot, version)
             target = self.random.pick(["-", capacity, 70000, self.random.below(capacity)])
-            self.oracle.call("setedge", slot, self.random.below(degree), target, self.random.pick([0, 1, 65535]))
+            place, version = self.random.below(degree), self.random.pick([0, 1, 65535])
+            self.oracle.call("setedge", slot, place, target, version)
+            out.store(2, slot * degree + place, BLANK if target == "-" else target)
+            out.store(3, slot * degree + place, version)
         for slot in self.some(2):
-            self.oracle.call("setmark", slot, self.random.pick([0, 1, 2, 255]))
-        self.oracle.call("setentry", self.random.below(capacity))
+            mark = self.random.pick([0, 1, 2, 255])
+            self.oracle.call("setmark", slot, mark)
+            out.store(0, slot, mark)
+        entry = self.random.below(capacity)
+        self.oracle.call("setentry", entry)
+        out.set(4, entry)
+        out.set(5, self.oracle.dump().live)
+        out.book.marked = out.book.live
 
     def shown(self, searches, reads, k=12, beams=(0, 1, 2, 3, 5, 8, 16, 64)):
+        self.join()
         dump = self.oracle.dump()
-        self.out.copy(dump)
         self.out.read_some(dump, reads)
         self.out.searches([(self.random.among(0, k), self.random.pick(beams), self.query(dump)) for _ in range(searches)])
         return dump
@@ -423,8 +480,9 @@ def many(out):
     h = History(out, 2, 1200, 4, ONE * 6 // 5 // 2 * 2, 40)
     h.make(1000)
     for _ in range(4):
-        h.insert(40)
         h.delete(h.some(30))
+    for _ in range(4):
+        h.insert(40)
     dump = h.shown(60, 3, 20, (10, 32, 100, 300, 700, 1023, 1024))
     for k, beam in ((1024, 1024), (1000, 1023), (1024, 60)):
         out.search(k, beam, h.query(dump))
@@ -512,6 +570,64 @@ def refused_calls(out):
     attempts(k=13)
 
 
+def small_shelf(out):
+    """Document 01's inserts: 6 into the shelf; 7 into it with every slot emptied, and then the entry stays dead."""
+    for emptied, beam, value in (([], 2, 6), ([0, 1, 2], 2, 7)):
+        out.oracle.call("make", 1, 4, 2, "0x3f800000", 1, 3, "x00", "x03", "x0a", "1", "0,2", "1")
+        out.oracle.call("delete", 2, 1, *emptied)
+        out.copy(out.oracle.dump())
+        out.insert(beam, [value])
+        dump = out.oracle.dump()
+        for slot in range(4):
+            out.read_slot(dump, slot)
+        out.search(4, 4, [value])
+
+
+def chunks(out):
+    """Batches of about one chunk and two, with many ties and with few."""
+    for dim, capacity, degree, alpha, values, batches in ((1, 800, 2, ONE, 40, (255, 256, 0, 257)), (2, 900, 3, ONE * 5 // 4, 4, (256, 600, 44, 1)), (3, 620, 4, 2 * ONE, 256, (1, 600, 3))):
+        h = History(out, dim, capacity, degree, alpha, values)
+        h.make(3)
+        for n in batches:
+            h.insert_just(n, out.random.pick([0, 1, 4, 16]), 5)
+        h.shown(6, 2)
+
+
+def refused_inserts(out):
+    """Inserts into an index that was altered, that is lent too much or too little, or that has no room."""
+    h = History(out, 2, 9, 2, ONE, 5)
+    h.make(5)
+    h.shown(2, 1)
+    book, two = out.book, [1, 2, 3, 4]
+
+    def attempts():
+        out.insert(1025, two)
+        out.insert(1025, two + [5])
+        out.read(5, 0, 0, book.live)
+
+    for field, values in ((0, (0, 257, 3)), (1, (0, 65537, 10)), (2, (0, 65, 3)), (3, (0, NAN)), (4, (9, BLANK)), (5, (4, 6))):
+        kept = (book.sizes + [book.alpha, book.entry, book.live])[field]
+        for value in values:
+            out.set(field, value)
+            attempts()
+        out.set(field, kept)
+        attempts()
+    fit = exact(*book.sizes) + [2, 0, scratch_words(book.sizes[1])]
+    for i in (0, 1, 2, 3, 4, 5, 6, 8):
+        out.lend(*[n - (j == i) for j, n in enumerate(fit)])
+        attempts()
+        out.insert(1024, two + [5])
+        out.insert(1024, two + two)
+    out.lend(*fit)
+    for given in (two + [5], two + [5, 6], [1], [], two, [1] * 5, [1] * 6, two):
+        out.insert(1024, given)
+        out.read(5, 0, 0, book.live)
+    out.lend_for(book.sizes)
+    for given in ([1] * 5, two, [1, 2], [1, 2], [], [1]):
+        out.insert(0, given)
+        out.read(5, 0, 0, book.live)
+
+
 def size_answers(out):
     for sizes in ([1, 1, 1], [256, 65536, 64], [3, 100, 7], [0, 1, 1], [257, 1, 1], [1, 0, 1], [1, 65537, 1], [1, 1, 0], [1, 1, 65], [BLANK] * 3):
         refused = sizes_bad(*sizes)
@@ -541,6 +657,8 @@ def wrong_answers(out):
     out.put("words", 0, 1, 1, 1, 0)
     h = History(out, 2, 6, 2, ONE, 5)
     h.make(5)
+    while int(out.oracle.answers(["search 5 6 x0000"])[0].split()[1]) < 3:
+        h.make(5)
     dump = h.shown(4, 2)
     book, entry, count = out.book, dump.entry, len([s for s in dump.slots if s.used()])
 
@@ -596,6 +714,7 @@ def wrong_answers(out):
     out.search(5, 1025, vector)
     out.spoil("search refused with another number", other(6))
     out.search(5, 1025, vector)
+    wrong_inserts(out)
     for what, words in (("no word", ["", "1"]), ("another word", ["reads", "5"]), ("no number", ["read", "x"]), ("a field that is not there", ["set", "0"])):
         out.spoil(what, lambda w, words=words: words)
         out.put("read", 5, 0, 0, 0, book.live)
@@ -605,11 +724,29 @@ def wrong_answers(out):
     out.put("give", 0)
 
 
+def wrong_inserts(out):
+    h = History(out, 2, 40, 3, ONE, 5)
+    h.make(5)
+    h.join()
+    two = [x for _ in range(2) for x in h.vector()]
+    wrong = [("first slot", other(4)), ("last slot", other(5)), ("slots exchanged", exchanged(4, 5)), ("another count", other(3)), ("a number more", lambda w: w + ["0"])]
+    wrong += [("one fewer", lambda w: w[:3] + ["1", w[4]]), ("one more", lambda w: w[:3] + ["3"] + w[4:] + [str(int(w[5]) + 1)]), ("a number missing", lambda w: w[:5])]
+    wrong += [("carried out, not refused", lambda w: w[:2] + ["10"]), ("carried out, not refused, with its slots", other(2, 10))]
+    for what, change in wrong:
+        out.spoil("insert, " + what, change)
+        out.insert(4, two)
+        out.read(5, 0, 0, out.book.live)
+    for what, change in (("refused, not carried out", lambda w: w[:2] + ["0", "0"]), ("refused with another number", other(2)), ("refused, a number more", lambda w: w + ["0"])):
+        out.spoil("insert, " + what, change)
+        out.insert(1025, two)
+
+
 def main():
     oracle = Oracle(sys.argv[1])
     out = List(oracle, Random(SEED))
     out.note("made by compare/replay/make.py, seed %d" % SEED)
-    for part in (size_answers, refused_makings, refused_calls, small, medium, dead_entries, wide, many, largest, wrong_answers):
+    parts = (size_answers, refused_makings, refused_calls, refused_inserts, small_shelf, small, medium, chunks, dead_entries, wide, many, largest, wrong_answers)
+    for part in parts:
         out.note(part.__name__)
         part(out)
     for path, lines in ((sys.argv[2], out.text), (sys.argv[3], out.printed())):

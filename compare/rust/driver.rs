@@ -723,13 +723,13 @@ unsafe extern "C" {
 }
 
 /// CPU time of the whole process (Linux, CLOCK_PROCESS_CPUTIME_ID), for a machine shared with others.
-fn cpu() -> f64 {
+pub fn cpu() -> f64 {
     let mut t = [0i64; 2];
     unsafe { clock_gettime(2, &mut t) };
     t[0] as f64 + t[1] as f64 * 1e-9
 }
 
-struct Rng(u64);
+pub struct Rng(pub u64);
 impl Rng {
     fn next(&mut self) -> u64 {
         self.0 = self.0.wrapping_add(0x9e3779b97f4a7c15);
@@ -750,12 +750,12 @@ fn option(args: &[String], name: &str, default: &str) -> String {
         .to_string()
 }
 
-struct Cloud {
+pub struct Cloud {
     centres: Vec<Vec<u8>>,
     noise: u64,
 }
 impl Cloud {
-    fn new(rng: &mut Rng, clusters: usize, dim: usize, spread: u64, noise: u64) -> Self {
+    pub fn new(rng: &mut Rng, clusters: usize, dim: usize, spread: u64, noise: u64) -> Self {
         let centres = (0..clusters)
             .map(|_| {
                 (0..dim)
@@ -765,7 +765,7 @@ impl Cloud {
             .collect();
         Self { centres, noise }
     }
-    fn draw(&self, rng: &mut Rng) -> Vec<u8> {
+    pub fn draw(&self, rng: &mut Rng) -> Vec<u8> {
         let c = &self.centres[rng.below(self.centres.len() as u64) as usize];
         c.iter()
             .map(|&x| {

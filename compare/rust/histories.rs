@@ -2,6 +2,7 @@
 //! A child module of `driver`, so that it sees the Rust's private fields and functions.
 
 use super::*;
+pub use super::{Cloud, Rng, cpu};
 
 /// An index of the Rust.
 pub struct Rust(Book<Sq>);
@@ -89,6 +90,9 @@ impl Rust {
 
     // ---- hooks: no calls of the Rust; they write what it stores, as it is
 
+    pub fn put_alpha(&mut self, alpha: f32) {
+        self.0.meta.alpha = alpha;
+    }
     pub fn put_entry(&mut self, slot: u32) {
         self.0.meta.medoid_id = slot;
     }

@@ -1,6 +1,8 @@
-//! One index on both sides: the Rust's, and the library's words and six slices; and what is done to it between calls.
+//! One index on both sides: the Rust's, and the library's words and six slices; and what is done to it between calls. Each side goes on from what it left
+//! itself; only after calls that the library does not have is anything copied from one to the other.
+use crate::finder;
 use crate::lent::{Lent, Piece, Rng};
-use crate::table::{BLANK, Lengths, Words};
+use crate::table::{self, BLANK, Lengths, Words};
 use diskann_sorted::histories::{Rust, Stored};
 
 pub struct Six {
@@ -45,6 +47,22 @@ impl Six {
         self.versions.expect(&stored.versions);
         self.marks.expect(&stored.marks);
     }
+    /// The same after a making, which also clears the pool.
+    pub fn expect_made(&mut self, stored: &Stored) {
+        self.expect(stored);
+        self.pool.expect(&[0; 1_024]);
+    }
+    /// The library's making.
+    #[allow(clippy::too_many_arguments)]
+    pub fn create(&mut self, words: &mut Lent<u32>, n: Lengths, s: [u32; 3], alpha: u32, entry: u32, count: u32, bytes: &Lent<u8>, rows: &Lent<u32>) -> u32 {
+        unsafe {
+            finder::finder_create(
+                s[0], s[1], s[2], f32::from_bits(alpha), entry, count, bytes.ptr(), bytes.len(), rows.ptr(), rows.len(), self.vectors.mut_ptr(), n[0],
+                self.targets.mut_ptr(), n[1], self.edges.mut_ptr(), n[2], self.versions.mut_ptr(), n[3], self.marks.mut_ptr(), n[4],
+                self.pool.mut_ptr(), n[5], words.mut_ptr(),
+            )
+        }
+    }
 }
 
 pub struct Both {
@@ -56,14 +74,33 @@ pub struct Both {
 }
 
 impl Both {
+    /// An index made on both sides, of values 0 and 1.
+    pub fn made(s: [u32; 3], alpha: f32, entry: u32, bytes: &[u8], rows: &[u32], rng: &mut Rng) -> Both {
+        let (n, count) = (table::exact(s[0], s[1], s[2]), bytes.len() as u32 / s[0]);
+        let (mut six, mut words) = (Six::junk(n, rng), Lent::junk(12, rng));
+        let (given, given_rows) = (Lent::of(bytes, rng), Lent::of(rows, rng));
+        assert_eq!(six.create(&mut words, n.map(|n| n as usize), s, alpha.to_bits(), entry, count, &given, &given_rows), 0);
+        six.expect_made(&table::made(s, entry, count, bytes, rows));
+        words.expect(&[s[0], s[1], s[2], alpha.to_bits(), entry, count, 0, 0, 0, 0, 0, 0]);
+        assert!(six.pieces().into_iter().all(|(_, piece)| piece.difference().is_none()) && words.difference().is_none());
+        let rust = Rust::make(s[0] as usize, s[1] as usize, s[2] as usize, alpha, entry, bytes, rows).unwrap();
+        Both { rust, words, six, values: vec![0, 1] }
+    }
     pub fn words(&self) -> Words {
         self.words.items().try_into().unwrap()
     }
     pub fn capacity(&self) -> u32 {
         self.words()[1]
     }
-    /// Copies what the Rust stores into the library's words and slices: no call.
-    pub fn load(&mut self) {
+    /// Gives the Rust the alpha and the guard of the words, which a caller may alter as they like.
+    pub fn adopt(&mut self) {
+        let w = self.words();
+        self.rust.put_alpha(f32::from_bits(w[3]));
+        self.rust.put_guard((w[6] != 0).then(|| ([w[7], w[8], w[9], w[10]], self.six.pool.items()[..w[11] as usize].to_vec())));
+    }
+
+    /// Copies what the Rust stores into the library's words and slices: no call. Only for calls that the library does not have.
+    fn load(&mut self) {
         let stored = self.rust.stored();
         self.six.expect(&stored);
         let mut words = self.words();
@@ -78,37 +115,16 @@ impl Both {
         }
     }
 
-    /// Set-up: random inserts, deletes and enabling of the guard by the Rust alone.
-    pub fn set_up_by_the_rust(&mut self, rng: &mut Rng) {
-        let [dim, capacity, ..] = self.words();
-        for _ in 0..1 + rng.below(6) {
-            let beam = rng.pick(&[0, 1, 2, 4, 8, 16, 32]);
-            match rng.below(20) {
-                0..=9 => {
-                    let free = capacity - self.rust.live();
-                    let count = rng.below(1 + free.min(40));
-                    let vectors = (0..count).map(|_| rng.vector(&self.values, dim as usize)).collect();
-                    self.rust.insert(vectors, beam).expect("room for all");
-                }
-                10 if capacity <= 300 => {
-                    self.rust.delete(&(0..capacity).collect::<Vec<_>>(), beam, 1);
-                }
-                11..=12 if capacity <= 4_096 => {
-                    let settings = [rng.below(6), rng.below(4), rng.below(2 * capacity), beam as u32];
-                    let _ = self.rust.enable(settings); // turned back where fewer than two are live
-                }
-                _ => {
-                    let count = rng.below(1 + capacity.min(30));
-                    let ids: Vec<u32> = (0..count).map(|_| if rng.one_in(20) { rng.next() as u32 } else { rng.below(capacity + 1) }).collect();
-                    self.rust.delete(&ids, beam, rng.below(5) as usize);
-                }
-            }
+    /// Calls that the library does not have, on the Rust alone.
+    pub fn by_the_rust(&mut self, rng: &mut Rng) {
+        for _ in 0..1 + rng.below(4) {
+            rng.pick(BY_THE_RUST)(self, rng);
         }
         self.load();
     }
 
-    /// Set-up: stored state that no call leaves, but that passes row 6, written on both sides.
-    pub fn set_up_by_hand(&mut self, rng: &mut Rng) {
+    /// Stored state that no call leaves, but that passes row 6, written on both sides.
+    pub fn by_hand(&mut self, rng: &mut Rng) {
         let [dim, capacity, degree, ..] = self.words();
         for _ in 0..1 + rng.below(2 * capacity.min(30)) {
             let slot = rng.below(capacity);
@@ -117,21 +133,54 @@ impl Both {
                     let inside = rng.below(capacity);
                     let target = rng.pick(&[inside, inside, inside, inside, slot, BLANK, BLANK, capacity, BLANK - 1, rng.0 as u32]);
                     let odd = rng.pick(&[0, 1, 2, u16::MAX]);
-                    let version = if target < capacity && !rng.one_in(4) { self.rust.version(target) } else { odd };
-                    self.rust.put_edge(slot, rng.below(degree) as usize, target, version);
+                    let version = if target < capacity && !rng.one_in(4) { self.six.versions.items()[target as usize] } else { odd };
+                    self.put_edge(slot, rng.below(degree), target, version);
                 }
-                9..=10 => self.rust.put_mark(slot, rng.pick(&[0, 1, 1, 1, 2, 255])),
-                11 => self.rust.put_version(slot, rng.pick(&[0, 1, 2, u16::MAX])),
-                12 => self.rust.put_entry(slot),
-                13..=14 => self.rust.put_vector(slot, &rng.vector(&self.values, dim as usize)),
+                9..=10 => self.put_mark(slot, rng.pick(&[0, 1, 1, 1, 2, 255])),
+                11 => self.put_version(slot, rng.pick(&[0, 1, 2, u16::MAX])),
+                12 => self.put_entry(slot),
+                13..=14 => self.put_vector(slot, &rng.vector(&self.values, dim as usize)),
                 _ => {
                     let settings = [rng.pick(&[1, 2, 64]), rng.pick(&[1, 3, 16]), rng.pick(&[1, 5, 65_536]), rng.pick(&[1, 8, 1_024])];
-                    let pool = (0..rng.pick(&[0, 1, 5, 1_024])).map(|_| rng.below(capacity + 2)).collect();
-                    self.rust.put_guard(Some((settings, pool)));
+                    let pool: Vec<u32> = (0..rng.pick(&[0, 1, 5, 1_024])).map(|_| rng.below(capacity + 2)).collect();
+                    self.put_guard(if rng.one_in(2) { Some(settings) } else { None }, &pool);
                 }
             }
         }
-        self.load();
+    }
+    fn put_edge(&mut self, slot: u32, place: u32, target: u32, version: u16) {
+        self.rust.put_edge(slot, place as usize, target, version);
+        let at = (slot * self.words()[2] + place) as usize;
+        self.six.targets.put_at(at, target);
+        self.six.edges.put_at(at, version);
+    }
+    /// Keeps the live count right.
+    fn put_mark(&mut self, slot: u32, byte: u8) {
+        self.rust.put_mark(slot, byte);
+        let was = self.six.marks.items()[slot as usize];
+        self.six.marks.put_at(slot as usize, byte);
+        self.words.put_at(5, self.words()[5] + (byte != 0) as u32 - (was != 0) as u32);
+    }
+    fn put_version(&mut self, slot: u32, version: u16) {
+        self.rust.put_version(slot, version);
+        self.six.versions.put_at(slot as usize, version);
+    }
+    fn put_entry(&mut self, slot: u32) {
+        self.rust.put_entry(slot);
+        self.words.put_at(4, slot);
+    }
+    fn put_vector(&mut self, slot: u32, vector: &[u8]) {
+        self.rust.put_vector(slot, vector);
+        for (i, &byte) in vector.iter().enumerate() {
+            self.six.vectors.put_at(slot as usize * vector.len() + i, byte);
+        }
+    }
+    fn put_guard(&mut self, settings: Option<[u32; 4]>, pool: &[u32]) {
+        self.rust.put_guard(settings.map(|settings| (settings, pool.to_vec())));
+        self.six.pool.put(pool);
+        let mut words = self.words();
+        words[6..].copy_from_slice(&settings.map_or([0; 6], |s| [1, s[0], s[1], s[2], s[3], pool.len() as u32]));
+        self.words.put(&words);
     }
 
     /// The index in full where it is small.
@@ -143,5 +192,27 @@ impl Both {
             said += &format!("\n  versions {}\n  marks {}\n  pool {b:?} ..", a.versions.text(), a.marks.text());
         }
         said
+    }
+}
+
+/// The calls that the library does not have: the Rust performs them alone, and what it then stores is copied.
+pub const BY_THE_RUST: &[fn(&mut Both, &mut Rng)] = &[delete, delete, delete, enable];
+
+fn delete(b: &mut Both, rng: &mut Rng) {
+    let (capacity, beam) = (b.capacity(), rng.pick(&[0, 1, 2, 4, 8, 16, 32]));
+    if capacity <= 300 && rng.one_in(10) {
+        b.rust.delete(&(0..capacity).collect::<Vec<_>>(), beam, 1);
+    } else {
+        let count = rng.below(1 + capacity.min(30));
+        let ids: Vec<u32> = (0..count).map(|_| if rng.one_in(20) { rng.next() as u32 } else { rng.below(capacity + 1) }).collect();
+        b.rust.delete(&ids, beam, rng.below(5) as usize);
+    }
+}
+
+fn enable(b: &mut Both, rng: &mut Rng) {
+    let capacity = b.capacity();
+    if capacity <= 4_096 {
+        let settings = [rng.below(6), rng.below(4), rng.below(2 * capacity), rng.pick(&[0, 1, 2, 4, 8, 16, 32])];
+        let _ = b.rust.enable(settings); // turned back where fewer than two are live
     }
 }

@@ -5,12 +5,22 @@ use crate::draw;
 use crate::finder::{self, call};
 use crate::lent::{BORDER, Lent, Piece, Rng};
 use crate::table::{self, BLANK, Lengths, Words};
+use crate::updates;
 use diskann_sorted::histories::Rust;
+use std::collections::BTreeMap;
 
 pub struct History {
     pub rng: Rng,
     pub both: Both,
     pub scratch: Lent<u32>,
+    /// How often what a run must meet was met, in calls that were carried out.
+    pub met: BTreeMap<String, u64>,
+}
+
+impl History {
+    pub fn meet(&mut self, what: impl Into<String>) {
+        *self.met.entry(what.into()).or_default() += 1;
+    }
 }
 
 /// The number that document 01 gives, 0 where the call is carried out; and, where anything differs, the call and what differs.
@@ -39,6 +49,7 @@ pub const KINDS: &[Kind] = &[
     Kind { name: "target", weight: 7, run: reading!(finder_target, target, slot, place) },
     Kind { name: "vector", weight: 5, run: vector },
     Kind { name: "search", weight: 38, run: search },
+    Kind { name: "insert", weight: 24, run: updates::insert },
 ];
 
 /// Compares the answer and every piece: what differs.
@@ -56,12 +67,9 @@ fn outcome(number: u32, differences: Vec<String>, call: impl FnOnce() -> String)
 /// A history begins with an index of one slot.
 pub fn begin(seed: u64) -> History {
     let mut rng = Rng(seed);
-    let words = Lent::of(&[1, 1, 1, 1.0f32.to_bits(), 0, 0, 0, 0, 0, 0, 0, 0], &mut rng);
-    let six = Six::junk(table::exact(1, 1, 1), &mut rng);
-    let mut both = Both { rust: Rust::make(1, 1, 1, 1.0, 0, &[], &[]).unwrap(), words, six, values: vec![0, 1] };
-    both.load();
+    let both = Both::made([1, 1, 1], 1.0, 0, &[], &[], &mut rng);
     let scratch = Lent::junk(table::scratch_words(1) as usize + 64, &mut rng);
-    History { rng, both, scratch }
+    History { rng, both, scratch, met: BTreeMap::new() }
 }
 
 // ---- the size answer and making
@@ -101,7 +109,7 @@ impl Making {
         let values = if same { b.values.clone() } else { draw::values(rng) };
         let faults: Vec<u32> = (0..draw::faults(rng)).map(|_| rng.below(10)).collect();
         let (room, some) = (sizes[1], rng.below(sizes[1] + 1));
-        let mut count = rng.pick(&[room, room, some, some, room.div_ceil(2), room / 2, 0, 1]);
+        let mut count = rng.pick(&[room, some, some, some, room.div_ceil(2), room / 2, 0, 1]);
         if faults.contains(&0) && room <= 4_096 {
             count = room + 1 + rng.below(3);
         }
@@ -155,8 +163,7 @@ fn making(h: &mut History) -> Outcome {
             (Ok(made), 0) => {
                 let stored = made.stored();
                 odd = (stored != table::made(s, entry, count, &bytes, &rows)).then(|| "the Rust's index is not document 01's".to_string());
-                six.expect(&stored);
-                six.pool.expect(&[0; 1_024]);
+                six.expect_made(&stored);
                 words.expect(&[s[0], s[1], s[2], alpha, entry, count, 0, 0, 0, 0, 0, 0]);
                 rust = Some(made);
             }
@@ -165,13 +172,7 @@ fn making(h: &mut History) -> Outcome {
         }
     }
     let (mut bytes, mut rows) = (Lent::of(&bytes, &mut h.rng), Lent::of(&rows, &mut h.rng));
-    let got = unsafe {
-        finder::finder_create(
-            s[0], s[1], s[2], f32::from_bits(alpha), entry, count, bytes.ptr(), bytes.len(), rows.ptr(), rows.len(), six.vectors.mut_ptr(), lent[0],
-            six.targets.mut_ptr(), lent[1], six.edges.mut_ptr(), lent[2], six.versions.mut_ptr(), lent[3], six.marks.mut_ptr(), lent[4],
-            six.pool.mut_ptr(), lent[5], words.mut_ptr(),
-        )
-    };
+    let got = six.create(words, lent, s, alpha, entry, count, &bytes, &rows);
     let mut pieces = six.pieces();
     pieces.extend([("index", words as &mut dyn Piece), ("bytes", &mut bytes), ("rows", &mut rows)]);
     let mut differences = compare(number as u64, got as u64, pieces);
@@ -193,17 +194,18 @@ fn making(h: &mut History) -> Outcome {
 
 // ---- calls on an index
 
-/// A call on the index: the lengths lent and the index's own words, which are put back after it; and what a reading asks for.
-struct Asked {
-    lent: Lengths,
-    own: Words,
+/// A call on the index: the lengths lent and the index's own words, which are put back after it unless it changed them; and what a reading asks for.
+pub struct Asked {
+    pub lent: Lengths,
+    pub own: Words,
+    pub changes: bool,
     slot: u32,
     place: u32,
 }
 
 impl Asked {
     /// Draws lengths and words, with so many faults.
-    fn draw(h: &mut History, faults: u32) -> Asked {
+    pub fn draw(h: &mut History, faults: u32) -> Asked {
         let (rng, b) = (&mut h.rng, &mut h.both);
         let own = b.words();
         let (capacity, degree) = (own[1], own[2]);
@@ -240,24 +242,26 @@ impl Asked {
             }
         }
         b.words.put(&w);
-        Asked { lent, own, slot, place }
+        Asked { lent, own, changes: false, slot, place }
     }
     /// Rows 1, 2, 3 and 6. What they let pass is the index that the Rust has.
-    fn number(&self, h: &History) -> u32 {
+    pub fn number(&self, h: &History) -> u32 {
         let (w, b) = (h.both.words(), &h.both);
         let number = table::reading(&w, &self.lent, b.six.marks.items());
         let own = [0, 1, 2, 4, 5].iter().all(|&i| w[i] == self.own[i]) && self.lent == b.six.lengths();
         assert!(number != 0 || own, "a damaged index passes: {w:?}, lengths {:?}", self.lent);
         number
     }
-    /// Compares the index, its slices and the other pieces, and puts the index's own words back. `call` tells the call.
-    fn settle(self, b: &mut Both, number: u32, answers: (u64, u64), more: Vec<(&str, &mut dyn Piece)>, call: String) -> Outcome {
+    /// Compares the index, its slices and the other pieces, and puts the index's own words back unless the call changed them. `call` tells the call.
+    pub fn settle(self, b: &mut Both, number: u32, answers: (u64, u64), more: Vec<(&str, &mut dyn Piece)>, call: String) -> Outcome {
         let mut pieces = b.six.pieces();
         pieces.push(("index", &mut b.words));
         pieces.extend(more.into_iter().map(|(name, piece)| (name, piece as &mut dyn Piece)));
         let differences = compare(answers.0, answers.1, pieces);
         let outcome = outcome(number, differences, || format!("{call}, lengths of the six {:?}\n  {}", self.lent, b.text()));
-        b.words.put(&self.own);
+        if !self.changes {
+            b.words.put(&self.own);
+        }
         outcome
     }
 }

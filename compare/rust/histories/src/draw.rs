@@ -1,5 +1,6 @@
 //! What calls are drawn from: sizes, alphas, grey values, lengths, sound and damaged.
 use crate::lent::{BORDER, Rng};
+use crate::table::Words;
 
 /// How many faults a call gets: none in more than half.
 pub fn faults(rng: &mut Rng) -> u32 {
@@ -13,8 +14,8 @@ pub fn sizes(rng: &mut Rng) -> [u32; 3] {
     match rng.below(250) {
         0 if rng.one_in(2) => [dim, 65_536, degree.min(4)],
         0 => [dim.min(16), 65_536, degree],
-        1..=20 => [dim, 301 + rng.below(3_700), degree],
-        21..=80 => [dim, 25 + rng.below(276), degree],
+        1..=30 => [dim, 301 + rng.below(3_700), degree],
+        31..=90 => [dim, 25 + rng.below(276), degree],
         _ => [dim, 1 + rng.below(24), degree],
     }
 }
@@ -36,9 +37,26 @@ pub const BAD_ALPHAS: [u32; 12] = [
     0x3f7f_ffff, 0x4000_0001, 0, 0x8000_0000, 0xbf80_0000, 0xc000_0000, 0x7f80_0000, 0xff80_0000, 0x7fc0_0000, 0xffc0_0000, 0x7f80_0001, 0xffff_ffff,
 ];
 
-/// The grey values that vectors are drawn from: few, so that distances are often equal.
+/// The grey values that vectors are drawn from: mostly few, so that distances are often equal.
 pub fn values(rng: &mut Rng) -> Vec<u8> {
-    rng.pick(&[&[0u8, 1][..], &[0, 1, 3], &[0, 255], &[7], &[0, 1, 2, 3, 4, 5], &[100, 101, 103, 120]]).to_vec()
+    let all: Vec<u8> = (0..=255).collect();
+    rng.pick(&[&[0u8, 1][..], &[0, 1, 3], &[0, 255], &[7], &[0, 1, 2, 3, 4, 5], &[100, 101, 103, 120], &all, &all]).to_vec()
+}
+
+/// How many vectors an insert brings, of an index of these words: none, one, some, all that fit, or about as many as one or two chunks have. Fewer where
+/// the distances to be worked out would take long.
+pub fn batch(index: &Words, beam: u32, rng: &mut Rng) -> u32 {
+    let [dim, capacity, degree, _, _, live, ..] = *index;
+    let free = capacity - live;
+    let some = rng.below(free.min(40) + 1);
+    let chunks = rng.pick(&[255, 256, 257, 600]);
+    let count = rng.pick(&[0, 1, 1, 2, some, some, some, free, chunks, chunks, chunks, chunks]);
+    let count = if count <= free { count } else { some };
+    let (width, degree) = (beam.max(degree) as u64, degree as u64);
+    let all = (live + count) as u64;
+    let each = 1 + (width * degree).min(all) + width.min(all) * degree + degree * degree.min(all) * degree.min(all) / 2;
+    let most = if rng.one_in(50) { 8_000_000_000 } else { 800_000_000 };
+    count.min((most / (each * (dim as u64 + 16))).max(1) as u32)
 }
 
 /// A length of a lent slice that is not its own.

@@ -1,12 +1,13 @@
 //! The functions of libfinder.a. The pointer to alpha is one to its bits.
 
+/// Declares functions that take the words and the six slices of an index first, and then what is named. All are given as memory that could be written:
+/// what a function leaves of it is compared.
 macro_rules! on_index {
     ($($name:ident($($more:ty),*) -> $answer:ty;)*) => {
         unsafe extern "C" {
             $(pub fn $name(
-                index: *const u32, vectors: *const u8, vectors_len: usize, targets: *const u32, targets_len: usize, edges: *const u16,
-                edges_len: usize, versions: *const u16, versions_len: usize, marks: *const u8, marks_len: usize, pool: *const u32, pool_len: usize,
-                $(_: $more),*
+                words: *mut u32, vectors: *mut u8, vectors_len: usize, targets: *mut u32, targets_len: usize, edges: *mut u16, edges_len: usize,
+                versions: *mut u16, versions_len: usize, marks: *mut u8, marks_len: usize, pool: *mut u32, pool_len: usize, $(_: $more),*
             ) -> $answer;)*
         }
     };
@@ -24,6 +25,7 @@ on_index! {
     finder_target(u32, u32, *mut u32) -> u32;
     finder_vector(u32) -> usize;
     finder_search(*const u8, usize, u32, u32, *mut u32, usize, *mut u32, usize, *mut u32, usize, *mut u32) -> u32;
+    finder_insert(*const u8, usize, u32, *mut u32, usize, *mut u32, usize, *mut u32) -> u32;
 }
 
 unsafe extern "C" {
@@ -39,10 +41,10 @@ unsafe extern "C" {
 macro_rules! call {
     ($name:ident, $both:expr, $lent:expr $(, $more:expr)*) => {
         unsafe {
-            let (b, n) = (&$both, &$lent);
+            let (b, n) = (&mut $both, &$lent);
             $crate::finder::$name(
-                b.words.ptr(), b.six.vectors.ptr(), n[0], b.six.targets.ptr(), n[1], b.six.edges.ptr(), n[2], b.six.versions.ptr(), n[3],
-                b.six.marks.ptr(), n[4], b.six.pool.ptr(), n[5], $($more),*
+                b.words.mut_ptr(), b.six.vectors.mut_ptr(), n[0], b.six.targets.mut_ptr(), n[1], b.six.edges.mut_ptr(), n[2],
+                b.six.versions.mut_ptr(), n[3], b.six.marks.mut_ptr(), n[4], b.six.pool.mut_ptr(), n[5], $($more),*
             )
         }
     };

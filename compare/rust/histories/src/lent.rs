@@ -82,6 +82,11 @@ impl<T: Item> Lent<T> {
         self.expect(items);
         self.have[BORDER..BORDER + items.len()].copy_from_slice(items);
     }
+    /// Writes one item before the call.
+    pub fn put_at(&mut self, place: usize, item: T) {
+        self.want[BORDER + place] = item;
+        self.have[BORDER + place] = item;
+    }
     /// The first items may be anything after the call.
     pub fn accept(&mut self, count: usize) {
         self.want[BORDER..BORDER + count].copy_from_slice(&self.have[BORDER..BORDER + count]);
@@ -93,7 +98,7 @@ impl<T: Item> Lent<T> {
 
 /// A piece of any items.
 pub trait Piece {
-    /// Where it first differs from what it should hold, if it does; it is then set right.
+    /// Where it first differs from what it should hold, if it does; it is then set right, so that later calls that differ do so by themselves.
     fn difference(&mut self) -> Option<String>;
 }
 

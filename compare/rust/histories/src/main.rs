@@ -1,31 +1,38 @@
-//! Random calls on the library and on the Rust, in one process: `histories CALLS SEED`. Exit code 1 if any call differs.
+//! The library and the Rust in one process. `histories CALLS SEED`: random calls on both; exit code 1 if any call differs. `histories times PART ..`:
+//! times of the calls that change an index.
 mod both;
 mod calls;
 mod draw;
 mod finder;
 mod lent;
 mod table;
+mod times;
+mod updates;
 
 use calls::KINDS;
 
 fn main() {
-    let args: Vec<u64> = std::env::args().skip(1).map(|a| a.parse().expect("histories CALLS SEED")).collect();
+    let args: Vec<String> = std::env::args().skip(1).collect();
+    if args[0] == "times" {
+        return times::main(&args[1..]);
+    }
+    let args: Vec<u64> = args.iter().map(|a| a.parse().expect("histories CALLS SEED")).collect();
     let (calls, seed) = (args[0], args[1]);
     let mut h = calls::begin(seed);
     let weights: u32 = KINDS.iter().map(|k| k.weight).sum();
     let mut counts = vec![[0u64; 16]; KINDS.len()]; // by the number given
     let mut differ = vec![0u64; KINDS.len()];
-    let mut set_ups = [0u64; 2];
+    let mut between = [0u64; 2];
     let mut largest = 0u64; // calls on an index of the largest capacity
     for call in 1..=calls {
         match h.rng.below(100) {
-            0..=11 => {
-                h.both.set_up_by_the_rust(&mut h.rng);
-                set_ups[0] += 1;
+            0..=9 if !both::BY_THE_RUST.is_empty() => {
+                h.both.by_the_rust(&mut h.rng);
+                between[0] += 1;
             }
-            12..=16 => {
-                h.both.set_up_by_hand(&mut h.rng);
-                set_ups[1] += 1;
+            10..=14 => {
+                h.both.by_hand(&mut h.rng);
+                between[1] += 1;
             }
             _ => {}
         }
@@ -42,7 +49,7 @@ fn main() {
         }
     }
     println!("seed {seed}, {calls} calls, {largest} of them on an index of 65,536 slots");
-    println!("set up between calls: {} times by the Rust's inserts and deletes, {} times by hand", set_ups[0], set_ups[1]);
+    println!("between calls: {} times calls that the library does not have, by the Rust alone, then copied; {} times state by hand", between[0], between[1]);
     let numbers: Vec<usize> = (1..16).filter(|&n| counts.iter().any(|c| c[n] > 0)).collect();
     let line = |name: &str, cells: Vec<String>| println!("{name:12}{}", cells.iter().map(|c| format!("{c:>12}")).collect::<String>());
     let heads = ["carried out".to_string()].into_iter().chain(numbers.iter().map(|n| format!("refused {n}"))).chain(["differ".into()]);
@@ -54,6 +61,9 @@ fn main() {
     let sum: [u64; 16] = std::array::from_fn(|n| counts.iter().map(|c| c[n]).sum());
     let all: u64 = differ.iter().sum();
     line("all", row(&sum, all));
+    for (what, n) in &h.met {
+        println!("{what}: {n}");
+    }
     println!("{all} of {calls} calls differ");
     std::process::exit((all > 0) as i32);
 }

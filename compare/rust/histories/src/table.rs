@@ -78,6 +78,27 @@ pub fn search(i: &Words, lent: &Lengths, marks: &[u8], query: usize, k: u32, bea
     on_index(i, lent, marks, query != i[0] as usize, &[(7, over), (8, short)])
 }
 
+pub fn insert(i: &Words, lent: &Lengths, marks: &[u8], bytes: usize, beam: u32, slots: usize, scratch: usize) -> u32 {
+    let dim = i[0].max(1) as usize; // 0 is row 1's
+    let free = i[1].saturating_sub(i[5]) as usize;
+    let short = (scratch as u64) < scratch_words(i[1]);
+    let more = [(7, beam > 1_024), (8, short), (9, bytes % dim != 0), (10, bytes / dim > free)];
+    on_index(i, lent, marks, slots < bytes / dim, &more)
+}
+
+/// The words that a call which changes the index leaves, as include/finder.h says: those given, with entry and live count as they are now; of the
+/// guard's, 1 where it is on, and 0 in all where it is off.
+pub fn rewritten(i: &Words, entry: u32, live: u32) -> Words {
+    let mut words = *i;
+    (words[4], words[5]) = (entry, live);
+    if i[6] == 0 {
+        words[6..].fill(0);
+    } else {
+        words[6] = 1;
+    }
+    words
+}
+
 /// What making leaves: the given vectors and rows, the given slots live, everything else 0 or blank, and the guard off.
 pub fn made([dim, capacity, degree]: [u32; 3], entry: u32, count: u32, bytes: &[u8], rows: &[u32]) -> Stored {
     let n = exact(dim, capacity, degree).map(|n| n as usize);

@@ -1,0 +1,135 @@
+//! The calls that change an index, on both sides. Each side goes on from what it left itself.
+use crate::calls::{Asked, History, Outcome};
+use crate::draw;
+use crate::finder::call;
+use crate::lent::{Lent, Piece, Rng};
+use crate::table::{self, BLANK};
+
+/// An insert: its arguments and the lengths of what it is lent.
+struct Insert {
+    bytes: Vec<u8>,
+    beam: u32,
+    slots: usize,
+    scratch: usize,
+}
+
+impl Insert {
+    fn draw(h: &mut History, a: &Asked) -> Insert {
+        let (rng, b) = (&mut h.rng, &h.both);
+        let [dim, capacity, _, _, _, live, ..] = a.own;
+        let (dim, need) = (dim as usize, table::scratch_words(capacity) as usize);
+        let mut beam = rng.pick(&[0, 1, 2, 4, 8, 16, 64, 300, 1_024]);
+        let mut count = draw::batch(&a.own, beam, rng) as usize;
+        let faults: Vec<u32> = (0..rng.pick(&[0, 0, 0, 0, 0, 1, 1, 2])).map(|_| rng.below(6)).collect();
+        if faults.contains(&0) && capacity <= 4_096 {
+            count = (capacity - live + 1 + rng.below(3)) as usize;
+        }
+        let mut bytes = vectors(count, dim, &b.values, b.six.vectors.items(), rng);
+        let mut slots = count + rng.pick(&[0, 0, 1, 9]);
+        let mut scratch = need + rng.pick(&[0, 0, 1, 64]);
+        for fault in faults {
+            match fault {
+                1 => beam = rng.pick(&[1_025, 1_025, 2_048, 1 << 31, u32::MAX]),
+                2 => scratch = rng.pick(&[need - 1, need - 1, need / 2, 0]),
+                // no vector more or less: fewer than dim bytes
+                3 if dim > 1 => bytes.resize(bytes.len() + 1 + rng.below(dim as u32 - 1) as usize, 0),
+                4 if dim > 1 && count > 0 => bytes.truncate(bytes.len() - 1 - rng.below(dim as u32 - 1) as usize),
+                5 if count > 0 => slots = rng.pick(&[count - 1, count - 1, 0, count / 2]),
+                _ => {}
+            }
+        }
+        Insert { bytes, beam, slots, scratch }
+    }
+}
+
+/// So many vectors one after the other; one in four is one that a slot has or had.
+fn vectors(count: usize, dim: usize, values: &[u8], held: &[u8], rng: &mut Rng) -> Vec<u8> {
+    let mut bytes = Vec::with_capacity(count * dim);
+    for _ in 0..count {
+        if rng.one_in(4) {
+            let slot = rng.below((held.len() / dim) as u32) as usize;
+            bytes.extend_from_slice(&held[slot * dim..(slot + 1) * dim]);
+        } else {
+            bytes.extend(rng.vector(values, dim));
+        }
+    }
+    bytes
+}
+
+pub fn insert(h: &mut History) -> Outcome {
+    let faults = if h.rng.one_in(2) { draw::faults(&mut h.rng) } else { 0 };
+    let mut a = Asked::draw(h, faults);
+    let Insert { bytes, beam, slots: room, scratch: words } = Insert::draw(h, &a);
+    let dim = a.own[0] as usize;
+    let (mut slots, mut found) = (Lent::<u32>::junk(room, &mut h.rng), Lent::<u32>::junk(1, &mut h.rng));
+    let mut bytes = Lent::of(&bytes, &mut h.rng);
+    let sound = a.number(h) == 0;
+    let given = h.both.words();
+    let number = table::insert(&given, &a.lent, h.both.six.marks.items(), bytes.len(), beam, room, words);
+    assert!(number != 0 || sound);
+    let mut odd = None;
+    if number == 0 {
+        a.changes = true;
+        h.both.adopt();
+        meet(h, beam, bytes.len() / dim);
+    }
+    if matches!(number, 0 | 9 | 10) {
+        let b = &mut h.both;
+        let vectors = bytes.items().chunks(dim).map(|v| v.to_vec()).collect();
+        match (b.rust.insert(vectors, beam as usize), number) {
+            (Ok(filled), 0) => {
+                slots.expect(&filled);
+                found.expect(&[filled.len() as u32]);
+                b.words.expect(&table::rewritten(&given, b.rust.entry(), b.rust.live()));
+            }
+            (Err(said), n) if said.starts_with(&format!("err {n} ")) => {}
+            (answer, n) => odd = Some(format!("document 01 gives {n}, the Rust {answer:?}")),
+        }
+        b.six.expect(&b.rust.stored());
+    }
+    let got = call!(
+        finder_insert, h.both, a.lent, bytes.ptr(), bytes.len(), beam, slots.mut_ptr(), room, h.scratch.mut_ptr(), words, found.mut_ptr()
+    );
+    if number == 0 {
+        h.scratch.accept(words);
+    }
+    let text = if bytes.len() <= 1_024 { bytes.text() } else { String::new() };
+    let said = format!("finder_insert {} bytes, beam {beam}, slots {room}, scratch {words}\n  bytes {text}", bytes.len());
+    let more: Vec<(&str, &mut dyn Piece)> = vec![("slots", &mut slots), ("found", &mut found), ("bytes", &mut bytes), ("scratch", &mut h.scratch)];
+    let mut outcome = a.settle(&mut h.both, number, (number as u64, got as u64), more, said);
+    if let Some(odd) = odd {
+        outcome.differs = Some(outcome.differs.map_or(odd.clone(), |said| format!("{odd}\n{said}")));
+    }
+    outcome
+}
+
+/// Notes what an insert that is carried out meets.
+fn meet(h: &mut History, beam: u32, count: usize) {
+    let [dim, capacity, degree, alpha, entry, live, guard, ..] = h.both.words();
+    let six = &h.both.six;
+    let marks = six.marks.items();
+    let (dead, odd_marks) = (marks[entry as usize] == 0, marks.iter().any(|&m| m > 1));
+    let references = || six.targets.items().iter().copied().zip(six.edges.items().iter().copied()).filter(|r| r.0 != BLANK);
+    let outside = references().any(|(target, _)| target >= capacity);
+    let outdated = references().any(|(t, edge)| t < capacity && marks[t as usize] != 0 && six.versions.items()[t as usize] != edge);
+    let among = |name: &str, n: u32, these: &[u32]| these.contains(&n).then(|| format!("insert, {name} {n}"));
+    let met = [
+        among("batch of", count as u32, &[0, 1, 255, 256, 257, 600]),
+        (count == (capacity - live) as usize && count > 0).then(|| "insert, the last free slot is filled".to_string()),
+        among("beam", beam, &[0, 1, 1_024]),
+        among("dim", dim, &[1, 256]),
+        among("capacity", capacity, &[1, 65_536]),
+        among("degree", degree, &[1, 64]),
+        [1.0f32, 1.2, 2.0].iter().find(|a| a.to_bits() == alpha).map(|a| format!("insert, alpha {a:.1}")),
+        (live == 0).then(|| "insert, nothing live".to_string()),
+        (dead && live > 0).then(|| "insert, the entry dead and others live".to_string()),
+        odd_marks.then(|| "insert, marks other than 0 and 1".to_string()),
+        outside.then(|| "insert, targets outside".to_string()),
+        outdated.then(|| "insert, outdated references".to_string()),
+        (guard != 0).then(|| "insert, guard on".to_string()),
+    ];
+    for what in met.into_iter().flatten() {
+        h.meet(what);
+    }
+    *h.met.entry("insert, vectors in all".to_string()).or_default() += count as u64;
+}
