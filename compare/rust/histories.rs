@@ -25,6 +25,25 @@ fn config(settings: [u32; 4]) -> RoutabilityGuardConfig {
     RoutabilityGuardConfig { landmark_count, landmark_pool_multiplier, candidate_sample_size, beam_width }
 }
 
+fn status(s: &RoutabilityGuardStatus) -> [u32; 5] {
+    [s.enabled as usize, s.landmark_pool_size, s.live_landmarks, s.landmark_count, s.beam_width].map(|x| x as u32)
+}
+
+/// The report on a delete. The numbers: whether it is admitted, how many were requested, the entry (blank if none), how many were checked, reached at
+/// baseline and in the residual walk, lost, and supplemental.
+pub struct Report {
+    pub numbers: [u32; 8],
+    pub checked: Vec<u32>,
+    pub lost: Vec<u32>,
+}
+
+fn report(r: RoutabilityAdmissionReport) -> Report {
+    let (checked, lost) = (r.checked_landmarks.len(), r.lost_landmarks.len());
+    let [baseline, residual, supplemental] = [r.baseline_reachable_landmarks, r.residual_reachable_landmarks, r.supplemental_landmarks].map(|x| x as u32);
+    let numbers = [r.admitted as u32, r.requested as u32, r.entry.unwrap_or(PAD_U32), checked as u32, baseline, residual, lost as u32, supplemental];
+    Report { numbers, checked: r.checked_landmarks, lost: r.lost_landmarks }
+}
+
 impl Rust {
     // ---- its calls; an error is document 01's number and the Rust's text
 
@@ -44,8 +63,15 @@ impl Rust {
         let stats = self.0.delete_batch(ids, beam, degree);
         stats.iter().map(|s| [s.outgoing_seeds, s.recovered_in_neighbors, s.repair_candidates, s.repair_edges_attempted]).collect()
     }
-    pub fn enable(&mut self, settings: [u32; 4]) -> Result<(), String> {
-        self.0.enable_routability_guard(config(settings)).map(|_| ()).map_err(|e| error(&e))
+    pub fn enable(&mut self, settings: [u32; 4]) -> Result<[u32; 5], String> {
+        self.0.enable_routability_guard(config(settings)).map(|s| status(&s)).map_err(|e| error(&e))
+    }
+    /// Whether the guard is on, the length of its pool, how many of these are live, how many landmarks it wants, and its beam.
+    pub fn status(&self) -> [u32; 5] {
+        status(&self.0.routability_guard_status())
+    }
+    pub fn assess(&self, ids: &[u32]) -> Result<Report, String> {
+        self.0.assess_delete_admission(ids).map(report).map_err(|e| error(&e))
     }
 
     // ---- what it stores
@@ -80,12 +106,15 @@ impl Rust {
             edges: twos(part(m.edge_versions_offset, m.node_versions_offset)),
             versions: twos(part(m.node_versions_offset, m.valid_offset)),
             marks: part(m.valid_offset, m.valid_offset + m.capacity as u64).to_vec(),
-            guard: self.0.routability_guard.as_ref().map(|g| {
-                let c = &g.config;
-                let settings = [c.landmark_count, c.landmark_pool_multiplier, c.candidate_sample_size, c.beam_width];
-                (settings.map(|x| x as u32), g.landmark_pool.clone())
-            }),
+            guard: self.guard(),
         }
+    }
+    pub fn guard(&self) -> Option<([u32; 4], Vec<u32>)> {
+        self.0.routability_guard.as_ref().map(|g| {
+            let c = &g.config;
+            let settings = [c.landmark_count, c.landmark_pool_multiplier, c.candidate_sample_size, c.beam_width];
+            (settings.map(|x| x as u32), g.landmark_pool.clone())
+        })
     }
 
     // ---- hooks: no calls of the Rust; they write what it stores, as it is

@@ -196,8 +196,14 @@ impl Both {
 }
 
 /// The calls that the library does not have: the Rust performs them alone, and what it then stores is copied.
-pub const BY_THE_RUST: &[fn(&mut Both, &mut Rng)] = &[delete, delete, delete, enable];
+pub const BY_THE_RUST: &[fn(&mut Both, &mut Rng)] = &[
+    #[cfg(not(feature = "delete"))]
+    delete,
+    #[cfg(not(feature = "guard"))]
+    enable,
+];
 
+#[cfg(not(feature = "delete"))]
 fn delete(b: &mut Both, rng: &mut Rng) {
     let (capacity, beam) = (b.capacity(), rng.pick(&[0, 1, 2, 4, 8, 16, 32]));
     if capacity <= 300 && rng.one_in(10) {
@@ -209,6 +215,7 @@ fn delete(b: &mut Both, rng: &mut Rng) {
     }
 }
 
+#[cfg(not(feature = "guard"))]
 fn enable(b: &mut Both, rng: &mut Rng) {
     let capacity = b.capacity();
     if capacity <= 4_096 {

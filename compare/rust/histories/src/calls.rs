@@ -3,6 +3,8 @@
 use crate::both::{Both, Six};
 use crate::draw;
 use crate::finder::{self, call};
+#[cfg(feature = "guard")]
+use crate::guard;
 use crate::lent::{BORDER, Lent, Piece, Rng};
 use crate::table::{self, BLANK, Lengths, Words};
 use crate::updates;
@@ -29,6 +31,16 @@ pub struct Outcome {
     pub differs: Option<String>,
 }
 
+impl Outcome {
+    /// The same with what else was odd.
+    pub fn and(mut self, odd: Option<String>) -> Outcome {
+        if let Some(odd) = odd {
+            self.differs = Some(self.differs.map_or(odd.clone(), |said| format!("{odd}\n{said}")));
+        }
+        self
+    }
+}
+
 pub struct Kind {
     pub name: &'static str,
     pub weight: u32,
@@ -50,6 +62,14 @@ pub const KINDS: &[Kind] = &[
     Kind { name: "vector", weight: 5, run: vector },
     Kind { name: "search", weight: 38, run: search },
     Kind { name: "insert", weight: 24, run: updates::insert },
+    #[cfg(feature = "delete")]
+    Kind { name: "delete", weight: 16, run: updates::delete },
+    #[cfg(feature = "guard")]
+    Kind { name: "enable guard", weight: 8, run: guard::enable },
+    #[cfg(feature = "guard")]
+    Kind { name: "guard status", weight: 5, run: guard::status },
+    #[cfg(feature = "guard")]
+    Kind { name: "assess", weight: 16, run: guard::assess },
 ];
 
 /// Compares the answer and every piece: what differs.
@@ -261,6 +281,7 @@ impl Asked {
         let outcome = outcome(number, differences, || format!("{call}, lengths of the six {:?}\n  {}", self.lent, b.text()));
         if !self.changes {
             b.words.put(&self.own);
+            b.adopt();
         }
         outcome
     }

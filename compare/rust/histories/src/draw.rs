@@ -1,6 +1,6 @@
 //! What calls are drawn from: sizes, alphas, grey values, lengths, sound and damaged.
 use crate::lent::{BORDER, Rng};
-use crate::table::Words;
+use crate::table::{Words, scratch_words};
 
 /// How many faults a call gets: none in more than half.
 pub fn faults(rng: &mut Rng) -> u32 {
@@ -57,6 +57,28 @@ pub fn batch(index: &Words, beam: u32, rng: &mut Rng) -> u32 {
     let each = 1 + (width * degree).min(all) + width.min(all) * degree + degree * degree.min(all) * degree.min(all) / 2;
     let most = if rng.one_in(50) { 8_000_000_000 } else { 800_000_000 };
     count.min((most / (each * (dim as u64 + 16))).max(1) as u32)
+}
+
+/// Ids to be deleted: live, dead and outside ones, repeats among them, at times all slots.
+pub fn ids(capacity: u32, rng: &mut Rng) -> Vec<u32> {
+    if capacity <= 256 && rng.one_in(10) {
+        return (0..capacity).collect();
+    }
+    let some = rng.below(1 + capacity.min(30));
+    let count = rng.pick(&[0, 1, 1, 2, some, some, some, 256]).min(rng.pick(&[40, 256]));
+    (0..count).map(|_| if rng.one_in(20) { rng.next() as u32 } else { rng.below(capacity + 1) }).collect()
+}
+
+/// How many landmarks can be chosen before the Rust's choosing takes long.
+pub fn landmarks(index: &Words) -> u32 {
+    let each = index[5].max(1) as f64 * (index[0] + 16) as f64 * 2.0;
+    (4e8 / each).sqrt().max(1.0) as u32
+}
+
+/// Scratch for a call on an index of these words: enough, or too little.
+pub fn scratch(index: &Words, short: bool, rng: &mut Rng) -> usize {
+    let need = scratch_words(index[1]) as usize;
+    if short { rng.pick(&[need - 1, need - 1, need / 2, 0]) } else { need + rng.pick(&[0, 0, 1, 64]) }
 }
 
 /// A length of a lent slice that is not its own.

@@ -1,4 +1,4 @@
-//! The functions of libfinder.a. The pointer to alpha is one to its bits.
+//! The functions of libfinder.a. The pointer to alpha is one to its bits; stats are four words each.
 
 /// Declares functions that take the words and the six slices of an index first, and then what is named. All are given as memory that could be written:
 /// what a function leaves of it is compared.
@@ -26,6 +26,10 @@ on_index! {
     finder_vector(u32) -> usize;
     finder_search(*const u8, usize, u32, u32, *mut u32, usize, *mut u32, usize, *mut u32, usize, *mut u32) -> u32;
     finder_insert(*const u8, usize, u32, *mut u32, usize, *mut u32, usize, *mut u32) -> u32;
+    finder_delete(*const u32, usize, u32, u32, *mut u32, usize, *mut u32, usize, *mut u32) -> u32;
+    finder_enable_guard(u32, u32, u32, u32, *mut u32, usize, *mut u32) -> u32;
+    finder_guard_status(*mut u32) -> u32;
+    finder_assess_delete(*const u32, usize, *mut u32, usize, *mut u32, usize, *mut u32, usize, *mut u32) -> u32;
 }
 
 unsafe extern "C" {

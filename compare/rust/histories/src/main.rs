@@ -1,9 +1,12 @@
 //! The library and the Rust in one process. `histories CALLS SEED`: random calls on both; exit code 1 if any call differs. `histories times PART ..`:
 //! times of the calls that change an index.
+#![cfg_attr(not(all(feature = "delete", feature = "guard")), allow(dead_code))]
 mod both;
 mod calls;
 mod draw;
 mod finder;
+#[cfg(feature = "guard")]
+mod guard;
 mod lent;
 mod table;
 mod times;

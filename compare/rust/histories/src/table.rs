@@ -86,6 +86,22 @@ pub fn insert(i: &Words, lent: &Lengths, marks: &[u8], bytes: usize, beam: u32, 
     on_index(i, lent, marks, slots < bytes / dim, &more)
 }
 
+#[allow(clippy::too_many_arguments)]
+pub fn delete(i: &Words, lent: &Lengths, marks: &[u8], ids: usize, beam: u32, degree: u32, stats: usize, scratch: usize) -> u32 {
+    let over = beam > 256 || degree > 16 || ids > 256;
+    on_index(i, lent, marks, stats < ids, &[(7, over), (8, (scratch as u64) < scratch_words(i[1]))])
+}
+
+pub fn enable(i: &Words, lent: &Lengths, marks: &[u8], settings: [u32; 4], scratch: usize) -> u32 {
+    let over = settings.iter().zip([64, 16, 65_536, 1_024]).any(|(&x, limit)| x > limit);
+    on_index(i, lent, marks, false, &[(7, over), (8, (scratch as u64) < scratch_words(i[1])), (12, i[5] == 0), (13, i[5] == 1)])
+}
+
+pub fn assess(i: &Words, lent: &Lengths, marks: &[u8], ids: usize, lists: [usize; 2], scratch: usize) -> u32 {
+    let more = [(7, ids > 256), (8, (scratch as u64) < scratch_words(i[1])), (11, i[6] == 0)];
+    on_index(i, lent, marks, lists.iter().any(|&n| n < 64), &more)
+}
+
 /// The words that a call which changes the index leaves, as include/finder.h says: those given, with entry and live count as they are now; of the
 /// guard's, 1 where it is on, and 0 in all where it is off.
 pub fn rewritten(i: &Words, entry: u32, live: u32) -> Words {

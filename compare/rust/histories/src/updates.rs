@@ -96,11 +96,74 @@ pub fn insert(h: &mut History) -> Outcome {
     let text = if bytes.len() <= 1_024 { bytes.text() } else { String::new() };
     let said = format!("finder_insert {} bytes, beam {beam}, slots {room}, scratch {words}\n  bytes {text}", bytes.len());
     let more: Vec<(&str, &mut dyn Piece)> = vec![("slots", &mut slots), ("found", &mut found), ("bytes", &mut bytes), ("scratch", &mut h.scratch)];
-    let mut outcome = a.settle(&mut h.both, number, (number as u64, got as u64), more, said);
-    if let Some(odd) = odd {
-        outcome.differs = Some(outcome.differs.map_or(odd.clone(), |said| format!("{odd}\n{said}")));
+    a.settle(&mut h.both, number, (number as u64, got as u64), more, said).and(odd)
+}
+
+/// A delete: its arguments and the lengths of what it is lent.
+#[cfg(feature = "delete")]
+struct Delete {
+    ids: Vec<u32>,
+    beam: u32,
+    degree: u32,
+    stats: usize,
+    scratch: usize,
+}
+
+#[cfg(feature = "delete")]
+impl Delete {
+    fn draw(h: &mut History, a: &Asked) -> Delete {
+        let rng = &mut h.rng;
+        let faults: Vec<u32> = (0..rng.pick(&[0, 0, 0, 0, 0, 1, 1, 2])).map(|_| rng.below(5)).collect();
+        let mut ids = draw::ids(a.own[1], rng);
+        if faults.contains(&0) {
+            ids.resize_with(257 + rng.below(3) as usize, || rng.below(a.own[1]));
+        }
+        let (mut beam, mut degree) = (rng.pick(&[0, 1, 2, 4, 8, 16, 64, 256]), rng.pick(&[0, 1, 2, 3, 4, 16]));
+        let mut stats = ids.len() + rng.pick(&[0, 0, 1, 9]);
+        let scratch = draw::scratch(&a.own, faults.contains(&1), rng);
+        for fault in faults {
+            match fault {
+                2 => beam = rng.pick(&[257, 257, 1_024, u32::MAX]),
+                3 => degree = rng.pick(&[17, 17, 64, u32::MAX]),
+                4 if !ids.is_empty() => stats = rng.pick(&[ids.len() - 1, ids.len() - 1, 0, ids.len() / 2]),
+                _ => {}
+            }
+        }
+        Delete { ids, beam, degree, stats, scratch }
     }
-    outcome
+}
+
+#[cfg(feature = "delete")]
+pub fn delete(h: &mut History) -> Outcome {
+    let faults = if h.rng.one_in(2) { draw::faults(&mut h.rng) } else { 0 };
+    let mut a = Asked::draw(h, faults);
+    let Delete { ids, beam, degree, stats: room, scratch: words } = Delete::draw(h, &a);
+    let (mut stats, mut found) = (Lent::<u32>::junk(4 * room, &mut h.rng), Lent::<u32>::junk(1, &mut h.rng));
+    let mut ids = Lent::of(&ids, &mut h.rng);
+    let sound = a.number(h) == 0;
+    let given = h.both.words();
+    let number = table::delete(&given, &a.lent, h.both.six.marks.items(), ids.len(), beam, degree, room, words);
+    assert!(number != 0 || sound);
+    if number == 0 {
+        a.changes = true;
+        let b = &mut h.both;
+        b.adopt();
+        let done = b.rust.delete(ids.items(), beam as usize, degree as usize);
+        stats.expect(&done.iter().flatten().map(|&n| n as u32).collect::<Vec<_>>());
+        found.expect(&[done.len() as u32]);
+        b.words.expect(&table::rewritten(&given, b.rust.entry(), b.rust.live()));
+        b.six.expect(&b.rust.stored());
+        *h.met.entry("delete, slots in all".to_string()).or_default() += done.len() as u64;
+    }
+    let got = call!(
+        finder_delete, h.both, a.lent, ids.ptr(), ids.len(), beam, degree, stats.mut_ptr(), room, h.scratch.mut_ptr(), words, found.mut_ptr()
+    );
+    if number == 0 {
+        h.scratch.accept(words);
+    }
+    let said = format!("finder_delete beam {beam}, degree {degree}, stats {room}, scratch {words}, ids {}", ids.text());
+    let more: Vec<(&str, &mut dyn Piece)> = vec![("stats", &mut stats), ("found", &mut found), ("ids", &mut ids), ("scratch", &mut h.scratch)];
+    a.settle(&mut h.both, number, (number as u64, got as u64), more, said)
 }
 
 /// Notes what an insert that is carried out meets.

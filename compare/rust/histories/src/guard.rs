@@ -1,0 +1,119 @@
+//! The guard's calls: enabling it, its status, assessing a delete.
+use crate::calls::{Asked, History, Outcome};
+use crate::draw;
+use crate::finder::call;
+use crate::lent::{Lent, Piece};
+use crate::table;
+
+pub fn enable(h: &mut History) -> Outcome {
+    let faults = if h.rng.one_in(2) { draw::faults(&mut h.rng) } else { 0 };
+    let mut a = Asked::draw(h, faults);
+    let rng = &mut h.rng;
+    let capacity = a.own[1];
+    let most = draw::landmarks(&a.own);
+    let sample = rng.pick(&[0, 1, 5, 1 + capacity / 3, capacity, 1_024, 65_536]);
+    let mut s = [rng.pick(&[0, 1, 2, 6, 64]), rng.pick(&[0, 1, 2, 4, 16]), sample, rng.pick(&[0, 1, 2, 8, 128, 1_024])];
+    while s[0].max(1) * s[1].max(1) > most && s[0].max(s[1]) > 1 {
+        (s[0], s[1]) = (s[0] / 2, s[1] / 2);
+    }
+    let faults: Vec<u32> = (0..rng.pick(&[0, 0, 0, 0, 0, 1, 1, 2])).map(|_| rng.below(5)).collect();
+    let words = draw::scratch(&a.own, faults.contains(&4), rng);
+    for fault in faults.into_iter().filter(|&f| f < 4).map(|f| f as usize) {
+        s[fault] = rng.pick(&[[65, 17, 65_537, 1_025][fault], u32::MAX]);
+    }
+    let mut status = Lent::<u32>::junk(5, rng);
+    let sound = a.number(h) == 0;
+    let given = h.both.words();
+    let number = table::enable(&given, &a.lent, h.both.six.marks.items(), s, words);
+    assert!(number != 0 || sound);
+    let mut odd = None;
+    if matches!(number, 0 | 12 | 13) {
+        let b = &mut h.both;
+        if number == 0 {
+            a.changes = true;
+            b.adopt();
+        }
+        match (b.rust.enable(s), number) {
+            (Ok(said), 0) => {
+                status.expect(&said);
+                let (settings, pool) = b.rust.guard().unwrap();
+                let mut after = given;
+                after[6..].copy_from_slice(&[1, settings[0], settings[1], settings[2], settings[3], pool.len() as u32]);
+                b.words.expect(&after);
+                b.six.pool.expect(&pool);
+            }
+            (Err(said), n) if said.starts_with(&format!("err {n} ")) => {}
+            (answer, n) => odd = Some(format!("document 01 gives {n}, the Rust {answer:?}")),
+        }
+    }
+    let got = call!(finder_enable_guard, h.both, a.lent, s[0], s[1], s[2], s[3], h.scratch.mut_ptr(), words, status.mut_ptr());
+    if number == 0 {
+        h.scratch.accept(words);
+    }
+    let said = format!("finder_enable_guard {s:?}, scratch {words}");
+    let more: Vec<(&str, &mut dyn Piece)> = vec![("status", &mut status), ("scratch", &mut h.scratch)];
+    a.settle(&mut h.both, number, (number as u64, got as u64), more, said).and(odd)
+}
+
+pub fn status(h: &mut History) -> Outcome {
+    let faults = draw::faults(&mut h.rng);
+    let a = Asked::draw(h, faults);
+    let mut status = Lent::<u32>::junk(5, &mut h.rng);
+    let number = a.number(h);
+    if number == 0 {
+        h.both.adopt();
+        status.expect(&h.both.rust.status());
+    }
+    let got = call!(finder_guard_status, h.both, a.lent, status.mut_ptr());
+    a.settle(&mut h.both, number, (number as u64, got as u64), vec![("status", &mut status)], "finder_guard_status".to_string())
+}
+
+pub fn assess(h: &mut History) -> Outcome {
+    let faults = if h.rng.one_in(2) { draw::faults(&mut h.rng) } else { 0 };
+    let a = Asked::draw(h, faults);
+    let (rng, mut given) = (&mut h.rng, h.both.words());
+    if given[6] != 0 && given[7] <= 64 {
+        given[7] = given[7].min(draw::landmarks(&a.own)); // of a hand-made guard, or of one enabled when fewer were live
+        h.both.words.put(&given);
+    }
+    let faults: Vec<u32> = (0..rng.pick(&[0, 0, 0, 0, 0, 1, 1, 2])).map(|_| rng.below(3)).collect();
+    let mut ids = draw::ids(a.own[1], rng);
+    if faults.contains(&0) {
+        ids.resize_with(257 + rng.below(3) as usize, || rng.below(a.own[1]));
+    }
+    let words = draw::scratch(&a.own, faults.contains(&1), rng);
+    let mut room = [64 + rng.pick(&[0, 0, 1, 9]), 64 + rng.pick(&[0, 0, 1, 9])];
+    if faults.contains(&2) {
+        room[rng.below(2) as usize] = rng.pick(&[63, 63, 0, 32]);
+    }
+    let (mut checked, mut lost) = (Lent::<u32>::junk(room[0], rng), Lent::<u32>::junk(room[1], rng));
+    let (mut report, mut ids) = (Lent::<u32>::junk(8, rng), Lent::of(&ids, rng));
+    let sound = a.number(h) == 0;
+    let number = table::assess(&given, &a.lent, h.both.six.marks.items(), ids.len(), room, words);
+    assert!(number != 0 || sound);
+    let mut odd = None;
+    if matches!(number, 0 | 11) {
+        h.both.adopt();
+        match (h.both.rust.assess(ids.items()), number) {
+            (Ok(said), 0) => {
+                report.expect(&said.numbers);
+                checked.expect(&said.checked);
+                lost.expect(&said.lost);
+            }
+            (Err(said), n) if said.starts_with(&format!("err {n} ")) => {}
+            (answer, n) => odd = Some(format!("document 01 gives {n}, the Rust {:?}", answer.map(|r| r.numbers))),
+        }
+    }
+    let got = call!(
+        finder_assess_delete, h.both, a.lent, ids.ptr(), ids.len(), checked.mut_ptr(), room[0], lost.mut_ptr(), room[1], h.scratch.mut_ptr(), words,
+        report.mut_ptr()
+    );
+    if number == 0 {
+        h.scratch.accept(words);
+    }
+    let said = format!("finder_assess_delete lists {room:?}, scratch {words}, ids {}", ids.text());
+    let lists: [(&str, &mut dyn Piece); 2] = [("checked", &mut checked), ("lost", &mut lost)];
+    let mut more: Vec<(&str, &mut dyn Piece)> = vec![("report", &mut report), ("ids", &mut ids), ("scratch", &mut h.scratch)];
+    more.extend(lists);
+    a.settle(&mut h.both, number, (number as u64, got as u64), more, said).and(odd)
+}
