@@ -6,21 +6,30 @@ use crate::lent::{Lent, Piece, Rng};
 use crate::table;
 use diskann_sorted::histories::{Cloud, Rng as Numbers, Rust, cpu};
 
-const PARTS: &[(&str, fn())] = &[("insert", insert)];
+const PARTS: &[(&str, fn())] = &[
+    ("insert", insert),
+    #[cfg(feature = "delete")]
+    ("delete", delete),
+    #[cfg(feature = "guard")]
+    ("guard", guard),
+];
 
 const DIM: usize = 256;
 const DEGREE: usize = 32;
 const ALPHA: f32 = 1.2;
 const BEAM: u32 = 64;
+/// So many slots are filled one at a time.
+const FIRST: usize = 232;
 
 /// Times the named parts, or all.
 pub fn main(names: &[String]) {
-    println!("dim {DIM}, degree {DEGREE}, alpha {ALPHA}, clustered vectors; CPU time of one, in microseconds");
+    println!("dim {DIM}, degree {DEGREE}, alpha {ALPHA}, clustered vectors; CPU time in microseconds");
     for (name, part) in PARTS {
         if names.is_empty() || names.iter().any(|n| n == name) {
             part();
         }
     }
+    println!("after each line both had the same index");
 }
 
 /// An index on both sides, and how long each has taken: the Rust, the library.
@@ -65,6 +74,59 @@ impl Timed {
         slots.expect(&filled);
         assert!(slots.difference().is_none());
     }
+    /// Deletes on both sides.
+    #[cfg(feature = "delete")]
+    fn delete(&mut self, ids: &[u32]) {
+        let started = cpu();
+        let done = self.both.rust.delete(ids, 64, 2);
+        self.spent[0] += cpu() - started;
+        let (mut stats, mut found) = (Lent::junk(4 * ids.len(), &mut self.rng), Lent::junk(1, &mut self.rng));
+        let lent = self.both.six.lengths();
+        let started = cpu();
+        let refused = call!(
+            finder_delete, self.both, lent, ids.as_ptr(), ids.len(), 64, 2, stats.mut_ptr(), ids.len(), self.scratch.mut_ptr(), self.scratch.len(),
+            found.mut_ptr()
+        );
+        self.spent[1] += cpu() - started;
+        stats.expect(&done.iter().flatten().map(|&n| n as u32).collect::<Vec<_>>());
+        found.expect(&[done.len() as u32]);
+        assert!(refused == 0 && stats.difference().is_none() && found.difference().is_none());
+    }
+    /// Enables the guard on both sides.
+    #[cfg(feature = "guard")]
+    fn enable(&mut self, settings: [u32; 4]) {
+        let started = cpu();
+        let said = self.both.rust.enable(settings).unwrap();
+        self.spent[0] += cpu() - started;
+        let mut status = Lent::junk(5, &mut self.rng);
+        let (lent, [count, multiplier, sample, beam]) = (self.both.six.lengths(), settings);
+        let started = cpu();
+        let refused = call!(
+            finder_enable_guard, self.both, lent, count, multiplier, sample, beam, self.scratch.mut_ptr(), self.scratch.len(), status.mut_ptr()
+        );
+        self.spent[1] += cpu() - started;
+        status.expect(&said);
+        assert!(refused == 0 && status.difference().is_none());
+    }
+    /// Assesses a delete on both sides.
+    #[cfg(feature = "guard")]
+    fn assess(&mut self, ids: &[u32]) {
+        let started = cpu();
+        let said = self.both.rust.assess(ids).unwrap();
+        self.spent[0] += cpu() - started;
+        let (mut report, mut checked, mut lost) = (Lent::junk(8, &mut self.rng), Lent::junk(64, &mut self.rng), Lent::junk(64, &mut self.rng));
+        let lent = self.both.six.lengths();
+        let started = cpu();
+        let refused = call!(
+            finder_assess_delete, self.both, lent, ids.as_ptr(), ids.len(), checked.mut_ptr(), 64, lost.mut_ptr(), 64, self.scratch.mut_ptr(),
+            self.scratch.len(), report.mut_ptr()
+        );
+        self.spent[1] += cpu() - started;
+        report.expect(&said.numbers);
+        checked.expect(&said.checked);
+        lost.expect(&said.lost);
+        assert!(refused == 0 && [report, checked, lost].iter_mut().all(|piece| piece.difference().is_none()));
+    }
     /// Makes the Rust's index of what the library's slices hold. None of its slots was emptied, so that all versions are 0.
     fn hand_to_the_rust(&mut self) {
         let b = &mut self.both;
@@ -81,7 +143,12 @@ impl Timed {
     fn same(&mut self) -> bool {
         let b = &mut self.both;
         b.six.expect(&b.rust.stored());
-        b.words.expect(&table::rewritten(&b.words(), b.rust.entry(), b.rust.live()));
+        let mut words = table::rewritten(&b.words(), b.rust.entry(), b.rust.live());
+        if let Some((s, pool)) = b.rust.guard() {
+            words[6..].copy_from_slice(&[1, s[0], s[1], s[2], s[3], pool.len() as u32]);
+            b.six.pool.expect(&pool);
+        }
+        b.words.expect(&words);
         b.six.pieces().into_iter().all(|(_, piece)| piece.difference().is_none()) && b.words.difference().is_none()
     }
     /// The time of one, by the Rust and by the library, since it was last asked for; both must have the same index.
@@ -91,44 +158,97 @@ impl Timed {
     }
 }
 
-/// Prints a line of a table.
-fn line(capacity: usize, batch: usize, count: usize, [rust, library]: [f64; 2]) {
-    println!("{capacity:>8} {batch:>10} {count:>8} {rust:>10.1} {library:>10.1} {:>6.2}", library / rust);
+/// The vectors of an index.
+fn clustered(capacity: usize) -> Vec<Vec<u8>> {
+    let mut rng = Numbers(1);
+    let cloud = Cloud::new(&mut rng, 200, DIM, 40, 32);
+    (0..capacity).map(|_| cloud.draw(&mut rng)).collect()
 }
 
-fn head(what: &str, counted: &str) {
-    println!("{what}\n{:>8} {:>10} {counted:>8} {:>10} {:>10} {:>6}", "capacity", "batches of", "the Rust", "library", "ratio");
+/// An index that the library alone filled up to a slot, untimed, and that was then handed to the Rust: the first slots one vector at a time, so that there
+/// is a graph, and then in batches of 256.
+fn filled(capacity: usize, vectors: &[Vec<u8>]) -> Timed {
+    let mut t = Timed::new(capacity, &vectors[0]);
+    let (first, rest) = vectors.split_at(FIRST.min(vectors.len()));
+    for batch in first[1..].chunks(1).chain(rest.chunks(256)) {
+        t.insert_by_library(batch);
+    }
+    t.hand_to_the_rust();
+    t
 }
 
-/// Inserts in batches of 256, but for the last slots, and then one at a time. The first slots are filled by the library alone, untimed: 232 one at a time,
-/// so that there is a graph, and of the largest index more in batches of 256.
+/// The best of two times on each side.
+fn best(a: [f64; 2], b: [f64; 2]) -> [f64; 2] {
+    [a[0].min(b[0]), a[1].min(b[1])]
+}
+
+/// A table, line by line.
+fn head(what: &str, of: &str, counted: &str) {
+    println!("{what}\n{:>8} {of:>10} {counted:>8} {:>10} {:>10} {:>6}", "capacity", "the Rust", "library", "ratio");
+}
+
+fn line(capacity: usize, of: usize, count: usize, [rust, library]: [f64; 2]) {
+    println!("{capacity:>8} {of:>10} {count:>8} {rust:>10.1} {library:>10.1} {:>6.2}", library / rust);
+}
+
+/// Inserts in batches of 256, but for the last slots, and then one at a time; of the largest index the last quarter is timed.
 fn insert() {
-    head(&format!("insert, beam {BEAM}"), "vectors");
-    for (capacity, untimed, ones, rounds) in [(1_000usize, 232usize, 256usize, 5), (20_000, 232, 1_000, 1), (65_536, 49_152, 500, 1)] {
-        let mut rng = Numbers(1);
-        let cloud = Cloud::new(&mut rng, 200, DIM, 40, 32);
-        let vectors: Vec<Vec<u8>> = (0..capacity).map(|_| cloud.draw(&mut rng)).collect();
+    head(&format!("insert, beam {BEAM}; time of one vector"), "batches of", "vectors");
+    for (capacity, untimed, ones, rounds) in [(1_000usize, FIRST, 256usize, 5), (20_000, FIRST, 1_000, 1), (65_536, 49_152, 500, 1)] {
+        let vectors = clustered(capacity);
         let (batches, last) = vectors.split_at(capacity - ones);
-        let mut best = [[f64::MAX; 2]; 2];
+        let mut times = [[f64::MAX; 2]; 2];
         for _ in 0..rounds {
-            let mut t = Timed::new(capacity, &vectors[0]);
-            for batch in vectors[1..232].chunks(1).chain(vectors[232..untimed].chunks(256)) {
-                t.insert_by_library(batch);
-            }
-            t.hand_to_the_rust();
+            let mut t = filled(capacity, &vectors[..untimed]);
             for batch in batches[untimed..].chunks(256) {
                 t.insert(batch);
             }
-            let in_batches = t.each(batches.len() - untimed);
+            times[0] = best(times[0], t.each(batches.len() - untimed));
             for one in last.chunks(1) {
                 t.insert(one);
             }
-            for (best, new) in best.iter_mut().zip([in_batches, t.each(ones)]) {
-                *best = std::array::from_fn(|i| best[i].min(new[i]));
-            }
+            times[1] = best(times[1], t.each(ones));
         }
-        line(capacity, 256, batches.len() - untimed, best[0]);
-        line(capacity, 1, ones, best[1]);
+        line(capacity, 256, batches.len() - untimed, times[0]);
+        line(capacity, 1, ones, times[1]);
     }
-    println!("both had the same index after each part");
+}
+
+/// Deletes slots drawn at random from a full index, with the Rust's own repair beam, twice the degree, and repair degree.
+#[cfg(feature = "delete")]
+fn delete() {
+    head("delete, repair beam 64, repair degree 2; time of one slot", "batches of", "slots");
+    for (capacity, parts) in [(1_000usize, [(1, 64), (16, 64), (256, 256)]), (20_000, [(1, 256), (16, 256), (256, 1_024)]), (65_536, [(1, 256), (16, 256), (256, 1_024)])] {
+        let mut t = filled(capacity, &clustered(capacity));
+        let mut slots: Vec<u32> = (0..capacity as u32).collect();
+        for i in (1..capacity).rev() {
+            slots.swap(i, t.rng.below(i as u32 + 1) as usize);
+        }
+        for (batch, count) in parts {
+            for ids in slots.split_off(slots.len() - count).chunks(batch) {
+                t.delete(ids);
+            }
+            line(capacity, batch, count, t.each(count));
+        }
+    }
+}
+
+/// Enables the guard with the Rust's own settings on a full index, and assesses deletes of slots drawn at random.
+#[cfg(feature = "guard")]
+fn guard() {
+    head("guard, settings 6, 4, 1024, 128; time of enabling it (0 ids) and of assessing a delete", "ids", "calls");
+    for capacity in [1_000usize, 20_000, 65_536] {
+        let mut t = filled(capacity, &clustered(capacity));
+        for _ in 0..5 {
+            t.enable([6, 4, 1_024, 128]);
+        }
+        line(capacity, 0, 5, t.each(5));
+        for (count, calls) in [(1, 100), (16, 100), (256, 100)] {
+            for _ in 0..calls {
+                let ids: Vec<u32> = (0..count).map(|_| t.rng.below(capacity as u32)).collect();
+                t.assess(&ids);
+            }
+            line(capacity, count, calls, t.each(calls));
+        }
+    }
 }
