@@ -19,12 +19,14 @@ pub const WORDS: usize = 8;
 
 pub const SEARCH: usize = 9;
 
-pub const NOTE: usize = 10;
+pub const INSERT: usize = 10;
 
-pub const MALFORMED: usize = 11;
+pub const NOTE: usize = 11;
 
-pub const DIFFERENCES: usize = 12;
+pub const MALFORMED: usize = 12;
 
-pub const LINES: usize = 13;
+pub const DIFFERENCES: usize = 13;
 
-pub const KINDS: usize = 14;
+pub const LINES: usize = 14;
+
+pub const KINDS: usize = 15;

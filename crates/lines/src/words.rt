@@ -1,5 +1,6 @@
 // The word that a line begins with.
 use super::kinds::GIVE;
+use super::kinds::INSERT;
 use super::kinds::LEND;
 use super::kinds::MAKE;
 use super::kinds::MALFORMED;
@@ -86,6 +87,12 @@ pub fn first_word(line: &[u8]) -> Word {
         return Word {
             kind: WORDS,
             end: 5,
+        };
+    }
+    if begins(line, b"insert ") {
+        return Word {
+            kind: INSERT,
+            end: 6,
         };
     }
     preparing(line)

@@ -7,6 +7,7 @@ mod compare;
 use index::Guard;
 use index::Index;
 use lines::kinds::DIFFERENCES;
+use lines::kinds::INSERT;
 use lines::kinds::KINDS;
 use lines::kinds::LINES;
 use lines::kinds::MAKE;
@@ -17,12 +18,13 @@ use lines::kinds::VECTOR;
 use lines::kinds::WORDS;
 use lines::prepare::Lent;
 use lines::prepare::Step;
+use lines::words::Word;
 ghost use Prim.Native.Nat.{_≤_};
 ghost use lib.ListN.{length};
 
 // How many lines there were of each kind.
 struct Counts {
-    of: [u64; 14],
+    of: [u64; 15],
 }
 
 // Prints one count with its name.
@@ -77,7 +79,65 @@ fn nothing() -> Step {
     }
 }
 
-// Performs every line of the first n bytes: each function below passes on a step whose line is not its own.
+// Performs a line: each function passes on a step whose line is not its own.
+fn perform(
+    line: &[u8],
+    word: Word,
+    step: Step,
+    given: &mut [u8; 262144],
+    rows: &mut [u32; 131072],
+    vectors: &mut [u8; 262144],
+    targets: &mut [u32; 131072],
+    edges: &mut [u16; 131072],
+    versions: &mut [u16; 65536],
+    marks: &mut [u8; 65536],
+    pool: &mut [u32; 1024],
+    scratch: &mut [u32; 235520],
+) -> Step {
+    let mut new = lines::prepare::set_or_lend(line, word, step);
+    new = lines::prepare::give(line, word, new, given, rows);
+    new = lines::prepare::store(line, word, new, vectors, targets, edges, versions, marks);
+    new = changes::make(
+        line,
+        word,
+        new,
+        given,
+        rows,
+        vectors,
+        targets,
+        edges,
+        versions,
+        marks,
+        pool,
+    );
+    new = changes::insert(
+        line,
+        word,
+        new,
+        given,
+        vectors,
+        targets,
+        edges,
+        versions,
+        marks,
+        pool,
+        scratch,
+    );
+    compare::look(
+        line,
+        word,
+        new,
+        vectors,
+        targets,
+        edges,
+        versions,
+        marks,
+        pool,
+        scratch,
+    )
+}
+
+// Performs every line of the first n bytes.
 fn replay(
     list: &[u8],
     n: usize,
@@ -93,7 +153,7 @@ fn replay(
 ) -> Counts
     requires { ⌜ n ≤ length (now list) ⌝ }
 {
-    let mut counts = Counts { of: [0; 14] };
+    let mut counts = Counts { of: [0; 15] };
     let mut step = nothing();
     let mut at: usize = 0;
     while at < n {
@@ -101,10 +161,7 @@ fn replay(
         let line = &list[at..end];
         at = end + 1;
         let word = lines::words::first_word(line);
-        step = lines::prepare::set_or_lend(line, word, step);
-        step = lines::prepare::give(line, word, step, given, rows);
-        step = lines::prepare::store(line, word, step, vectors, targets, edges, versions, marks);
-        step = compare::make(
+        step = perform(
             line,
             word,
             step,
@@ -116,20 +173,9 @@ fn replay(
             versions,
             marks,
             pool,
-        );
-        let good = compare::look(
-            line,
-            word,
-            step,
-            vectors,
-            targets,
-            edges,
-            versions,
-            marks,
-            pool,
             scratch,
         );
-        counts = counted(counts, line, word.kind, good);
+        counts = counted(counts, line, word.kind, step.good);
     }
     counts
 }
@@ -141,6 +187,7 @@ fn report(counts: Counts) {
     print_count(b"vector ", counts.of[VECTOR]);
     print_count(b"search ", counts.of[SEARCH]);
     print_count(b"words ", counts.of[WORDS]);
+    print_count(b"insert ", counts.of[INSERT]);
     print_count(b"lines ", counts.of[LINES]);
     print_count(b"differences ", counts.of[DIFFERENCES]);
 }
@@ -174,12 +221,12 @@ fn replay_list(list: &[u8], n: usize)
 }
 
 // Reads the list, as far as the lent memory holds it, and performs it.
-fn replay_input(list: &mut [u8; 348160]) {
+fn replay_input(list: &mut [u8; 425984]) {
     let n = io::read_full(0, list);
     replay_list(list, n);
 }
 
 fn main() {
-    let mut list = [0u8; 348160];
+    let mut list = [0u8; 425984];
     replay_input(&mut list);
 }

@@ -36,29 +36,17 @@ add-at c = search needs
 first-word-requires : tie.Need-first-word-requires Inv-loop μ-loop
 first-word-requires c κs = tt
 
-set-or-lend-requires : tie.Need-set-or-lend-requires Inv-loop μ-loop
-set-or-lend-requires c κs = tt
-
-give-requires : tie.Need-give-requires Inv-loop μ-loop
-give-requires c κs = tt
-
-store-requires : tie.Need-store-requires Inv-loop μ-loop
-store-requires c κs = tt
-
-make-requires : tie.Need-make-requires Inv-loop μ-loop
-make-requires c κs = tt
-
-look-requires : tie.Need-look-requires Inv-loop μ-loop
-look-requires c κs = tt
+perform-requires : tie.Need-perform-requires Inv-loop μ-loop
+perform-requires c κs = tt
 
 counted-requires : tie.Need-counted-requires Inv-loop μ-loop
 counted-requires c κs = tt
 
 loop-less : tie.Need-loop-less Inv-loop μ-loop
-loop-less c = omega (arith, c .before .before .before .before .before .before .before .before .before .before .before .before .before .before .before .before .before .before .before .before .before .before .before .before .before .before .before .before .before .before .before .before .before .before .before .before .before .before .line-end .ensures .0, c .before .before .before .before .before .before .before .before .before .before .before .before .before .before .before .before .before .before .before .before .before .before .before .before .before .before .before .before .before .before .before .before .before .before .before .before .before .before .before .loop-test .taken)
+loop-less c = omega (arith, c .before .before .before .before .before .before .before .before .before .before .before .before .before .line-end .ensures .0, c .before .before .before .before .before .before .before .before .before .before .before .before .before .before .loop-test .taken)
 
 loop-again : tie.Need-loop-again Inv-loop μ-loop
-loop-again c = omega (arith, c .before .before .before .before .before .before .before .before .before .before .before .before .before .before .before .before .before .before .before .before .before .before .before .before .before .before .before .before .before .before .before .before .before .before .before .before .before .before .line-end .ensures .1)
+loop-again c = omega (arith, c .before .before .before .before .before .before .before .before .before .before .before .before .before .line-end .ensures .1)
 
 returns : tie.Need-returns Inv-loop μ-loop
 returns c = tt
@@ -77,11 +65,7 @@ replay-spec =
     part-line-end
     add-at
     first-word-requires
-    set-or-lend-requires
-    give-requires
-    store-requires
-    make-requires
-    look-requires
+    perform-requires
     counted-requires
     loop-less
     loop-again

@@ -1,8 +1,8 @@
 use native.Mathlib.Omega.{arith}
 use lib.ListN.{length-take}
 use borrow.Author.Needs.{needs}
-use Rattle.replay.proofs.compare.make.Statement.{statement}
-use Rattle.replay.proofs.compare.make.Tie as tie
+use Rattle.changes.proofs.making.make.Statement.{statement}
+use Rattle.changes.proofs.making.make.Tie as tie
 
 returns : tie.Need-returns
 returns c = tt

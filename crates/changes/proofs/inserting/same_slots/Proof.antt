@@ -1,0 +1,57 @@
+use Prim.Native.Nat.{_≤_, _-_}
+use borrow.Author.Needs.{needs}
+use Rattle.changes.proofs.inserting.same_slots.Statement.{statement}
+use Rattle.changes.proofs.inserting.same_slots.Tie as tie
+
+abbrev Inv-loop : tie.InvT-loop
+Inv-loop line slots last₀ n i₀ last i = i ≤ n
+
+abbrev μ-loop : tie.MeasureT-loop
+μ-loop line slots last₀ n i₀ last i = n - i
+
+wide-requires : tie.Need-wide-requires Inv-loop μ-loop
+wide-requires c κs = tt
+
+loop-holds : tie.Need-loop-holds Inv-loop μ-loop
+loop-holds c = search needs
+
+after-requires : tie.Need-after-requires Inv-loop μ-loop
+after-requires c κs = tt
+
+same-slot-requires : tie.Need-same-slot-requires Inv-loop μ-loop
+same-slot-requires c κs = tt
+
+returns : tie.Need-returns Inv-loop μ-loop
+returns c = tt
+
+add-i : tie.Need-add-i Inv-loop μ-loop
+add-i c = search needs
+
+loop-less : tie.Need-loop-less Inv-loop μ-loop
+loop-less c = search needs
+
+loop-again : tie.Need-loop-again Inv-loop μ-loop
+loop-again c = search needs
+
+ends-requires : tie.Need-ends-requires Inv-loop μ-loop
+ends-requires c κs = tt
+
+returns-2 : tie.Need-returns-2 Inv-loop μ-loop
+returns-2 c = tt
+
+pub same-slots-spec : {M : Type 1} → statement M
+same-slots-spec =
+    tie.close
+    (tie.spec
+    Inv-loop
+    μ-loop
+    wide-requires
+    loop-holds
+    after-requires
+    same-slot-requires
+    returns
+    add-i
+    loop-less
+    loop-again
+    ends-requires
+    returns-2)

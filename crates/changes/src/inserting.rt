@@ -1,0 +1,106 @@
+// Lines `insert`.
+use lines::kinds::INSERT;
+use lines::prepare::GIVEN;
+use lines::prepare::Step;
+use lines::prepare::part;
+use lines::prepare::wide;
+use lines::words::Word;
+use text::Number;
+use text::after;
+use text::ends;
+use text::first;
+use updating::Inserted;
+
+// Whether a slot is the stored one.
+fn same_slot(slots: &[u32; 1024], i: usize, slot: u32) -> bool {
+    if i < 1024 {
+        return slots[i] == slot;
+    }
+    false
+}
+
+// Whether the rest of a line has these slots.
+fn same_slots(line: &[u8], count: Number, slots: &[u32; 1024]) -> bool {
+    let mut last = count;
+    let n = wide(count.value);
+    let mut i: usize = 0;
+    while i < n {
+        last = after(line, last);
+        if !same_slot(slots, i, last.value) {
+            return false;
+        }
+        i += 1;
+    }
+    ends(line, last)
+}
+
+// Whether an insert of n vectors was carried out as stored.
+fn same_filled(line: &[u8], refusal: Number, n: u32, slots: &[u32; 1024]) -> bool {
+    let count = after(line, refusal);
+    refusal.value == 0 && n == count.value && same_slots(line, count, slots)
+}
+
+// The step after an insert: the index with what was inserted, or the former one where it was refused.
+fn after_insert(
+    line: &[u8],
+    refusal: Number,
+    step: Step,
+    inserted: Inserted,
+    slots: &[u32; 1024],
+) -> Step {
+    let mut new = step;
+    match inserted {
+        Inserted::Refused(r) => new.good = r == refusal.value && ends(line, refusal),
+        Inserted::Done(index, n) => {
+            new.index = index;
+            new.good = same_filled(line, refusal, n, slots);
+        }
+    }
+    new
+}
+
+// Performs a line `insert`.
+pub fn insert(
+    line: &[u8],
+    word: Word,
+    step: Step,
+    given: &[u8],
+    vectors: &mut [u8],
+    targets: &mut [u32],
+    edges: &mut [u16],
+    versions: &[u16],
+    marks: &mut [u8],
+    pool: &[u32],
+    scratch: &mut [u32],
+) -> Step {
+    if word.kind != INSERT {
+        return step;
+    }
+    let mut slots = [0u32; 1024];
+    let beam = first(line, word.end);
+    let refusal = after(line, beam);
+    let lent = step.lent;
+    let b = part(lent, GIVEN, given.len());
+    let v = part(lent, 0, vectors.len());
+    let t = part(lent, 1, targets.len());
+    let e = part(lent, 2, edges.len());
+    let n = part(lent, 3, versions.len());
+    let a = part(lent, 4, marks.len());
+    let p = part(lent, 5, pool.len());
+    let s = part(lent, 6, 1024);
+    let w = part(lent, 8, scratch.len());
+    let inserted = updating::insert(
+        step.index,
+        &mut vectors[..v],
+        &mut targets[..t],
+        &mut edges[..e],
+        &versions[..n],
+        &mut marks[..a],
+        &pool[..p],
+        &given[..b],
+        beam.value,
+        &mut slots[..s],
+        &mut scratch[..w],
+    );
+    after_insert(line, refusal, step, inserted, &slots)
+}
