@@ -1,9 +1,10 @@
 #!/usr/bin/env python3
-"""compare/faults.py [calls]
+"""compare/faults.py [calls] [words]
 
 Puts one fault at a time into a copy of the comparing program, below target/, and says in which call compare/histories.sh finds the first difference and
 how many calls differ; 20,000 calls where not given, seed 1. So it shows what that comparison can see. A fault is put into the Rust, or, since the archive is
-built of proved code only, into what the library's call has left by the time that it is compared. Run compare/histories.sh first: it builds the library.
+built of proved code only, into what the library's call has left by the time that it is compared. With words only the faults whose name has them. Run
+compare/histories.sh first: it builds the library.
 """
 import os
 import re
@@ -48,6 +49,11 @@ FEWER = """        let mut seen = HashSet::new();
         candidates.truncate(749);
 """
 INSERTED = "    let text = if bytes.len() <= 1_024"  # where finder_insert has returned
+FINISHED = "        self.set_node_version(plan.id, plan.old_version.wrapping_add(1));\n"
+PRUNED = "                    neighbors = self.prune_with_distance_cache(*source, &neighbors, &mut cache);\n"
+DELETED = '    let said = format!("finder_delete'
+ENABLED = '    let said = format!("finder_enable_guard'
+ASSESSED = '    let said = format!("finder_assess_delete'
 in_rust = [
     ("ties by the higher slot", WALK, ".then_with(|| self.id.cmp(&other.id)),", ".then_with(|| other.id.cmp(&self.id)),"),
     ("the last sort by distance alone, as published", WALK, "    results.sort();", "    results.sort_by(|a, b| a.dist.total_cmp(&b.dist));"),
@@ -101,6 +107,56 @@ by_library = [
     ("scratch past its end is written", "if got == 0 { unsafe { *h.scratch.mut_ptr().add(words) ^= 1 } }"),
 ]
 FAULTS = in_rust + [("insert of the library: " + name, UPDATES, INSERTED, "    " + code + "\n" + INSERTED) for name, code in by_library]
+delete_in_rust = [
+    ("delete: the version not raised", ROWS, FINISHED, ""),
+    ("delete: version 65,535 stays", ROWS, FINISHED, FINISHED.replace("wrapping_add", "saturating_add")),
+    ("delete: the row of a deleted slot kept", ROWS, FINISHED + "        self.fill_neighbors(plan.id);\n", FINISHED),
+    ("delete: a dead slot stays the entry", ROWS, "        if deleted.contains(&self.meta.medoid_id)\n", "        if deleted.is_empty()\n"),
+    ("delete: recovered by the target alone", ROWS, "|(target, version)| target == *id && version == *old_version", "|(target, _)| target == *id"),
+    ("delete: order kept where one is removed", ROWS, "remaining.swap_remove(ri);", "remaining.remove(ri);"),
+    ("delete: links one way", ROWS, "                operations.push((parent, next));\n", ""),
+    ("delete: pruned once, at the end", ROWS, PRUNED + "                }\n", "                }\n" + PRUNED),
+    ("delete: not pruned where the target is there", ROWS, "                    if !neighbors.contains(target) {\n                        neighbors.push(*target);\n                    }\n", "                    if neighbors.contains(target) {\n                        continue;\n                    }\n                    neighbors.push(*target);\n"),
+    ("delete: repair degree 0 not raised to 1", ROWS, "repair_degree.max(1)", "repair_degree"),
+    ("delete: repeats not taken out", ROWS, "        unique.dedup();\n", ""),
+]
+delete_by_library = [
+    ("another count in the last record", "if got == 0 && found.items()[0] > 0 { unsafe { *stats.mut_ptr().add(4 * found.items()[0] as usize - 1) += 1 } }"),
+    ("a record past the answer is written", "if got == 0 { unsafe { *stats.mut_ptr().add(4 * found.items()[0] as usize) ^= 1 } }"),
+    ("the live count stays", "if got == 0 && found.items()[0] > 0 { unsafe { *h.both.words.mut_ptr().add(5) = given[5] } }"),
+    ("the entry stays", "if got == 0 { unsafe { *h.both.words.mut_ptr().add(4) = given[4] } }"),
+    ("the versions stay", "if got == 0 && found.items()[0] > 0 { unsafe { *h.both.six.versions.mut_ptr().add(*ids.items().iter().find(|&&i| i < given[1] && h.both.six.marks.items()[i as usize] == 0).unwrap() as usize) -= 1 } }"),
+    ("the ids are written", "if got == 0 && ids.len() > 0 { unsafe { *ids.mut_ptr() ^= 1 } }"),
+    ("stats are written though refused", "if got == 7 && room > 0 { unsafe { *stats.mut_ptr() ^= 1 } }"),
+    ("8 where it is 7", "let got = if got == 7 { 8 } else { got };"),
+]
+guard_in_rust = [
+    ("guard: first of equals", ROWS, "                .max_by(|a, b| {", "                .rev()\n                .max_by(|a, b| {"),
+    ("guard: count 0 not raised to 1", ROWS, "landmark_count: self.landmark_count.max(1),", "landmark_count: self.landmark_count,"),
+    ("guard: every slot sampled", ROWS, "(self.meta.capacity / sample_size.max(1)).max(1)", "1"),
+    ("guard: the sample not filled up", ROWS, "if sample.len() < count {", "if sample.is_empty() {"),
+    ("guard: deleted slots not left out", ROWS, "                    .filter(|neighbor| !deleted.contains(neighbor))\n", ""),
+    ("guard: a residual entry that is to be deleted", ROWS, "if self.is_valid(self.meta.medoid_id) && !deleted.contains(&self.meta.medoid_id) {", "if self.is_valid(self.meta.medoid_id) {"),
+    ("guard: admitted though nothing was met", ROWS, "report.baseline_reachable_landmarks > 0 && report.lost_landmarks.is_empty()", "report.lost_landmarks.is_empty()"),
+    ("guard: dead landmarks counted", ROWS, "                .filter(|&&id| self.is_valid(id))\n", ""),
+    ("guard: landmarks that are to be deleted are kept", ROWS, ".filter(|id| self.is_valid(*id) && !deleted.contains(id))\n            .take(", ".filter(|id| self.is_valid(*id))\n            .take("),
+]
+guard_by_library = [
+    ("enabling, a word past the pool is written", ENABLED, "if got == 0 { unsafe { *h.both.six.pool.mut_ptr().add(h.both.words.items()[11] as usize) ^= 1 } }"),
+    ("enabling, the last landmark is another", ENABLED, "if got == 0 { unsafe { *h.both.six.pool.mut_ptr().add(h.both.words.items()[11] as usize - 1) ^= 1 } }"),
+    ("enabling, a setting is another", ENABLED, "if got == 0 { unsafe { *h.both.words.mut_ptr().add(9) += 1 } }"),
+    ("enabling, the status is another", ENABLED, "if got == 0 { unsafe { *status.mut_ptr().add(2) += 1 } }"),
+    ("enabling, 12 where it is 13", ENABLED, "let got = if got == 13 { 12 } else { got };"),
+    ("assessing, another number", ASSESSED, "if got == 0 { unsafe { *report.mut_ptr().add(7) += 1 } }"),
+    ("assessing, a place past the list is written", ASSESSED, "if got == 0 { unsafe { *lost.mut_ptr().add(report.items()[6] as usize) ^= 1 } }"),
+    ("assessing, the index is written", ASSESSED, "if got == 0 { unsafe { *h.both.six.marks.mut_ptr() ^= 1 } }"),
+]
+GUARD = "histories/src/guard.rs"
+FEATURES = re.search(r"^default = \[(.*)\]", open(os.path.join(ROOT, "compare/rust/histories/Cargo.toml")).read(), re.M)[1]
+if "delete" in FEATURES:
+    FAULTS += delete_in_rust + [("delete of the library: " + name, UPDATES, DELETED, "    " + code + "\n" + DELETED) for name, code in delete_by_library]
+if "guard" in FEATURES:
+    FAULTS += guard_in_rust + [("guard of the library: " + name, GUARD, at, "    " + code + "\n" + at) for name, at, code in guard_by_library]
 
 
 def run(*command, **more):
@@ -109,11 +165,12 @@ def run(*command, **more):
 
 def main():
     calls = sys.argv[1] if len(sys.argv) > 1 else "20000"
+    words = " ".join(sys.argv[2:])
     shutil.rmtree(os.path.join(COPY, "rust"), ignore_errors=True)
     shutil.copytree(os.path.join(ROOT, "compare", "rust"), os.path.join(COPY, "rust"), ignore=shutil.ignore_patterns("target"))
     env = dict(os.environ, LIBRARY=os.path.join(ROOT, "target", "staticlib"), CARGO_TARGET_DIR=os.path.join(COPY, "built"), RAYON_NUM_THREADS="1")
-    original = {f: open(os.path.join(COPY, "rust", f)).read() for f in (DRIVER, UPDATES)}
-    for name, file, old, new in FAULTS:
+    original = {f: open(os.path.join(COPY, "rust", f)).read() for f in (DRIVER, UPDATES, GUARD)}
+    for name, file, old, new in (f for f in FAULTS if words in f[0]):
         run("./prepare.sh", check=True)
         path = os.path.join(COPY, "rust", file)
         text = open(path).read()

@@ -41,6 +41,7 @@ pub fn enable(h: &mut History) -> Outcome {
                 after[6..].copy_from_slice(&[1, settings[0], settings[1], settings[2], settings[3], pool.len() as u32]);
                 b.words.expect(&after);
                 b.six.pool.expect(&pool);
+                h.meet(if given[6] == 0 { "enable guard, it was off" } else { "enable guard, it was on" });
             }
             (Err(said), n) if said.starts_with(&format!("err {n} ")) => {}
             (answer, n) => odd = Some(format!("document 01 gives {n}, the Rust {answer:?}")),
@@ -99,6 +100,16 @@ pub fn assess(h: &mut History) -> Outcome {
                 report.expect(&said.numbers);
                 checked.expect(&said.checked);
                 lost.expect(&said.lost);
+                let [admitted, requested, entry, .., supplemental] = said.numbers;
+                let met = [
+                    (admitted == 1 && requested > 0).then_some("assess, admitted"),
+                    (admitted == 0).then_some("assess, not admitted"),
+                    (requested == 0).then_some("assess, nothing live"),
+                    (requested > 0 && entry == table::BLANK).then_some("assess, no residual entry"),
+                    (!said.lost.is_empty()).then_some("assess, landmarks lost"),
+                    (supplemental > 0).then_some("assess, supplemental landmarks"),
+                ];
+                met.into_iter().flatten().for_each(|what| h.meet(what));
             }
             (Err(said), n) if said.starts_with(&format!("err {n} ")) => {}
             (answer, n) => odd = Some(format!("document 01 gives {n}, the Rust {:?}", answer.map(|r| r.numbers))),

@@ -153,6 +153,14 @@ pub fn delete(h: &mut History) -> Outcome {
         found.expect(&[done.len() as u32]);
         b.words.expect(&table::rewritten(&given, b.rust.entry(), b.rust.live()));
         b.six.expect(&b.rust.stored());
+        let met = [
+            [0, 1, 256].contains(&ids.len()).then(|| format!("delete, ids {}", ids.len())),
+            (b.rust.entry() != given[4]).then(|| "delete, another entry".to_string()),
+            (given[5] > 0 && b.rust.live() == 0).then(|| "delete, nothing stays live".to_string()),
+            done.iter().any(|s| s[1] > 0).then(|| "delete, a slot is recovered".to_string()),
+            done.iter().any(|s| s[3] > 0).then(|| "delete, links are made".to_string()),
+        ];
+        met.into_iter().flatten().for_each(|what| h.meet(what));
         *h.met.entry("delete, slots in all".to_string()).or_default() += done.len() as u64;
     }
     let got = call!(
