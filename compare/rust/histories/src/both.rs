@@ -218,7 +218,7 @@ fn delete(b: &mut Both, rng: &mut Rng) {
 #[cfg(not(feature = "guard"))]
 fn enable(b: &mut Both, rng: &mut Rng) {
     let capacity = b.capacity();
-    if capacity <= 4_096 {
+    if capacity <= 4_096 && rng.one_in(3) {
         let settings = [rng.below(6), rng.below(4), rng.below(2 * capacity), rng.pick(&[0, 1, 2, 4, 8, 16, 32])];
         let _ = b.rust.enable(settings); // turned back where fewer than two are live
     }
