@@ -51,14 +51,14 @@ module _ (capacity : ℕ) where
           go true = refl
           go false = refl
 
-  free-all : (live : ℕ → Bool) (vectors : List (List ℕ))
+  pub free-after-filling : (live : ℕ → Bool) (vectors : List (List ℕ))
       → free-in capacity (all-marked capacity live (filled-with (free-in capacity live) vectors)) ≡ drop (length vectors) (free-in capacity live)
-  free-all live [] = none (free-in capacity live)
+  free-after-filling live [] = none (free-in capacity live)
     where
       none : (ss : List ℕ) → free-in capacity (all-marked capacity live (filled-with ss [])) ≡ free-in capacity live
       none [] = refl
       none (s ∷ ss) = refl
-  free-all live (v ∷ vs) = go (free-in capacity live) refl (λ (l : ℕ → Bool). free-all l vs)
+  free-after-filling live (v ∷ vs) = go (free-in capacity live) refl (λ (l : ℕ → Bool). free-after-filling l vs)
     where
       go : (ss : List ℕ) → free-in capacity live ≡ ss
           → ((l : ℕ → Bool) → free-in capacity (all-marked capacity l (filled-with (free-in capacity l) vs)) ≡ drop (length vs) (free-in capacity l))
@@ -133,7 +133,7 @@ module _ {B : Type 0} (O : Ops B) (Fit : B → Type 0) (k : Marking O Fit) where
     unfolding fillings
     free-after-insert =
         let m = batch-marked in
-        ap₂ (λ (z : Sizes) (l : ℕ → Bool). free-in (z .capacity) l) (m .sizes) (m .live) ∙ free-all (O .view b .sizes .capacity) (O .view b .live) vectors
+        ap₂ (λ (z : Sizes) (l : ℕ → Bool). free-in (z .capacity) l) (m .sizes) (m .live) ∙ free-after-filling (O .view b .sizes .capacity) (O .view b .live) vectors
 
     pub live-after-insert : length vectors ≤ length (free-slots (O .view b)) → length (live-slots (O .view after)) ≡ length (live-slots (O .view b)) + length vectors
     live-after-insert few =
