@@ -21,10 +21,10 @@ ghost use Rattle.calls.specs.Refusals.{is-off};
 ghost use Rattle.index.specs.Index.{guard-of, lengths-in};
 ghost use Rattle.index.specs.contracts.Deciding.{Decided};
 ghost use Rattle.guarding.specs.Guarding.{assessing, report-outputs, Assesses};
-ghost use Rattle.guarding.specs.contracts.Testing.{assess-tests};
+ghost use Rattle.guarding.specs.contracts.Testing.{report-tests, Testable, Tested};
 
 // Row 3, of the two lists for landmarks: one of them is shorter than the largest landmark count.
-fn lists_short(checked: usize, lost: usize) -> bool
+pub fn lists_short(checked: usize, lost: usize) -> bool
     ensures { λ r. ⌜ r ≡ ltb (min checked lost) (limits .landmarks) ⌝ }
 {
     if checked < wide(limits::LANDMARKS) {
@@ -43,25 +43,23 @@ fn guard_off(guard: Guard) -> bool
     false
 }
 
-// The first of rows 1, 2, 3, 6, 7, 8 and 11 that turns an assessment back, else 0.
-fn assess_refusal(
+// The first of rows 1, 2, 3, 6, 7, 8 and 11 that turns a call for a report back, else 0; `wrong` is the call's own part of 3, `over` is 7.
+fn report_refusal(
     index: Index,
     lent: Lengths,
     marks: &[u8],
-    ids: usize,
-    checked: usize,
-    lost: usize,
+    wrong: bool,
+    over: bool,
     scratch: usize,
 ) -> u32
     requires { ⌜ lent .marks ≡ length (now marks) ⌝ }
-    ensures { λ r. ⌜ Decided index (lengths-in lent) (now (marks .entry)) (ltb (min checked lost) (limits .landmarks)) (assess-tests index ids scratch) r ⌝ }
+    ensures { λ r. ⌜ Decided index (lengths-in lent) (now (marks .entry)) wrong (report-tests index over scratch) r ⌝ }
 {
-    let wrong = lists_short(checked, lost);
     let r = index_refusal(index, lent, marks, wrong);
     if r != 0 {
         return r;
     }
-    if wide(limits::IDS) < ids {
+    if over {
         return 7;
     }
     if scratch_short(index.capacity, scratch) {
@@ -113,8 +111,8 @@ fn assess_with(
     )
 }
 
-// The report on deleting `ids`; the landmarks checked and those lost are written to the front of two lists.
-pub fn assess_delete(
+// The report on deleting `ids`, or the number of the first test that holds; the calls that give a report find `wrong` and `over`.
+pub fn tested_report(
     index: Index,
     vectors: &[u8],
     targets: &[u32],
@@ -123,12 +121,15 @@ pub fn assess_delete(
     marks: &[u8],
     pool: &[u32],
     ids: &[u32],
+    wrong: bool,
+    over: bool,
     checked: &mut [u32],
     lost: &mut [u32],
     scratch: &mut [u32],
 ) -> Assessed
-    ensures { λ r. ⌜ Assesses index (slices (now (vectors .entry)) (now (targets .entry)) (now (edges .entry)) (now (versions .entry)) (now (marks .entry)) (now (pool .entry))) (assessing (now (ids .entry)))
-        (report-outputs (now (checked .entry)) (now (lost .entry))) (now (scratch .entry)) (report-outputs (now (checked .exit)) (now (lost .exit))) (now (scratch .exit)) r ⌝ }
+    requires { ⌜ Testable wrong over (now ids) (now checked) (now lost) ⌝ }
+    ensures { λ r. ⌜ Tested index (slices (now (vectors .entry)) (now (targets .entry)) (now (edges .entry)) (now (versions .entry)) (now (marks .entry)) (now (pool .entry))) wrong over (now (ids .entry))
+        (now (checked .entry)) (now (lost .entry)) (now (scratch .entry)) (now (checked .exit)) (now (lost .exit)) (now (scratch .exit)) r ⌝ }
 {
     let lent = Lengths {
         vectors: vectors.len(),
@@ -138,15 +139,7 @@ pub fn assess_delete(
         marks: marks.len(),
         pool: pool.len(),
     };
-    let r = assess_refusal(
-        index,
-        lent,
-        marks,
-        ids.len(),
-        checked.len(),
-        lost.len(),
-        scratch.len(),
-    );
+    let r = report_refusal(index, lent, marks, wrong, over, scratch.len());
     if r != 0 {
         return Assessed::Refused(r);
     }
@@ -168,4 +161,40 @@ pub fn assess_delete(
         lost,
         scratch,
     ))
+}
+
+// The report on deleting `ids`; the landmarks checked and those lost are written to the front of two lists.
+pub fn assess_delete(
+    index: Index,
+    vectors: &[u8],
+    targets: &[u32],
+    edges: &[u16],
+    versions: &[u16],
+    marks: &[u8],
+    pool: &[u32],
+    ids: &[u32],
+    checked: &mut [u32],
+    lost: &mut [u32],
+    scratch: &mut [u32],
+) -> Assessed
+    ensures { λ r. ⌜ Assesses index (slices (now (vectors .entry)) (now (targets .entry)) (now (edges .entry)) (now (versions .entry)) (now (marks .entry)) (now (pool .entry))) (assessing (now (ids .entry)))
+        (report-outputs (now (checked .entry)) (now (lost .entry))) (now (scratch .entry)) (report-outputs (now (checked .exit)) (now (lost .exit))) (now (scratch .exit)) r ⌝ }
+{
+    let wrong = lists_short(checked.len(), lost.len());
+    let over = wide(limits::IDS) < ids.len();
+    tested_report(
+        index,
+        vectors,
+        targets,
+        edges,
+        versions,
+        marks,
+        pool,
+        ids,
+        wrong,
+        over,
+        checked,
+        lost,
+        scratch,
+    )
 }

@@ -1,10 +1,12 @@
-// The calls of the guard: enabling it, reading its status, and assessing a delete.
+// The calls of the guard: enabling it, reading its status, assessing a delete, and deleting if it admits that.
 mod assessing;
+mod deleting;
 mod enabling;
 mod statuses;
 
 use admission::Report;
 pub use assessing::assess_delete;
+pub use deleting::guarded_delete;
 pub use enabling::enable_guard;
 use index::Index;
 pub use statuses::guard_status;
@@ -34,4 +36,12 @@ pub enum Standing {
 pub enum Assessed {
     Refused(u32),
     Assessed(Report),
+}
+
+// A guarded delete: the index without the slots that are emptied, how many they are, and the report that admits it; the report that does not; or the
+// number of a refusal.
+pub enum Guarded {
+    Refused(u32),
+    Applied(Index, u32, Report),
+    Deferred(Report),
 }

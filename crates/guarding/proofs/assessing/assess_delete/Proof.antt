@@ -1,4 +1,4 @@
-use Rattle.guarding.proofs.Assesses.{assesses-back, not-off, assess-ready, assesses-on}
+use Rattle.guarding.proofs.Assesses.{assess-testable, assesses}
 use Rattle.slots.specs.Sizes.{Slices, slices}
 use Rattle.calls.specs.Calls.{Assess}
 use Rattle.guarding.specs.Guarding.{assessing}
@@ -14,56 +14,48 @@ abbrev asked : tie.Start → Assess
 asked s = assessing (s .args .ids .now)
 
 -- places before the needs below, each named by what was done last there
-abbrev start : tie.After-assess-refusal → tie.Start
-start c = c .before .before .before .before .before .before .before .before .before .before .before
+abbrev start : tie.After-wide → tie.Start
+start c = c .before .before .before .before .before .before .before .before .before .before .before .before
 
-abbrev guard₂ : tie.After-assess-with-arg3 → tie.After-guard
-guard₂ c = c .before .before .before .before
+abbrev wide₂ : tie.After-tested-report-arg3 → tie.After-wide
+wide₂ c = c .before .before .before
 
-abbrev assess-with₃ : tie.After-slice-known6 → tie.After-assess-with
-assess-with₃ c = c .before .before .before .before .before .before
+abbrev tested : tie.After-slice-known6 → tie.After-tested-report
+tested c = c .before .before .before .before .before .before
 
-assess-refusal-requires : tie.Need-assess-refusal-requires
-assess-refusal-requires c κs = search needs
+lists-short-requires : tie.Need-lists-short-requires
+lists-short-requires c κs = search needs
 
-returns : tie.Need-returns
-returns c = let p = c .before in let s = start p in assesses-back (s .args .index) (lent s) (asked s) (s .args .checked .now) (s .args .lost .now) (s .args .scratch .now) (p .assess-refusal .ensures) (c .if1 .taken)
+wide-requires : tie.Need-wide-requires
+wide-requires c κs = search needs
 
-enum-known-guard : tie.Need-enum-known-guard
-enum-known-guard c = search needs
-
-enum-told : tie.Need-enum-told
-enum-told c = search needs
-
-returns-2 : tie.Need-returns-2
-returns-2 c = let p = c .before .before .before in let s = start p in absurd (not-off (s .args .index) (lent s) (asked s) (s .args .checked .now) (s .args .lost .now) (s .args .scratch .now) (p .assess-refusal .ensures) (c .before .before .if1 .left) (c .enum-told .given .1))
-
-assess-with-requires : tie.Need-assess-with-requires
-assess-with-requires c κs = let g = guard₂ c in let p = g .before .before .before in let s = start p in assess-ready (s .args .index) (lent s) (asked s) (s .args .checked .now) (s .args .lost .now) (s .args .scratch .now) (p .assess-refusal .ensures) (g .before .before .if1 .left) (g .guard .given .1)
+tested-report-requires : tie.Need-tested-report-requires
+tested-report-requires c κs = let p = wide₂ c in let s = start p in assess-testable (s .args .index) (lent s) (asked s) (s .args .checked .now) (s .args .lost .now) (s .args .scratch .now) (p .before .lists-short .ensures) (p .wide .ensures)
 
 same-length : tie.Need-same-length
-same-length c = assess-with₃ c .assess-with .kept .1 .1 .1 .1 .1 .1 .1 .1 .1 .0
+same-length c = tested c .tested-report .kept .1 .1 .1 .1 .1 .1 .1 .1 .1 .1 .0
 
 same-length-2 : tie.Need-same-length-2
-same-length-2 c = assess-with₃ c .assess-with .kept .1 .1 .1 .1 .1 .1 .1 .1 .1 .1 .0
+same-length-2 c = tested c .tested-report .kept .1 .1 .1 .1 .1 .1 .1 .1 .1 .1 .1 .0
 
 same-length-3 : tie.Need-same-length-3
-same-length-3 c = assess-with₃ c .assess-with .kept .1 .1 .1 .1 .1 .1 .1 .1 .1 .1 .1 .0
+same-length-3 c = tested c .tested-report .kept .1 .1 .1 .1 .1 .1 .1 .1 .1 .1 .1 .1 .0
 
-returns-3 : tie.Need-returns-3
-returns-3 c = let w = assess-with₃ c in let g = guard₂ (w .before) in let p = g .before .before .before in let s = start p in assesses-on (s .args .index) (lent s) (asked s) (s .args .checked .now) (s .args .lost .now) (s .args .scratch .now) (p .assess-refusal .ensures) (g .before .before .if1 .left) (g .guard .given .1) (w .assess-with .ensures)
+returns : tie.Need-returns
+returns c =
+    let t = tested c in
+    let p = wide₂ (t .before) in
+    let s = start p in
+    assesses (s .args .index) (lent s) (asked s) (s .args .checked .now) (s .args .lost .now) (s .args .scratch .now) (p .before .lists-short .ensures) (p .wide .ensures) (t .tested-report .ensures)
 
 pub assess-delete-spec : {M : Type 1} → statement M
 assess-delete-spec =
     tie.close
     (tie.spec
-    assess-refusal-requires
-    returns
-    enum-known-guard
-    enum-told
-    returns-2
-    assess-with-requires
+    lists-short-requires
+    wide-requires
+    tested-report-requires
     same-length
     same-length-2
     same-length-3
-    returns-3)
+    returns)

@@ -1,4 +1,4 @@
-use Rattle.guarding.proofs.Assesses.{lists-first, lists-second}
+use Rattle.guarding.proofs.Tested.{lists-first, lists-second}
 use borrow.Author.Needs.{needs}
 use Rattle.guarding.proofs.assessing.lists_short.Statement.{statement}
 use Rattle.guarding.proofs.assessing.lists_short.Tie as tie
