@@ -1,5 +1,5 @@
 -- What a guarded delete gives. What is left has a prime. Assumes nothing.
-use Prim.Native.Nat.{ℕ, _≤_}
+use Prim.Native.Nat.{ℕ, _+_, _*_, _≤_}
 use mathlib.Core.List.{List, [], map}
 use mathlib.Core.Path.{_≡_}
 use lib.ListN.{length}
@@ -49,5 +49,6 @@ pub record Guards (index : Index) (s : Slices) (a : Delete) (room : ℕ) (checke
   pub numbers-applied : (i : Index) (n : ℕ) (v : Report) → r ≡ Applied i n v → v ≡ numbers-of report
   pub numbers-deferred : (v : Report) → r ≡ Deferred v → v ≡ numbers-of report
   pub words : (i : Index) (n : ℕ) (v : Report) → r ≡ Applied i n v → stats ≡ map (stats-of scratch′ (stats-at (index .capacity))) (range 0 n)
+  pub there : (i : Index) (n : ℕ) (v : Report) → r ≡ Applied i n v → stats-at (index .capacity) + 4 * n ≤ length scratch′
   pub fits : (i : Index) (n : ℕ) (v : Report) → r ≡ Applied i n v → n ≤ room
   pub meets : (before : List Stats) → length before ≡ room → Meets (guarded-run index s a before checked lost scratch s′ checked′ lost′ scratch′ r stats report)

@@ -146,7 +146,7 @@ returns-2 c =
     let t = tested₂ q in
     let o = over (t .before) in
     let s = start o in
-    guards-applied (s .args .index) (lent s) (asked s) (s .args .room) (s .args .checked .now) (s .args .lost .now) (s .args .scratch .now) (o .before .outputs-short .ensures) (o .delete-over .ensures) (t .tested-report .ensures) (q .before .answer2 .given .1) (deleted d .delete-ids .ensures) (marks₃ d .marks .given) (f .if1 .taken) (c .with-fewer .ensures)
+    guards-applied (s .args .index) (lent s) (asked s) (s .args .room) (s .args .checked .now) (s .args .lost .now) (s .args .scratch .now) (o .before .outputs-short .ensures) (o .delete-over .ensures) (t .tested-report .ensures) (q .before .answer2 .given .1) (deleted d .delete-ids .ensures) (marks₃ d .marks .given) (scratch₂ q .scratch .given) (deleted d .delete-ids .kept .1 .1 .1 .1 .1 .1 .1 .1 .1 .0) (f .if1 .taken) (c .with-fewer .ensures)
 
 same-length-15 : tie.Need-same-length-15
 same-length-15 c = refl
