@@ -52,8 +52,8 @@ INSERTED = "    let text = if bytes.len() <= 1_024"  # where finder_insert has r
 FINISHED = "        self.set_node_version(plan.id, plan.old_version.wrapping_add(1));\n"
 PRUNED = "                    neighbors = self.prune_with_distance_cache(*source, &neighbors, &mut cache);\n"
 DELETED = '    let said = format!("finder_delete'
-ENABLED = '    let said = format!("finder_enable_guard'
-ASSESSED = '    let said = format!("finder_assess_delete'
+ENABLED = '    let said = format!("finder_guard_enable'
+ASSESSED = '    let said = format!("finder_assess'
 in_rust = [
     ("ties by the higher slot", WALK, ".then_with(|| self.id.cmp(&other.id)),", ".then_with(|| other.id.cmp(&self.id)),"),
     ("the last sort by distance alone, as published", WALK, "    results.sort();", "    results.sort_by(|a, b| a.dist.total_cmp(&b.dist));"),
@@ -76,7 +76,7 @@ in_rust = [
     ("insert: incoming references before those of the row", ROWS, "candidates.extend(incoming.iter().copied());", "candidates.splice(0..0, incoming.iter().copied());"),
     ("insert: a target's former references dropped", ROWS, "                        .live_neighbors(*source)\n                        .into_iter()\n", "                        .live_neighbors(*source)\n                        .into_iter()\n                        .take(0)\n"),
     ("insert: target rows written before the outgoing ones", ROWS, OUTGOING + TARGETS, TARGETS + OUTGOING),
-    ("insert: references written with version 0", ROWS, "                self.node_version(target)\n", "                0\n"),
+    ("insert: references written with version 0", ROWS, "                self.node_version(target)\n", "                0u16\n"),
     ("insert: the live count not raised", ROWS, "self.live_count += slot_chunk.len();", ""),
     ("pruning: an equal factor is dropped", ROWS, TAKEN, TAKEN.replace("factors[i] > alpha", "factors[i] >= alpha")),
     ("pruning: one that was taken is taken again", ROWS, TAKEN, TAKEN.replace("factors[i] = f32::MAX", "factors[i] = 0.0")),
@@ -169,6 +169,7 @@ def main():
     shutil.rmtree(os.path.join(COPY, "rust"), ignore_errors=True)
     shutil.copytree(os.path.join(ROOT, "compare", "rust"), os.path.join(COPY, "rust"), ignore=shutil.ignore_patterns("target"))
     env = dict(os.environ, LIBRARY=os.path.join(ROOT, "target", "staticlib"), CARGO_TARGET_DIR=os.path.join(COPY, "built"), RAYON_NUM_THREADS="1")
+    env |= {"CARGO_PROFILE_RELEASE_OPT_LEVEL": "1", "CARGO_PROFILE_RELEASE_INCREMENTAL": "true"}  # it is built often and run little
     original = {f: open(os.path.join(COPY, "rust", f)).read() for f in (DRIVER, UPDATES, GUARD)}
     for name, file, old, new in (f for f in FAULTS if words in f[0]):
         run("./prepare.sh", check=True)
@@ -177,7 +178,9 @@ def main():
         if text.count(old) != 1:
             sys.exit(f"{name}: its text is not there once")
         open(path, "w").write(text.replace(old, new))
-        run("cargo", "build", "--release", "--offline", "--quiet", "-p", "histories", env=env, check=True)
+        built = run("cargo", "build", "--release", "--offline", "--quiet", "-p", "histories", env=env)
+        if built.returncode:
+            sys.exit(f"{name}: does not build\n{built.stderr}")
         said = run(os.path.join(COPY, "built", "release", "histories"), calls, "1", env=env)
         first = re.search(r"first difference, in call (\d+)", said.stdout)
         last = said.stdout.splitlines()[-1] if said.stdout else said.stderr.splitlines()[0]

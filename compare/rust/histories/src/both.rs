@@ -1,5 +1,6 @@
 //! One index on both sides: the Rust's, and the library's words and six slices; and what is done to it between calls. Each side goes on from what it left
 //! itself; only after calls that the library does not have is anything copied from one to the other.
+use crate::draw;
 use crate::finder;
 use crate::lent::{Lent, Piece, Rng};
 use crate::table::{self, BLANK, Lengths, Words};
@@ -117,10 +118,9 @@ impl Both {
 
     /// Calls that the library does not have, on the Rust alone.
     pub fn by_the_rust(&mut self, rng: &mut Rng) {
-        for _ in 0..1 + rng.below(4) {
+        for _ in 0..1 + rng.below(2) {
             rng.pick(BY_THE_RUST)(self, rng);
         }
-        self.load();
     }
 
     /// Stored state that no call leaves, but that passes row 6, written on both sides.
@@ -205,14 +205,9 @@ pub const BY_THE_RUST: &[fn(&mut Both, &mut Rng)] = &[
 
 #[cfg(not(feature = "delete"))]
 fn delete(b: &mut Both, rng: &mut Rng) {
-    let (capacity, beam) = (b.capacity(), rng.pick(&[0, 1, 2, 4, 8, 16, 32]));
-    if capacity <= 300 && rng.one_in(10) {
-        b.rust.delete(&(0..capacity).collect::<Vec<_>>(), beam, 1);
-    } else {
-        let count = rng.below(1 + capacity.min(30));
-        let ids: Vec<u32> = (0..count).map(|_| if rng.one_in(20) { rng.next() as u32 } else { rng.below(capacity + 1) }).collect();
-        b.rust.delete(&ids, beam, rng.below(5) as usize);
-    }
+    let ids = draw::ids(b.six.marks.items(), rng);
+    b.rust.delete(&ids, rng.pick(&[0, 1, 2, 4, 8, 16, 32]), rng.below(5) as usize);
+    b.load();
 }
 
 #[cfg(not(feature = "guard"))]
@@ -221,5 +216,6 @@ fn enable(b: &mut Both, rng: &mut Rng) {
     if capacity <= 4_096 && rng.one_in(3) {
         let settings = [rng.below(6), rng.below(4), rng.below(2 * capacity), rng.pick(&[0, 1, 2, 4, 8, 16, 32])];
         let _ = b.rust.enable(settings); // turned back where fewer than two are live
+        b.load();
     }
 }

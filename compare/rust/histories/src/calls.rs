@@ -63,7 +63,7 @@ pub const KINDS: &[Kind] = &[
     Kind { name: "search", weight: 38, run: search },
     Kind { name: "insert", weight: 24, run: updates::insert },
     #[cfg(feature = "delete")]
-    Kind { name: "delete", weight: 24, run: updates::delete },
+    Kind { name: "delete", weight: 20, run: updates::delete },
     #[cfg(feature = "guard")]
     Kind { name: "enable guard", weight: 8, run: guard::enable },
     #[cfg(feature = "guard")]

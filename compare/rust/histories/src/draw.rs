@@ -60,13 +60,17 @@ pub fn batch(index: &Words, beam: u32, rng: &mut Rng) -> u32 {
 }
 
 /// Ids to be deleted: live, dead and outside ones, repeats among them, at times all slots.
-pub fn ids(capacity: u32, rng: &mut Rng) -> Vec<u32> {
-    if capacity <= 256 && rng.one_in(10) {
+pub fn ids(marks: &[u8], rng: &mut Rng) -> Vec<u32> {
+    let capacity = marks.len() as u32;
+    if capacity <= 256 && rng.one_in(30) {
         return (0..capacity).collect();
     }
-    let some = rng.below(1 + capacity.min(30));
-    let count = rng.pick(&[0, 1, 1, 2, some, some, some, 256]).min(rng.pick(&[40, 256]));
-    (0..count).map(|_| if rng.one_in(20) { rng.next() as u32 } else { rng.below(capacity + 1) }).collect()
+    let some = rng.below(1 + capacity.min(60) / 2);
+    let count = rng.pick(&[0, 1, 1, 1, 2, 2, some, some, some, some, some, 256]);
+    let any = |rng: &mut Rng| if rng.one_in(20) { rng.next() as u32 } else { rng.below(capacity + 1) };
+    // one that is live, if it is found soon
+    let live = |rng: &mut Rng| (0..8).map(|_| rng.below(capacity)).find(|&slot| marks[slot as usize] != 0).unwrap_or(capacity);
+    (0..count).map(|_| if rng.one_in(2) { any(rng) } else { live(rng) }).collect()
 }
 
 /// How many landmarks can be chosen before the Rust's choosing takes long.

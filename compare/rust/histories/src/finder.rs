@@ -27,9 +27,9 @@ on_index! {
     finder_search(*const u8, usize, u32, u32, *mut u32, usize, *mut u32, usize, *mut u32, usize, *mut u32) -> u32;
     finder_insert(*const u8, usize, u32, *mut u32, usize, *mut u32, usize, *mut u32) -> u32;
     finder_delete(*const u32, usize, u32, u32, *mut u32, usize, *mut u32, usize, *mut u32) -> u32;
-    finder_enable_guard(u32, u32, u32, u32, *mut u32, usize, *mut u32) -> u32;
+    finder_guard_enable(u32, u32, u32, u32, *mut u32, usize, *mut u32) -> u32;
     finder_guard_status(*mut u32) -> u32;
-    finder_assess_delete(*const u32, usize, *mut u32, usize, *mut u32, usize, *mut u32, usize, *mut u32) -> u32;
+    finder_assess(*const u32, usize, *mut u32, usize, *mut u32, usize, *mut u32, usize, *mut u32) -> u32;
 }
 
 unsafe extern "C" {

@@ -47,11 +47,11 @@ pub fn enable(h: &mut History) -> Outcome {
             (answer, n) => odd = Some(format!("document 01 gives {n}, the Rust {answer:?}")),
         }
     }
-    let got = call!(finder_enable_guard, h.both, a.lent, s[0], s[1], s[2], s[3], h.scratch.mut_ptr(), words, status.mut_ptr());
+    let got = call!(finder_guard_enable, h.both, a.lent, s[0], s[1], s[2], s[3], h.scratch.mut_ptr(), words, status.mut_ptr());
     if number == 0 {
         h.scratch.accept(words);
     }
-    let said = format!("finder_enable_guard {s:?}, scratch {words}");
+    let said = format!("finder_guard_enable {s:?}, scratch {words}");
     let more: Vec<(&str, &mut dyn Piece)> = vec![("status", &mut status), ("scratch", &mut h.scratch)];
     a.settle(&mut h.both, number, (number as u64, got as u64), more, said).and(odd)
 }
@@ -78,7 +78,7 @@ pub fn assess(h: &mut History) -> Outcome {
         h.both.words.put(&given);
     }
     let faults: Vec<u32> = (0..rng.pick(&[0, 0, 0, 0, 0, 1, 1, 2])).map(|_| rng.below(3)).collect();
-    let mut ids = draw::ids(a.own[1], rng);
+    let mut ids = draw::ids(h.both.six.marks.items(), rng);
     if faults.contains(&0) {
         ids.resize_with(257 + rng.below(3) as usize, || rng.below(a.own[1]));
     }
@@ -116,13 +116,13 @@ pub fn assess(h: &mut History) -> Outcome {
         }
     }
     let got = call!(
-        finder_assess_delete, h.both, a.lent, ids.ptr(), ids.len(), checked.mut_ptr(), room[0], lost.mut_ptr(), room[1], h.scratch.mut_ptr(), words,
+        finder_assess, h.both, a.lent, ids.ptr(), ids.len(), checked.mut_ptr(), room[0], lost.mut_ptr(), room[1], h.scratch.mut_ptr(), words,
         report.mut_ptr()
     );
     if number == 0 {
         h.scratch.accept(words);
     }
-    let said = format!("finder_assess_delete lists {room:?}, scratch {words}, ids {}", ids.text());
+    let said = format!("finder_assess lists {room:?}, scratch {words}, ids {}", ids.text());
     let lists: [(&str, &mut dyn Piece); 2] = [("checked", &mut checked), ("lost", &mut lost)];
     let mut more: Vec<(&str, &mut dyn Piece)> = vec![("report", &mut report), ("ids", &mut ids), ("scratch", &mut h.scratch)];
     more.extend(lists);

@@ -29,11 +29,11 @@ fn main() {
     let mut largest = 0u64; // calls on an index of the largest capacity
     for call in 1..=calls {
         match h.rng.below(100) {
-            0..=14 if !both::BY_THE_RUST.is_empty() => {
+            0..=9 if !both::BY_THE_RUST.is_empty() => {
                 h.both.by_the_rust(&mut h.rng);
                 between[0] += 1;
             }
-            15..=19 => {
+            10..=14 => {
                 h.both.by_hand(&mut h.rng);
                 between[1] += 1;
             }

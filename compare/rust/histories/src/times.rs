@@ -102,7 +102,7 @@ impl Timed {
         let (lent, [count, multiplier, sample, beam]) = (self.both.six.lengths(), settings);
         let started = cpu();
         let refused = call!(
-            finder_enable_guard, self.both, lent, count, multiplier, sample, beam, self.scratch.mut_ptr(), self.scratch.len(), status.mut_ptr()
+            finder_guard_enable, self.both, lent, count, multiplier, sample, beam, self.scratch.mut_ptr(), self.scratch.len(), status.mut_ptr()
         );
         self.spent[1] += cpu() - started;
         status.expect(&said);
@@ -118,7 +118,7 @@ impl Timed {
         let lent = self.both.six.lengths();
         let started = cpu();
         let refused = call!(
-            finder_assess_delete, self.both, lent, ids.as_ptr(), ids.len(), checked.mut_ptr(), 64, lost.mut_ptr(), 64, self.scratch.mut_ptr(),
+            finder_assess, self.both, lent, ids.as_ptr(), ids.len(), checked.mut_ptr(), 64, lost.mut_ptr(), 64, self.scratch.mut_ptr(),
             self.scratch.len(), report.mut_ptr()
         );
         self.spent[1] += cpu() - started;

@@ -114,7 +114,7 @@ impl Delete {
     fn draw(h: &mut History, a: &Asked) -> Delete {
         let rng = &mut h.rng;
         let faults: Vec<u32> = (0..rng.pick(&[0, 0, 0, 0, 0, 1, 1, 2])).map(|_| rng.below(5)).collect();
-        let mut ids = draw::ids(a.own[1], rng);
+        let mut ids = draw::ids(h.both.six.marks.items(), rng);
         if faults.contains(&0) {
             ids.resize_with(257 + rng.below(3) as usize, || rng.below(a.own[1]));
         }
