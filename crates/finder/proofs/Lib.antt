@@ -2,3 +2,6 @@ pub mod Held
 pub mod Told
 pub mod Filling
 pub mod Guarded
+pub mod Again
+pub mod Shared
+pub mod Emptied

@@ -9,8 +9,8 @@ use lib.Ieee.{Float}
 use lib.ListN.{length, take, drop}
 use Rattle.slots.specs.Sizes.{Slices}
 use Rattle.guard.specs.Guard.{Config}
-use Rattle.calls.specs.Calls.{Making, Search, Insert, Assess}
-use Rattle.calls.specs.Outputs.{Outputs}
+use Rattle.calls.specs.Calls.{Making, Search, Insert, Delete, Assess}
+use Rattle.calls.specs.Outputs.{Outputs, written}
 use Rattle.index.specs.declared.ScratchWords.{ScratchWords}
 use Rattle.index.specs.declared.ScratchWords.the-variants.{Refused as no-size, Words as sized}
 use Rattle.index.specs.declared.Created.{Created}
@@ -28,6 +28,9 @@ use Rattle.reading.specs.Search.{Searches}
 use Rattle.updating.specs.declared.Inserted.{Inserted}
 use Rattle.updating.specs.declared.Inserted.the-variants.{Refused as not-inserted, Done as Filled}
 use Rattle.updating.specs.Insert.{Inserts}
+use Rattle.updating.specs.declared.Deleted.{Deleted}
+use Rattle.updating.specs.declared.Deleted.the-variants.{Refused as not-deleted, Done as Emptied}
+use Rattle.updating.specs.Delete.{deleted-as, index-left, Deletes}
 use Rattle.guarding.specs.declared.Standing.{Standing}
 use Rattle.guarding.specs.declared.Standing.the-variants.{Refused as no-status, Standing as Stands-so}
 use Rattle.guarding.specs.declared.Enabled.{Enabled}
@@ -125,6 +128,21 @@ pub record Inserts-words (words : List ℕ) (s : Slices) (a : Insert) (outputs :
   pub does : Inserts (index-of words) s a outputs scratch s′ outputs′ scratch′ (inserted-given status words′ found′)
   pub written : status ≡ 0 → words′ ≡ words-of (index-of words′)
   pub kept : (status ≡ 0 → ⊥) → (words′ ≡ words) × (found′ ≡ found)
+
+-- ---- delete
+
+-- the status of an answer, and what is left in the index's words and where the number of slots emptied is to be written
+unfoldable pub deleted-put : Deleted → List ℕ → ℕ → ℕ × List ℕ × ℕ
+deleted-put (not-deleted n) words found = (n, words, found)
+deleted-put (Emptied i n) words found = (0, words-of i, n)
+
+-- what `finder_delete` promises; the words that it leaves hold the index that the app has then
+pub record Deletes-words (words : List ℕ) (s : Slices) (a : Delete) (outputs : Outputs) (scratch words′ : List ℕ) (s′ : Slices) (outputs′ : Outputs) (scratch′ : List ℕ) (found found′ status : ℕ) : Type 0 where
+  pub answer : Deleted
+  pub does : Deletes (index-of words) s a (length (outputs .stats)) scratch s′ scratch′ answer
+  pub told : (status, words′, found′) ≡ deleted-put answer words found
+  pub held : index-of words′ ≡ index-left (index-of words) answer
+  pub listed : outputs′ ≡ written (deleted-as answer (does .stats)) outputs
 
 -- ---- the guard
 

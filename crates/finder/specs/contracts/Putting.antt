@@ -1,8 +1,13 @@
 -- The status of an answer, and what is left where its value is to be written. Assumes nothing.
-use Prim.Native.Nat.{ℕ}
+use Prim.Native.Nat.{ℕ, _+_, _*_, _≤_}
 use mathlib.Core.Bool.{Bool, true, false}
 use mathlib.Core.List.{List}
+use mathlib.Core.Path.{_≡_}
 use lib.Ieee.{Float}
+use lib.ListN.{length}
+use Rattle.slots.specs.Sizes.{Slices}
+use Rattle.deletion.specs.Batch.{stats-at}
+use Rattle.calls.specs.Calls.{Delete}
 use Rattle.index.specs.declared.Created.{Created}
 use Rattle.index.specs.declared.Created.the-variants.{Refused as not-made, Done}
 use Rattle.reading.specs.declared.Reading.{Reading}
@@ -13,7 +18,12 @@ use Rattle.reading.specs.declared.Found.{Found}
 use Rattle.reading.specs.declared.Found.the-variants.{Refused as none-found, Found as Nearest}
 use Rattle.updating.specs.declared.Inserted.{Inserted}
 use Rattle.updating.specs.declared.Inserted.the-variants.{Refused as not-inserted, Done as Filled}
-use Rattle.finder.specs.IndexWords.{words-of}
+use Rattle.updating.specs.declared.Deleted.{Deleted}
+use Rattle.updating.specs.declared.Deleted.the-variants.{Refused as not-deleted, Done as Emptied}
+use Rattle.updating.specs.Delete.{index-left, Deletes}
+use Rattle.finder.specs.declared.deleting.Left.{Left}
+use Rattle.finder.specs.IndexWords.{index-of, words-of}
+use Rattle.finder.specs.Given.{deleted-put}
 
 -- the status of a making, and what is left in the index's words
 unfoldable pub created-put : Created → List ℕ → ℕ × List ℕ
@@ -55,3 +65,17 @@ found-put (Nearest n) found = (0, n)
 unfoldable pub inserted-put : Inserted → List ℕ → ℕ → ℕ × (List ℕ × ℕ)
 inserted-put (not-inserted n) words found = (n, (words, found))
 inserted-put (Filled i n) words found = (0, (words-of i, n))
+
+-- where the stats of a delete stand in the scratch, and how many they are
+unfoldable pub stats-left : Deleted → ℕ → ℕ × ℕ
+stats-left (not-deleted n) place = (0, 0)
+stats-left (Emptied i n) place = (place, n)
+
+-- what `delete_words` leaves: all that `finder_delete` promises but the records
+pub record Leaves-stats (words : List ℕ) (s : Slices) (a : Delete) (room : ℕ) (scratch words′ : List ℕ) (s′ : Slices) (scratch′ : List ℕ) (found found′ : ℕ) (r : Left) : Type 0 where
+  pub answer : Deleted
+  pub does : Deletes (index-of words) s a room scratch s′ scratch′ answer
+  pub told : (r .status, words′, found′) ≡ deleted-put answer words found
+  pub held : index-of words′ ≡ index-left (index-of words) answer
+  pub place : (r .at, r .count) ≡ stats-left answer (stats-at (index-of words .capacity))
+  pub inside : r .at + 4 * r .count ≤ length scratch′
