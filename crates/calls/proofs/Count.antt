@@ -2,21 +2,20 @@
 use Prim.Native.Nat.{ℕ, zero, suc, _+_, _*_, _/_, _≤_, _<_}
 use mathlib.Core.Bool.{Bool, true, false, not, _||_, cond}
 use mathlib.Core.Option.{Option, none, some}
-use mathlib.Core.Path.{_≡_, refl, sym, ap, _∙_}
-use mathlib.Core.List.{List, [], _∷_, map}
+use mathlib.Core.Path.{_≡_, refl, ap, _∙_}
+use mathlib.Core.List.{List, [], _∷_}
 use native.Mathlib.Omega.{arith}
 use borrow.Author.Tests.{le-ltb, ltb-true, ltb-false, eqb-true, not-false}
 use lib.Dec.{eqb, ltb}
 use lib.ListN.{length, length-map}
-use Rattle.lists.specs.Lists.{filter, range, part}
+use Rattle.lists.specs.Lists.{filter, range}
 use Rattle.lists.proofs.Ranges.{length-range}
 use Rattle.slots.specs.Sizes.{Lengths, limits, sizes-ok, alpha-ok, lengths-ok}
 use Rattle.slots.specs.View.{View, live-slots, free-slots, emptied}
-use Rattle.slots.specs.Store.{Store, store-view, store-ops}
+use Rattle.slots.specs.Store.{store-view, store-ops}
 use Rattle.slots.specs.Plain.{plain-ops, new-plain}
 use Rattle.slots.proofs.New.{Accepted, agree-new}
 use Rattle.slots.proofs.Live.{Marking, Marks-fit, store-marking, Live-inside, plain-marking}
-use Rattle.insert.specs.Insert.{insert-batch}
 use Rattle.insert.proofs.Free.{fits-after-insert, live-after-insert}
 use Rattle.repair.specs.Delete.{delete-batch}
 use Rattle.repair.proofs.Count.{fits-after-delete, live-after-delete}

@@ -1,13 +1,13 @@
 -- What holds of every index that calls have reached: the proof of `Always-reached`. Each call keeps it on the plain index, and the stored one shows the same.
 -- Assumes nothing.
-use Prim.Native.Nat.{ℕ, zero, suc, _-_, _*_, _≤_, _<_}
-use mathlib.Core.Bool.{Bool, true, false, not, _&&_, _||_, cond, true≢false}
+use Prim.Native.Nat.{ℕ, zero, suc, _-_, _*_}
+use mathlib.Core.Bool.{Bool, true, false, not, _&&_, _||_, true≢false}
 use mathlib.Core.List.{List, [], _∷_, _++_}
 use mathlib.Core.Option.{Option, none, some}
-use mathlib.Core.Path.{_≡_, refl, sym, ap, _∙_, subst}
+use mathlib.Core.Path.{_≡_, refl, sym, subst}
 use native.Mathlib.Omega.{arith}
-use borrow.Author.Tests.{eqb-true, eq-eqb, ltb-true, not-false}
-use lib.ListN.{length, replicate, drop}
+use borrow.Author.Tests.{eqb-true, eq-eqb, ltb-true}
+use lib.ListN.{replicate, drop}
 use lib.Dec.{eqb, ltb, leb·suc-zero}
 use Rattle.lists.specs.Lists.{filter, part, All}
 use Rattle.lists.proofs.All.{all-map, all-both, all-append, all-take, all-drop, all-filter, filter-test}
@@ -20,8 +20,8 @@ use Rattle.insert.proofs.Reached.{reached-insert}
 use Rattle.repair.proofs.Reached.{reached-delete}
 use Rattle.guard.specs.Guard.{Report}
 use Rattle.calls.specs.Calls.{Making, Delete, Operation, create, read, read-vector, search, insert, delete, enable, status, assess, guarded-delete, Lent, Call}
-use Rattle.calls.specs.Refusals.{first-of, making-tests, tests, names-given, entry-given}
-use Rattle.calls.specs.State.{State, stored, plain, view-of, shown, made, with-graph, with-guard}
+use Rattle.calls.specs.Refusals.{first-of, making-tests, tests, names-given}
+use Rattle.calls.specs.State.{State, stored, plain, shown, made, with-graph, with-guard}
 use Rattle.calls.specs.Step.{vectors-of, report-of, guarded, perform, refusal, settle, step}
 use Rattle.calls.specs.History.{log-after, Within}
 use Rattle.calls.specs.Reached.{views, Always-reached}

@@ -1,10 +1,8 @@
 -- A law of sums. Assumes nothing.
-use Prim.Native.Nat.{ℕ, _+_, _*_, _≤_}
+use Prim.Native.Nat.{ℕ, _+_}
 use mathlib.Core.List.{List}
 use mathlib.Core.Path.{_≡_}
 use native.Mathlib.Omega.{arith}
-use lib.ListN.{drop}
-use Rattle.vectors.specs.Distance.{distance}
 use Rattle.distances.specs.contracts.Sums.{Summed}
 
 -- a sum and the one behind it are one sum

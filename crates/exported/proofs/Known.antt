@@ -2,7 +2,7 @@
 use Prim.Native.Nat.{ℕ}
 use mathlib.Core.Bool.{Bool, true, false, cond}
 use mathlib.Core.List.{List, []}
-use mathlib.Core.Option.{Option, none, some}
+use mathlib.Core.Option.{none, some}
 use mathlib.Core.Path.{_≡_, refl, sym, ap, _∙_, subst}
 use native.Mathlib.Omega.{arith}
 use borrow.Author.Tests.{eqb-true, eqb-false, eq-eqb, ne-eqb}
@@ -11,13 +11,13 @@ use lib.Ieee.{Float}
 use lib.ListN.{length}
 use Rattle.vectors.specs.Distance.{f32}
 use Rattle.candidates.specs.Candidates.{Candidate}
-use Rattle.slots.specs.Sizes.{Slices, lengths-of, limits}
+use Rattle.slots.specs.Sizes.{lengths-of, limits}
 use Rattle.slots.specs.Store.{Store, store-view}
 use Rattle.calls.specs.Calls.{Making, Search, Insert, Operation, create, read, read-vector, search, insert, Answer, refused, created, alpha, vector, refused-as, Assess, enable, assess}
 use Rattle.guard.specs.Guard.{Config}
 use Rattle.admission.specs.declared.report.Report.{Report}
 use Rattle.calls.specs.Calls as Answers
-use Rattle.calls.specs.Outputs.{Outputs, no-outputs, written}
+use Rattle.calls.specs.Outputs.{no-outputs, written}
 use Rattle.calls.specs.Refusals.{first-of, making-tests, tests}
 use Rattle.calls.specs.State.{State, stored}
 use Rattle.calls.specs.Step.{refusal, settle, step}
@@ -33,7 +33,6 @@ use Rattle.reading.specs.declared.Reading.{Reading}
 use Rattle.reading.specs.declared.Reading.the-variants.{Dim, Capacity, Degree, Alpha, Entry, Live, Mark, Version, Target}
 use Rattle.reading.specs.declared.Value.{Value}
 use Rattle.reading.specs.declared.Value.the-variants.{Refused}
-use Rattle.reading.specs.declared.Found.{Found}
 use Rattle.reading.specs.declared.Found.the-variants.{Refused as none-found, Found as Nearest}
 use Rattle.reading.specs.Read.{reading-of, answer-of, Reads}
 use Rattle.reading.specs.Search.{found-as, search-outputs}

@@ -3,13 +3,13 @@ use Prim.Native.Nat.{ℕ, suc, _+_, _*_, _≤_}
 use mathlib.Core.Bool.{Bool, true, not, _||_}
 use mathlib.Core.List.{List, [], _∷_, map, map-append}
 use mathlib.Core.Option.{Option, none, some}
-use mathlib.Core.Path.{_≡_, refl, sym, ap, ap₂, _∙_, subst}
+use mathlib.Core.Path.{_≡_, refl, sym, ap, _∙_, subst}
 use native.Mathlib.Omega.{arith}
 use borrow.Author.Tests.{ltb-false}
 use lib.Dec.{T, eqb, ltb}
 use lib.Ieee.{binary32, isNan, fits}
 use lib.ListN.{length, length-map}
-use Rattle.lists.specs.Lists.{filter, range, distinct-by, sorted-set, put-front}
+use Rattle.lists.specs.Lists.{filter, range, distinct-by, put-front}
 use Rattle.lists.proofs.Filter.{filter-length}
 use Rattle.lists.proofs.Alike.{self, sorted-many}
 use Rattle.lists.proofs.Ranges.{length-range}

@@ -10,11 +10,10 @@ use lib.Dec.{T, eqb}
 use lib.Ieee.{Float, binary32, isNan, fits}
 use lib.ListN.{length, take, drop}
 use Rattle.lists.specs.Lists.{All}
-use Rattle.slots.specs.Sizes.{Slices, Lengths, lengths-of, limits, sizes-ok, alpha-ok}
+use Rattle.slots.specs.Sizes.{Slices, Lengths, limits, sizes-ok, alpha-ok}
 use Rattle.slots.specs.Scratch.{size-answer}
-use Rattle.slots.specs.View.{View}
 use Rattle.slots.specs.Store.{Store, is-valid, vector-of, store-view, store-ops}
-use Rattle.calls.specs.Calls.{Making, Search, read, read-vector, search, Operation, Lent, Call, Answer, refused, created, number, alpha, version, vector, found, inserted, deleted, standing, assessed, applied, deferred, refused-as}
+use Rattle.calls.specs.Calls.{Making, Search, read, read-vector, search, Lent, Call, Answer, refused, created, number, alpha, version, vector, found, inserted, deleted, standing, assessed, applied, deferred, refused-as}
 use Rattle.calls.specs.Calls as Calls
 use Rattle.calls.specs.Outputs.{Outputs, no-outputs}
 use Rattle.calls.specs.Refusals.{Test, first-of, making-tests, index-tests, tests}
@@ -39,7 +38,7 @@ use Rattle.reading.specs.Search.{found-as, Searches}
 use Rattle.index.proofs.Decide.{Numbered, step-back, step-on}
 use Rattle.calls.proofs.Tests.{accepted}
 use Rattle.finder.specs.IndexWords.{index-of, words-of}
-use Rattle.finder.specs.Given.{Sizes-scratch, created-given, Creates-words, value-in, number-given, alpha-given, Reads-number, Reads-alpha, bytes-at, Reads-length, found-given, Searches-words}
+use Rattle.finder.specs.Given.{Sizes-scratch, Creates-words, value-in, Reads-number, Reads-alpha, Reads-length, Searches-words}
 use Rattle.finder.specs.contracts.Putting.{created-put, gives-number, number-put, alpha-put, found-put}
 use Rattle.finder.proofs.Held.{alpha-right, words-hold}
 

@@ -1,10 +1,10 @@
 -- An insert keeps what holds of every index that calls have reached. Assumes nothing.
 use Prim.Native.Nat.{ℕ, max}
-use mathlib.Core.Bool.{Bool, true, false, true≢false}
-use mathlib.Core.Path.{_≡_, refl, sym, ap, _∙_}
+use mathlib.Core.Bool.{true, false}
+use mathlib.Core.Path.{_≡_, refl, ap, _∙_}
 use mathlib.Core.List.{List, [], _∷_, _++_, map}
 use lib.ListN.{length}
-use Rattle.lists.specs.Lists.{foldl, concat-map, chunks, sorted-set, elem, All}
+use Rattle.lists.specs.Lists.{concat-map, chunks, sorted-set, All}
 use Rattle.lists.proofs.All.{all-of, all-append, foldl-keeps}
 use Rattle.candidates.specs.Candidates.{Candidate, scored, ids}
 use Rattle.vectors.specs.Space.{slot-distance}
@@ -13,7 +13,6 @@ use Rattle.slots.specs.Ops.{Row}
 use Rattle.slots.specs.Plain.{plain-ops}
 use Rattle.slots.proofs.Reached.{reached-filled, reached-rows}
 use Rattle.walk.specs.Walk.{search-pool}
-use Rattle.prune.specs.Prune.{prune}
 use Rattle.prune.proofs.Chosen.{ids-live, none-chosen}
 use Rattle.insert.specs.Insert.{Filling, fillings, Plan, plan, incoming, outgoing-row, target-row, chunk-rows, fill-all, insert-chunk, insert-batch}
 

@@ -12,7 +12,7 @@ use Rattle.lists.proofs.All.{all-map, all-sort, filter-test}
 use Rattle.lists.proofs.Filtered.{count-without}
 use Rattle.lists.proofs.Ranges.{times-once}
 use Rattle.lists.proofs.Unique.{all-distinct}
-use Rattle.candidates.specs.Candidates.{Candidate, scored, ids}
+use Rattle.candidates.specs.Candidates.{scored, ids}
 use Rattle.vectors.specs.Space.{slot-distance}
 use Rattle.slots.specs.View.{View, Reached, live-neighbors, live-slots, emptied}
 use Rattle.slots.specs.Ops.{Row, write-rows}
@@ -21,7 +21,7 @@ use Rattle.slots.proofs.Reached.{Held, Bare, none-gone, bare-dead, held-rows, r
 use Rattle.walk.specs.Walk.{search-pool}
 use Rattle.prune.proofs.Chosen.{ids-live}
 use Rattle.repair.specs.Repair.{Link, repair-links, insert-and-prune, repaired-row, repaired-rows}
-use Rattle.repair.specs.Delete.{Snapshot, snapshot, Plan, plan, new-entry, first-or, delete-slots, delete-batch}
+use Rattle.repair.specs.Delete.{snapshot, Plan, plan, new-entry, first-or, delete-slots, delete-batch}
 
 -- ---- repaired rows lead to live slots
 

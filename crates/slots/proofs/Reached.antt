@@ -1,16 +1,16 @@
 -- What holds of every index that calls have reached (`Reached`), kept by the operations of the plain index. Assumes nothing.
-use Prim.Native.Nat.{ℕ, _-_, _*_, _≤_, _<_}
+use Prim.Native.Nat.{ℕ, _-_, _<_}
 use mathlib.Core.Bool.{Bool, true, false, not, _&&_, _||_, cond, true≢false}
 use mathlib.Core.Path.{_≡_, refl, sym, ap, _∙_}
-use mathlib.Core.List.{List, [], _∷_, _++_}
+use mathlib.Core.List.{List, [], _∷_}
 use native.Mathlib.Omega.{arith}
 use borrow.Author.Tests.{eqb-true, ltb-true, lt-ltb}
-use lib.ListN.{take, drop, replicate}
+use lib.ListN.{take}
 use lib.Seq.{take-nil}
 use lib.Dec.{eqb, ltb}
-use Rattle.lists.specs.Lists.{filter, foldl, elem, part, All}
+use Rattle.lists.specs.Lists.{filter, foldl, elem, All}
 use Rattle.lists.proofs.Bools.{and-both}
-use Rattle.lists.proofs.All.{by-cases, all-map, all-both, all-take, all-filter, filter-test, foldl-keeps}
+use Rattle.lists.proofs.All.{by-cases, all-map, all-both, all-take, all-filter, filter-test}
 use Rattle.slots.specs.View.{View, Reached}
 use Rattle.slots.specs.Ops.{Row, write-rows}
 use Rattle.slots.specs.Store.{blank}

@@ -1,6 +1,6 @@
 -- The stored index: its slices as lists, what a view of it shows, and what insert and delete do to it. Document 01, "Slots, versions, rows";
 -- `MmapDynamicDiskANN` in the Rust. Assumes nothing.
-use Prim.Native.Nat.{ℕ, zero, suc, _+_, _-_, _*_, _%_}
+use Prim.Native.Nat.{ℕ, suc, _+_, _-_, _*_, _%_}
 use mathlib.Core.Bool.{Bool, not, _&&_, cond}
 use mathlib.Core.List.{List, [], _∷_, _++_, map}
 use mathlib.Core.Option.{Option, none, some}

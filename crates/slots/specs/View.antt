@@ -33,7 +33,7 @@ free-slots v = filter (λ s. not (v .live s)) (range 0 (v .sizes .capacity))
 unfoldable pub emptied : View → List ℕ → List ℕ
 emptied v ids = sorted-set (filter (v .live) ids)
 
--- what holds of every index that calls have reached (`reached`): live slots are inside, references lead to live slots, and where the entry is dead there
+-- what holds of every index that calls have reached (`always-reached`): live slots are inside, references lead to live slots, and where the entry is dead there
 -- are none
 pub record Reached (v : View) : Type 0 where
   pub live-inside : (s : ℕ) → v .live s ≡ true → s < v .sizes .capacity

@@ -16,7 +16,6 @@ use Rattle.slots.specs.Store.{Store, store-view, store-ops, arrays}
 use Rattle.slots.proofs.Live.{live-and-free, Marks-fit, store-marking}
 use Rattle.repair.specs.Delete.{Stats, delete-batch}
 use Rattle.repair.proofs.Count.{live-after-delete}
-use Rattle.row.specs.Row.{index-of}
 use Rattle.deletion.specs.Batch.{stats-at, stats-of, Deletable, BatchDeleted}
 use Rattle.deletion.proofs.Batching.{delete-enough, deleted-store}
 use Rattle.calls.specs.Calls.{Delete, delete, Call, deleted, refused-as}

@@ -1,6 +1,5 @@
 -- Four sums of four are one of 16.
 use borrow.Author.Needs.{needs}
-use native.Mathlib.Omega.{arith}
 use Rattle.distances.proofs.Sums.{summed-join}
 use Rattle.distances.proofs.sixteen.Statement.{statement}
 use Rattle.distances.proofs.sixteen.Tie as tie
