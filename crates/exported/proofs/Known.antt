@@ -1,19 +1,21 @@
 -- What is known of a run of each exported function: it is a run of the call, and its answer is what the caller has in hand. Assumes nothing.
 use Prim.Native.Nat.{ℕ}
 use mathlib.Core.Bool.{Bool, true, false, cond}
-use mathlib.Core.List.{List, []}
+use mathlib.Core.List.{List, [], map}
 use mathlib.Core.Option.{none, some}
 use mathlib.Core.Path.{_≡_, refl, sym, ap, _∙_, subst}
 use native.Mathlib.Omega.{arith}
 use borrow.Author.Tests.{eqb-true, eqb-false, eq-eqb, ne-eqb}
 use lib.Dec.{eqb}
 use lib.Ieee.{Float}
-use lib.ListN.{length}
+use lib.ListN.{length, length-map}
+use Rattle.lists.specs.Lists.{range}
+use Rattle.lists.proofs.Ranges.{length-range}
 use Rattle.vectors.specs.Distance.{f32}
 use Rattle.candidates.specs.Candidates.{Candidate}
 use Rattle.slots.specs.Sizes.{lengths-of, limits}
 use Rattle.slots.specs.Store.{Store, store-view}
-use Rattle.calls.specs.Calls.{Making, Search, Insert, Operation, create, read, read-vector, search, insert, Answer, refused, created, alpha, vector, refused-as, Assess, enable, assess}
+use Rattle.calls.specs.Calls.{Making, Search, Insert, Delete, Operation, create, read, read-vector, search, insert, delete, Answer, refused, created, alpha, vector, refused-as, Assess, enable, assess}
 use Rattle.guard.specs.Guard.{Config}
 use Rattle.admission.specs.declared.report.Report.{Report}
 use Rattle.calls.specs.Calls as Answers
@@ -38,9 +40,14 @@ use Rattle.reading.specs.Read.{reading-of, answer-of, Reads}
 use Rattle.reading.specs.Search.{found-as, search-outputs}
 use Rattle.updating.specs.declared.Inserted.the-variants.{Refused as not-inserted, Done as Filled}
 use Rattle.updating.specs.Insert.{insert-outputs, inserted-as, index-after}
+use Rattle.updating.specs.declared.Deleted.{Deleted}
+use Rattle.updating.specs.declared.Deleted.the-variants.{Refused as not-deleted, Done as Emptied}
+use Rattle.updating.specs.Delete.{stats-outputs, deleted-as, index-left}
+use Rattle.repair.specs.Delete.{Stats}
+use Rattle.deletion.specs.Batch.{stats-of, stats-at}
 use Rattle.finder.specs.IndexWords.{index-of, words-of}
-use Rattle.finder.specs.Given.{created-given, Creates-words, value-in, bytes-at, Reads-length, Searches-words, inserted-given, Inserts-words, standing-put, Stands-words, enabled-put, Enables-words, assessed-put, Assesses-words}
-use Rattle.exported.specs.Runs.{Memory, Places, places, nowhere, in-value, in-alpha, in-version, Exported-run, making, changing, looking, number, Exported, finder-create, finder-dim, finder-capacity, finder-degree, finder-entry, finder-live, finder-mark, finder-slot-version, finder-target, finder-alpha, finder-vector, finder-search, finder-insert, in-guard, finder-guard-enable, finder-guard-status, finder-assess}
+use Rattle.finder.specs.Given.{created-given, Creates-words, value-in, bytes-at, Reads-length, Searches-words, inserted-given, Inserts-words, deleted-put, Deletes-words, standing-put, Stands-words, enabled-put, Enables-words, assessed-put, Assesses-words}
+use Rattle.exported.specs.Runs.{Memory, Places, places, nowhere, in-value, in-alpha, in-version, Exported-run, making, changing, looking, number, Exported, finder-create, finder-dim, finder-capacity, finder-degree, finder-entry, finder-live, finder-mark, finder-slot-version, finder-target, finder-alpha, finder-vector, finder-search, finder-insert, finder-delete, in-guard, finder-guard-enable, finder-guard-status, finder-assess}
 use Rattle.guarding.specs.declared.Standing.{Standing}
 use Rattle.guarding.specs.declared.Standing.the-variants.{Refused as no-status, Standing as Stands-so}
 use Rattle.guarding.specs.declared.Enabled.{Enabled}
@@ -367,6 +374,67 @@ module _ {lent left : Memory} {a : Insert} {slots slots′ scratch scratch′ : 
       λ i. places (c .kept z .1 i) (f32 0) 0 [] [] (o i)))
       (λ n. refl) insert-words-kept insert-rightly
 
+-- ---- delete
+
+module _ {lent left : Memory} {a : Delete} {stats stats′ : List Stats} {scratch scratch′ : List ℕ} {found found′ status : ℕ}
+    (c : Deletes-words (lent .words) (lent .slices) a (stats-outputs stats) scratch (left .words) (left .slices) (stats-outputs stats′) scratch′ found found′ status) where
+  abbrev delete-run : Exported-run
+  delete-run = changing (delete a) lent left scratch scratch′ (places found (f32 0) 0 [] [] (stats-outputs stats)) (places found′ (f32 0) 0 [] [] (stats-outputs stats′)) status
+
+  abbrev delete-answer : Answer
+  delete-answer = deleted-as (c .answer) (c .does .stats)
+
+  delete-meets : Meets (as-run delete-run delete-answer)
+  delete-meets =
+      subst Meets
+      (λ i. record {
+        operation = delete a;
+        before = state-in lent;
+        after = state-of (sym (c .held) i) (left .slices);
+        answer = delete-answer;
+        outputs-before = stats-outputs stats;
+        outputs-after = sym (c .listed) i;
+        scratch-before = scratch;
+        scratch-after = scratch′;
+      })
+      (c .does .meets stats refl)
+
+  delete-tells : (r : Deleted) (ts : List Stats) → (status, left .words, found′) ≡ deleted-put r (lent .words) found
+      → ((i : Index) (n : ℕ) → r ≡ Emptied i n → ts ≡ map (stats-of scratch′ (stats-at (index-of (lent .words) .capacity))) (range 0 n))
+      → stats-outputs stats′ ≡ written (deleted-as r ts) (stats-outputs stats)
+      → (status, places found′ (f32 0) 0 [] [] (stats-outputs stats′)) ≡ put (deleted-as r ts) (places found (f32 0) 0 [] [] (stats-outputs stats))
+  unfolding put written deleted-put deleted-as
+  delete-tells (not-deleted n) ts e w o = λ i. (e i .0, places (e i .2) (f32 0) 0 [] [] (o i))
+  delete-tells (Emptied j n) ts e w o =
+      let many : length ts ≡ n = ap length (w j n refl) ∙ length-map (range 0 n) (stats-of scratch′ (stats-at (index-of (lent .words) .capacity))) ∙ length-range 0 n in
+      let f = ap (λ x. x .2) e ∙ sym many in
+      λ i. (e i .0, places (f i) (f32 0) 0 [] [] (o i))
+
+  delete-words-kept : (n : ℕ) → run-refusal (as-run delete-run delete-answer) ≡ some n → left .words ≡ lent .words
+  unfolding run-refusal call-of step settle refused-as deleted-put deleted-as
+  delete-words-kept n h = go (c .answer) (c .told) told
+    where
+      x : Runs.Run
+      x = as-run delete-run delete-answer
+
+      told : delete-answer ≡ refused n
+      told = ap (λ (y : State Store × Answer). y .1) (delete-meets .does ∙ ap (settle stored (x .before) (call-of x)) h)
+
+      go : (r : Deleted) → (status, left .words, found′) ≡ deleted-put r (lent .words) found → deleted-as r (c .does .stats) ≡ refused n → left .words ≡ lent .words
+      go (not-deleted m) e g = ap (λ x. x .1) e
+      go (Emptied j m) e g = absurd (let z : _≡_ {A = ℕ} 0 1 = cc in omega arith)
+
+  delete-right : (r : Deleted) → (status, left .words, found′) ≡ deleted-put r (lent .words) found → index-of (left .words) ≡ index-left (index-of (lent .words)) r → Right lent → Right left
+  unfolding deleted-put index-left
+  delete-right (not-deleted n) e g h = subst (λ w. w ≡ words-of (index-of w)) (sym (ap (λ x. x .1) e)) h
+  delete-right (Emptied j n) e g h = ap (λ x. x .1) e ∙ ap words-of (sym g)
+
+  known-delete : Known delete-run
+  unfolding put refused-as
+  known-delete =
+      known-changing (λ m e. let z : _≡_ {A = ℕ} 0 1 = cc in omega arith) delete-answer delete-meets (delete-tells (c .answer) (c .does .stats) (c .told) (c .does .words) (c .listed))
+      (λ n. refl) delete-words-kept (delete-right (c .answer) (c .told) (c .held))
+
 -- ---- the guard
 
 standing-tells : (place : List ℕ) {place′ : List ℕ} {status : ℕ} (a : Standing) → (status, place′) ≡ standing-put a place
@@ -480,6 +548,7 @@ known (finder-alpha c) = known-reading Alpha _ (c .does) refl (λ z. ap in-alpha
 known (finder-vector c) = known-vector c
 known (finder-search c) = known-search c
 known (finder-insert c) = known-insert c
+known (finder-delete stats stats′ c) = known-delete c
 known (finder-guard-enable c) = known-enable c
 known (finder-guard-status c) = known-status c
 known (finder-assess c) = known-assess c

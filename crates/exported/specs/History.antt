@@ -89,10 +89,10 @@ put (version n) o = (0, places (o .value) (o .alpha) n (o .bytes) (o .guard) (o 
 put (vector l) o = (length l, places (o .value) (o .alpha) (o .version) l (o .guard) (o .outputs))
 put (found cs) o = (0, places (length cs) (o .alpha) (o .version) (o .bytes) (o .guard) (written (found cs) (o .outputs)))
 put (inserted ss) o = (0, places (length ss) (o .alpha) (o .version) (o .bytes) (o .guard) (written (inserted ss) (o .outputs)))
+put (deleted ts) o = (0, places (length ts) (o .alpha) (o .version) (o .bytes) (o .guard) (written (deleted ts) (o .outputs)))
 put (standing s) o = (0, places (o .value) (o .alpha) (o .version) (o .bytes) (status-words s) (o .outputs))
 put (assessed r) o = (0, places (o .value) (o .alpha) (o .version) (o .bytes) (report-words (numbers-of r)) (written (assessed r) (o .outputs)))
 -- no exported function answers so yet
-put (deleted ts) o = (0, o)
 put (applied ts r) o = (0, o)
 put (deferred r) o = (0, o)
 

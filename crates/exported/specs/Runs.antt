@@ -1,18 +1,21 @@
 -- Runs of the exported functions that work on an index: all of include/finder.h but `finder_scratch_words`. Each has the contract that its function is
 -- proved to meet (finder/specs/Given.antt) and nothing else; what is left has a prime. Assumes nothing.
 use Prim.Native.Nat.{ℕ}
-use mathlib.Core.List.{List, []}
+use mathlib.Core.List.{List, [], map}
 use lib.Ieee.{Float}
 use Rattle.vectors.specs.Distance.{f32}
 use Rattle.slots.specs.Sizes.{Slices}
-use Rattle.calls.specs.Calls.{Making, read-dim, read-capacity, read-degree, read-alpha, read-entry, read-live, read-mark, read-version, read-target, Search, Insert, Operation, create, read, read-vector, search, insert, Assess, enable, assess}
+use Rattle.calls.specs.Calls.{Making, read-dim, read-capacity, read-degree, read-alpha, read-entry, read-live, read-mark, read-version, read-target, Search, Insert, Delete, Operation, create, read, read-vector, search, insert, delete, Assess, enable, assess}
 use Rattle.guard.specs.Guard.{Config}
 use Rattle.calls.specs.Calls as Calls
 use Rattle.calls.specs.Outputs.{Outputs, no-outputs}
 use Rattle.reading.specs.declared.Reading.the-variants.{Dim, Capacity, Degree, Entry, Live, Mark, Version, Target}
 use Rattle.reading.specs.Search.{search-outputs}
 use Rattle.updating.specs.Insert.{insert-outputs}
-use Rattle.finder.specs.Given.{Creates-words, Reads-number, Reads-alpha, bytes-at, Reads-length, Searches-words, Inserts-words, Stands-words, Enables-words, Assesses-words}
+use Rattle.updating.specs.Delete.{stats-outputs}
+use Rattle.deletion.specs.declared.stats.DeleteStats.{DeleteStats}
+use Rattle.deletion.specs.Batch.{stats-in}
+use Rattle.finder.specs.Given.{Creates-words, Reads-number, Reads-alpha, bytes-at, Reads-length, Searches-words, Inserts-words, Deletes-words, Stands-words, Enables-words, Assesses-words}
 use Rattle.guarding.specs.Guarding.{report-outputs}
 
 -- an index as the app holds it: its twelve words and its six slices
@@ -106,6 +109,9 @@ pub data Exported : Exported-run → Type 0 where
   finder-insert : {lent left : Memory} {a : Insert} {slots slots′ scratch scratch′ : List ℕ} {found found′ status : ℕ}
       → Inserts-words (lent .words) (lent .slices) a (insert-outputs slots) scratch (left .words) (left .slices) (insert-outputs slots′) scratch′ found found′ status
       → Exported (changing (insert a) lent left scratch scratch′ (places found (f32 0) 0 [] [] (insert-outputs slots)) (places found′ (f32 0) 0 [] [] (insert-outputs slots′)) status)
+  finder-delete : {lent left : Memory} {a : Delete} (stats stats′ : List DeleteStats) {scratch scratch′ : List ℕ} {found found′ status : ℕ}
+      → Deletes-words (lent .words) (lent .slices) a (stats-outputs (map stats-in stats)) scratch (left .words) (left .slices) (stats-outputs (map stats-in stats′)) scratch′ found found′ status
+      → Exported (changing (delete a) lent left scratch scratch′ (places found (f32 0) 0 [] [] (stats-outputs (map stats-in stats))) (places found′ (f32 0) 0 [] [] (stats-outputs (map stats-in stats′))) status)
   finder-guard-enable : {lent left : Memory} {c : Config} {scratch scratch′ place place′ : List ℕ} {status : ℕ}
       → Enables-words (lent .words) (lent .slices) c scratch (left .words) (left .slices) scratch′ place place′ status
       → Exported (changing (enable c) lent left scratch scratch′ (in-guard place no-outputs) (in-guard place′ no-outputs) status)
