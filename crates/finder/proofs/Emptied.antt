@@ -173,7 +173,7 @@ module _ (words : List ℕ) (found : ℕ) {s : Slices} {a : Delete} {room : ℕ}
 
 -- ---- the records
 
-front-of : {A B : Type 0} (f : A → B) (xs l : List A) → map f (put-front xs l) ≡ put-front (map f xs) (map f l)
+pub front-of : {A B : Type 0} (f : A → B) (xs l : List A) → map f (put-front xs l) ≡ put-front (map f xs) (map f l)
 front-of f [] l = refl
 front-of f (x ∷ xs) [] = ap (λ r. f x ∷ r) (map-append f xs [])
 front-of f (x ∷ xs) (y ∷ l) = ap (λ r. f x ∷ r) (front-of f xs l)

@@ -5,3 +5,4 @@ pub mod Guarded
 pub mod Again
 pub mod Shared
 pub mod Emptied
+pub mod Applied

@@ -37,6 +37,9 @@ use Rattle.guarding.specs.declared.Enabled.{Enabled}
 use Rattle.guarding.specs.declared.Enabled.the-variants.{Refused as not-enabled, Enabled as Enabled-with}
 use Rattle.guarding.specs.declared.Assessed.{Assessed}
 use Rattle.guarding.specs.declared.Assessed.the-variants.{Refused as not-assessed, Assessed as Assessed-so}
+use Rattle.guarding.specs.declared.Guarded.{Guarded}
+use Rattle.guarding.specs.declared.Guarded.the-variants.{Refused as not-guarded, Applied, Deferred}
+use Rattle.guarding.specs.Guarded.{guarded-as, index-kept, Guards}
 use Rattle.guarding.specs.Guarding.{status-of, Stands, enabled-index, Enables, Assesses}
 use Rattle.finder.specs.IndexWords.{index-of, words-of}
 use Rattle.finder.specs.GuardWords.{status-words, report-words}
@@ -179,3 +182,18 @@ pub record Assesses-words (words : List ℕ) (s : Slices) (a : Assess) (outputs 
   pub answer : Assessed
   pub does : Assesses (index-of words) s a outputs scratch outputs′ scratch′ answer
   pub told : (status, place′) ≡ assessed-put answer place
+
+-- the status of an answer, and what is left in the index's words, where the number of slots emptied is to be written, and where the report's numbers are; a
+-- delete that is deferred empties none
+unfoldable pub guarded-put : Guarded → List ℕ → ℕ → List ℕ → ℕ × List ℕ × ℕ × List ℕ
+guarded-put (not-guarded n) words found place = (n, words, found, place)
+guarded-put (Applied i n v) words found place = (0, words-of i, n, report-words v)
+guarded-put (Deferred v) words found place = (0, words, 0, report-words v)
+
+-- what `finder_guarded_delete` promises; the words that it leaves hold the index that the app has then
+pub record Guards-words (words : List ℕ) (s : Slices) (a : Delete) (outputs : Outputs) (scratch words′ : List ℕ) (s′ : Slices) (outputs′ : Outputs) (scratch′ : List ℕ) (found found′ : ℕ) (place place′ : List ℕ) (status : ℕ) : Type 0 where
+  pub answer : Guarded
+  pub does : Guards (index-of words) s a (length (outputs .stats)) (outputs .checked) (outputs .lost) scratch s′ (outputs′ .checked) (outputs′ .lost) scratch′ answer
+  pub told : (status, words′, found′, place′) ≡ guarded-put answer words found place
+  pub held : index-of words′ ≡ index-kept (index-of words) answer
+  pub listed : outputs′ ≡ written (guarded-as answer (does .stats) (does .report)) outputs

@@ -20,13 +20,13 @@ ghost use Rattle.finder.specs.contracts.Putting.{stats-left, Leaves-stat
 
 // A delete's status, and where in the scratch the words of how many stats stand.
 pub struct Left {
-    status: u32,
-    at: usize,
-    count: usize,
+    pub status: u32,
+    pub at: usize,
+    pub count: usize,
 }
 
 // Where a delete leaves its stats.
-fn stats_place(capacity: u32) -> usize
+pub fn stats_place(capacity: u32) -> usize
     ensures { λ r. ⌜ r ≡ stats-at capacity ⌝ }
 {
     capacity as usize + 2560

@@ -40,7 +40,7 @@ fn words_of_status(status: Status) -> [u32; 5]
 }
 
 // The words that a report's numbers are written as.
-fn words_of_report(report: Report) -> [u32; 8]
+pub fn words_of_report(report: Report) -> [u32; 8]
     ensures { λ r. ⌜ r ≡ report-words report ⌝ }
 {
     [

@@ -2,6 +2,7 @@
 // An index is twelve words of 32 bits beside the six slices.
 mod deleting;
 mod guard_calls;
+mod guarded_delete;
 mod index_words;
 mod inserting;
 mod making;

@@ -21,9 +21,12 @@ use Rattle.updating.specs.declared.Inserted.the-variants.{Refused as not-insert
 use Rattle.updating.specs.declared.Deleted.{Deleted}
 use Rattle.updating.specs.declared.Deleted.the-variants.{Refused as not-deleted, Done as Emptied}
 use Rattle.updating.specs.Delete.{index-left, Deletes}
+use Rattle.guarding.specs.declared.Guarded.{Guarded}
+use Rattle.guarding.specs.declared.Guarded.the-variants.{Refused as not-guarded, Applied, Deferred}
+use Rattle.guarding.specs.Guarded.{index-kept, Guards}
 use Rattle.finder.specs.declared.deleting.Left.{Left}
 use Rattle.finder.specs.IndexWords.{index-of, words-of}
-use Rattle.finder.specs.Given.{deleted-put}
+use Rattle.finder.specs.Given.{deleted-put, guarded-put}
 
 -- the status of a making, and what is left in the index's words
 unfoldable pub created-put : Created → List ℕ → ℕ × List ℕ
@@ -78,4 +81,19 @@ pub record Leaves-stats (words : List ℕ) (s : Slices) (a : Delete) (room : ℕ
   pub told : (r .status, words′, found′) ≡ deleted-put answer words found
   pub held : index-of words′ ≡ index-left (index-of words) answer
   pub place : (r .at, r .count) ≡ stats-left answer (stats-at (index-of words .capacity))
+  pub inside : r .at + 4 * r .count ≤ length scratch′
+
+-- the same of a guarded delete
+unfoldable pub guarded-left : Guarded → ℕ → ℕ × ℕ
+guarded-left (not-guarded n) place = (0, 0)
+guarded-left (Applied i n v) place = (place, n)
+guarded-left (Deferred v) place = (0, 0)
+
+-- what `guarded_words` leaves: all that `finder_guarded_delete` promises but the records
+pub record Leaves-guarded (words : List ℕ) (s : Slices) (a : Delete) (room : ℕ) (checked lost scratch words′ : List ℕ) (s′ : Slices) (checked′ lost′ scratch′ : List ℕ) (found found′ : ℕ) (report report′ : List ℕ) (r : Left) : Type 0 where
+  pub answer : Guarded
+  pub does : Guards (index-of words) s a room checked lost scratch s′ checked′ lost′ scratch′ answer
+  pub told : (r .status, words′, found′, report′) ≡ guarded-put answer words found report
+  pub held : index-of words′ ≡ index-kept (index-of words) answer
+  pub place : (r .at, r .count) ≡ guarded-left answer (stats-at (index-of words .capacity))
   pub inside : r .at + 4 * r .count ≤ length scratch′
