@@ -78,13 +78,13 @@ impl Timed {
     #[cfg(feature = "delete")]
     fn delete(&mut self, ids: &[u32]) {
         let started = cpu();
-        let done = self.both.rust.delete(ids, 64, 2);
+        let done = self.both.rust.delete(ids, 64, 4);
         self.spent[0] += cpu() - started;
         let (mut stats, mut found) = (Lent::junk(4 * ids.len(), &mut self.rng), Lent::junk(1, &mut self.rng));
         let lent = self.both.six.lengths();
         let started = cpu();
         let refused = call!(
-            finder_delete, self.both, lent, ids.as_ptr(), ids.len(), 64, 2, stats.mut_ptr(), ids.len(), self.scratch.mut_ptr(), self.scratch.len(),
+            finder_delete, self.both, lent, ids.as_ptr(), ids.len(), 64, 4, stats.mut_ptr(), ids.len(), self.scratch.mut_ptr(), self.scratch.len(),
             found.mut_ptr()
         );
         self.spent[1] += cpu() - started;
@@ -214,11 +214,11 @@ fn insert() {
     }
 }
 
-/// Deletes slots drawn at random from a full index, with the Rust's own repair beam, twice the degree, and repair degree.
+/// Deletes slots drawn at random from a full index.
 #[cfg(feature = "delete")]
 fn delete() {
-    head("delete, repair beam 64, repair degree 2; time of one slot", "batches of", "slots");
-    for (capacity, parts) in [(1_000usize, [(1, 64), (16, 64), (256, 256)]), (20_000, [(1, 256), (16, 256), (256, 1_024)]), (65_536, [(1, 256), (16, 256), (256, 1_024)])] {
+    head("delete, repair beam 64, repair degree 4; time of one slot", "batches of", "slots");
+    for (capacity, parts) in [(20_000usize, [(1, 256), (64, 512), (256, 1_024)]), (65_536, [(1, 256), (64, 512), (256, 1_024)])] {
         let mut t = filled(capacity, &clustered(capacity));
         let mut slots: Vec<u32> = (0..capacity as u32).collect();
         for i in (1..capacity).rev() {
@@ -233,17 +233,17 @@ fn delete() {
     }
 }
 
-/// Enables the guard with the Rust's own settings on a full index, and assesses deletes of slots drawn at random.
+/// Enables the guard on a full index, and assesses deletes of slots drawn at random.
 #[cfg(feature = "guard")]
 fn guard() {
-    head("guard, settings 6, 4, 1024, 128; time of enabling it (0 ids) and of assessing a delete", "ids", "calls");
-    for capacity in [1_000usize, 20_000, 65_536] {
+    head("guard, settings 32, 4, 4096, 64; time of enabling it (0 ids) and of assessing a delete", "ids", "calls");
+    for capacity in [20_000usize, 65_536] {
         let mut t = filled(capacity, &clustered(capacity));
         for _ in 0..5 {
-            t.enable([6, 4, 1_024, 128]);
+            t.enable([32, 4, 4_096, 64]);
         }
         line(capacity, 0, 5, t.each(5));
-        for (count, calls) in [(1, 100), (16, 100), (256, 100)] {
+        for (count, calls) in [(1, 50), (64, 50)] {
             for _ in 0..calls {
                 let ids: Vec<u32> = (0..count).map(|_| t.rng.below(capacity as u32)).collect();
                 t.assess(&ids);
