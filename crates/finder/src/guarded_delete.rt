@@ -1,21 +1,26 @@
-// The guarded delete.
+// The guarded delete. As with `finder_delete`, the proof of `finder_guarded_delete` is by hand, so it only calls `guarded_words` and `write_stats`.
 use super::deleting::Left;
 use super::deleting::stats_place;
 use super::guard_calls::words_of_report;
 use super::index_words::index_from;
 use super::index_words::words_from;
+use deletion::DeleteStats;
+use deletion::write_stats;
 use guarding::Guarded;
 ghost use mathlib.Core.Bool.{not};
+ghost use mathlib.Core.List.{map};
 ghost use mathlib.Core.Path.{_≡_};
 ghost use Prim.Native.Nat.{ℕ};
 ghost use lib.Dec.{T};
 ghost use lib.Ieee.{isNan};
 ghost use Rattle.slots.specs.Sizes.{slices};
+ghost use Rattle.deletion.specs.Batch.{stats-in};
 ghost use Rattle.admission.specs.declared.report.Report.{Report};
 ghost use Rattle.index.specs.declared.Index.{Index};
 ghost use Rattle.updating.specs.Delete.{deleting};
 ghost use Rattle.guarding.specs.declared.Guarded.the-variants.{Applied};
-ghost use Rattle.finder.specs.Given.{guarded-put};
+ghost use Rattle.guarding.specs.Guarded.{guarded-outputs};
+ghost use Rattle.finder.specs.Given.{guarded-put, Guards-words};
 ghost use Rattle.finder.specs.contracts.Putting.{guarded-left, Leaves-guarded};
 
 // Writes the numbers of the report and how many slots are emptied; where the delete is applied, the words of the index without them too.
@@ -97,4 +102,49 @@ fn guarded_words(
         scratch,
     );
     put_guarded(answer, place, words, found, report)
+}
+
+// Deletes the live ones of `ids` if the guard admits it, which the report says; writes the report's numbers, the landmarks checked and lost, and how many
+// slots are emptied; where it is applied, also the stats of each to the front of `stats` and the index's words.
+#[no_mangle]
+pub extern "C" fn finder_guarded_delete(
+    words: &mut [u32; 12],
+    vectors: &[u8],
+    targets: &mut [u32],
+    edges: &mut [u16],
+    versions: &mut [u16],
+    marks: &mut [u8],
+    pool: &[u32],
+    ids: &[u32],
+    repair_beam: u32,
+    repair_degree: u32,
+    stats: &mut [DeleteStats],
+    checked: &mut [u32],
+    lost: &mut [u32],
+    scratch: &mut [u32],
+    found: &mut u32,
+    report: &mut [u32; 8],
+) -> u32
+    ensures { λ r. ⌜ Guards-words (now (words .entry)) (slices (now (vectors .entry)) (now (targets .entry)) (now (edges .entry)) (now (versions .entry)) (now (marks .entry)) (now (pool .entry))) (deleting (now (ids .entry)) «repair_beam» «repair_degree») (guarded-outputs (map stats-in (now (stats .entry))) (now (checked .entry)) (now (lost .entry))) (now (scratch .entry)) (now (words .exit)) (slices (now (vectors .entry)) (now (targets .exit)) (now (edges .exit)) (now (versions .exit)) (now (marks .exit)) (now (pool .entry))) (guarded-outputs (map stats-in (now (stats .exit))) (now (checked .exit)) (now (lost .exit))) (now (scratch .exit)) (now (found .entry)) (now (found .exit)) (now (report .entry)) (now (report .exit)) r ⌝ }
+{
+    let left = guarded_words(
+        words,
+        vectors,
+        targets,
+        edges,
+        versions,
+        marks,
+        pool,
+        ids,
+        repair_beam,
+        repair_degree,
+        stats.len(),
+        checked,
+        lost,
+        scratch,
+        found,
+        report,
+    );
+    write_stats(stats, scratch, left.at, left.count);
+    left.status
 }
