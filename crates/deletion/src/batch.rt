@@ -5,8 +5,22 @@ use slots::scratch::MARKS;
 ghost use mathlib.Core.Path.{_≡_};
 ghost use Prim.Native.Nat.{max};
 ghost use Rattle.slots.specs.Store.{arrays};
-ghost use Rattle.deletion.specs.Batch.{Deletable, BatchDeleted};
+ghost use Rattle.deletion.specs.Batch.{stats-at, Deletable, BatchDeleted};
 pub use super::acts::Emptied;
+
+// Of the region `work`: two words for each of 256 ids, four for its stats, and 640 for the candidates of its plan.
+const IDS_WORDS: usize = 512;
+
+const STATS_WORDS: usize = 1024;
+
+const PLANS_WORDS: usize = 163840;
+
+// Where a delete on an index of this capacity leaves its stats.
+pub fn stats_place(capacity: u32) -> usize
+    ensures { λ r. ⌜ r ≡ stats-at capacity ⌝ }
+{
+    MARKS + capacity as usize + IDS_WORDS
+}
 
 // The repair degree, at least 1.
 fn at_least_one(repair_degree: usize) -> usize
@@ -37,9 +51,9 @@ pub fn delete_batch(
         (arrays dim degree (now (vectors .entry)) (now (targets .exit)) (now (edges .exit)) (now (versions .exit)) (now (marks .exit))) (d .entry) (d .count) (now (scratch .exit)) ⌝ }
 {
     let from = MARKS + marks.len();
-    let stats = from + 512;
-    let plans = stats + 1024;
-    let base = plans + 163840;
+    let stats = from + IDS_WORDS;
+    let plans = stats + STATS_WORDS;
+    let base = plans + PLANS_WORDS;
     let d = mark_deleted(
         dim,
         degree,

@@ -7,5 +7,6 @@ mod stats;
 
 pub use batch::Emptied;
 pub use batch::delete_batch;
+pub use batch::stats_place;
 pub use stats::DeleteStats;
 pub use stats::write_stats;

@@ -2,6 +2,7 @@
 use super::index_words::index_from;
 use super::index_words::words_from;
 use deletion::DeleteStats;
+use deletion::stats_place;
 use deletion::write_stats;
 use updating::Deleted;
 ghost use mathlib.Core.Bool.{not};
@@ -11,7 +12,7 @@ ghost use Prim.Native.Nat.{ℕ};
 ghost use lib.Dec.{T};
 ghost use lib.Ieee.{isNan};
 ghost use Rattle.slots.specs.Sizes.{slices};
-ghost use Rattle.deletion.specs.Batch.{stats-at, stats-in};
+ghost use Rattle.deletion.specs.Batch.{stats-in};
 ghost use Rattle.index.specs.declared.Index.{Index};
 ghost use Rattle.updating.specs.declared.Deleted.the-variants.{Done};
 ghost use Rattle.updating.specs.Delete.{deleting, stats-outputs};
@@ -23,13 +24,6 @@ pub struct Left {
     pub status: u32,
     pub at: usize,
     pub count: usize,
-}
-
-// Where a delete leaves its stats.
-pub fn stats_place(capacity: u32) -> usize
-    ensures { λ r. ⌜ r ≡ stats-at capacity ⌝ }
-{
-    capacity as usize + 2560
 }
 
 // Writes the words of an index without the slots that are emptied, and how many they are.

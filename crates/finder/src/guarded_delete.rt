@@ -1,10 +1,10 @@
 // The guarded delete. As with `finder_delete`, the proof of `finder_guarded_delete` is by hand, so it only calls `guarded_words` and `write_stats`.
 use super::deleting::Left;
-use super::deleting::stats_place;
 use super::guard_calls::words_of_report;
 use super::index_words::index_from;
 use super::index_words::words_from;
 use deletion::DeleteStats;
+use deletion::stats_place;
 use deletion::write_stats;
 use guarding::Guarded;
 ghost use mathlib.Core.Bool.{not};
