@@ -15,7 +15,7 @@ use Rattle.vectors.specs.Distance.{f32}
 use Rattle.candidates.specs.Candidates.{Candidate}
 use Rattle.slots.specs.Sizes.{lengths-of, limits}
 use Rattle.slots.specs.Store.{Store, store-view}
-use Rattle.calls.specs.Calls.{Making, Search, Insert, Delete, Operation, create, read, read-vector, search, insert, delete, Answer, refused, created, alpha, vector, refused-as, Assess, enable, assess}
+use Rattle.calls.specs.Calls.{Making, Search, Insert, Delete, Operation, create, read, read-vector, search, insert, delete, Answer, refused, created, alpha, vector, refused-as, Assess, enable, assess, guarded-delete}
 use Rattle.guard.specs.Guard.{Config}
 use Rattle.admission.specs.declared.report.Report.{Report}
 use Rattle.calls.specs.Calls as Answers
@@ -46,8 +46,11 @@ use Rattle.updating.specs.Delete.{stats-outputs, deleted-as, index-left}
 use Rattle.repair.specs.Delete.{Stats}
 use Rattle.deletion.specs.Batch.{stats-of, stats-at}
 use Rattle.finder.specs.IndexWords.{index-of, words-of}
-use Rattle.finder.specs.Given.{created-given, Creates-words, value-in, bytes-at, Reads-length, Searches-words, inserted-given, Inserts-words, deleted-put, Deletes-words, standing-put, Stands-words, enabled-put, Enables-words, assessed-put, Assesses-words}
-use Rattle.exported.specs.Runs.{Memory, Places, places, nowhere, in-value, in-alpha, in-version, Exported-run, making, changing, looking, number, Exported, finder-create, finder-dim, finder-capacity, finder-degree, finder-entry, finder-live, finder-mark, finder-slot-version, finder-target, finder-alpha, finder-vector, finder-search, finder-insert, finder-delete, in-guard, finder-guard-enable, finder-guard-status, finder-assess}
+use Rattle.finder.specs.Given.{created-given, Creates-words, value-in, bytes-at, Reads-length, Searches-words, inserted-given, Inserts-words, deleted-put, Deletes-words, standing-put, Stands-words, enabled-put, Enables-words, assessed-put, Assesses-words, guarded-put, Guards-words}
+use Rattle.exported.specs.Runs.{Memory, Places, places, nowhere, in-value, in-alpha, in-version, Exported-run, making, changing, looking, number, Exported, finder-create, finder-dim, finder-capacity, finder-degree, finder-entry, finder-live, finder-mark, finder-slot-version, finder-target, finder-alpha, finder-vector, finder-search, finder-insert, finder-delete, in-guard, finder-guard-enable, finder-guard-status, finder-assess, finder-guarded-delete}
+use Rattle.guarding.specs.declared.Guarded.{Guarded}
+use Rattle.guarding.specs.declared.Guarded.the-variants.{Refused as not-guarded, Applied, Deferred}
+use Rattle.guarding.specs.Guarded.{guarded-outputs, guarded-as, index-kept}
 use Rattle.guarding.specs.declared.Standing.{Standing}
 use Rattle.guarding.specs.declared.Standing.the-variants.{Refused as no-status, Standing as Stands-so}
 use Rattle.guarding.specs.declared.Enabled.{Enabled}
@@ -531,6 +534,76 @@ module _ {lent left : Memory} {config : Config} {scratch scratch′ place place�
         makes = λ m q z. absurd (let z : _≡_ {A = ℕ} 0 1 = cc in omega arith);
       }
 
+-- ---- the guarded delete
+
+module _ {lent left : Memory} {a : Delete} {stats stats′ : List Stats} {checked checked′ lost lost′ scratch scratch′ place place′ : List ℕ} {found found′ status : ℕ}
+    (c : Guards-words (lent .words) (lent .slices) a (guarded-outputs stats checked lost) scratch (left .words) (left .slices) (guarded-outputs stats′ checked′ lost′) scratch′ found found′ place place′ status) where
+  abbrev guarded-run : Exported-run
+  guarded-run =
+      changing (guarded-delete a) lent left scratch scratch′ (places found (f32 0) 0 [] place (guarded-outputs stats checked lost)) (places found′ (f32 0) 0 [] place′ (guarded-outputs stats′ checked′ lost′)) status
+
+  abbrev guarded-answer : Answer
+  guarded-answer = guarded-as (c .answer) (c .does .stats) (c .does .report)
+
+  guarded-meets : Meets (as-run guarded-run guarded-answer)
+  guarded-meets =
+      subst Meets
+      (λ i. record {
+        operation = guarded-delete a;
+        before = state-in lent;
+        after = state-of (sym (c .held) i) (left .slices);
+        answer = guarded-answer;
+        outputs-before = guarded-outputs stats checked lost;
+        outputs-after = guarded-outputs (sym (c .listed) i .stats) checked′ lost′;
+        scratch-before = scratch;
+        scratch-after = scratch′;
+      })
+      (c .does .meets stats refl)
+
+  guarded-tells : (r : Guarded) (ts : List Stats) → (status, left .words, found′, place′) ≡ guarded-put r (lent .words) found place
+      → ((i : Index) (n : ℕ) (v : Report) → r ≡ Applied i n v → ts ≡ map (stats-of scratch′ (stats-at (index-of (lent .words) .capacity))) (range 0 n))
+      → ((i : Index) (n : ℕ) (v : Report) → r ≡ Applied i n v → v ≡ numbers-of (c .does .report)) → ((v : Report) → r ≡ Deferred v → v ≡ numbers-of (c .does .report))
+      → guarded-outputs stats′ checked′ lost′ ≡ written (guarded-as r ts (c .does .report)) (guarded-outputs stats checked lost)
+      → (status, places found′ (f32 0) 0 [] place′ (guarded-outputs stats′ checked′ lost′)) ≡ put (guarded-as r ts (c .does .report)) (places found (f32 0) 0 [] place (guarded-outputs stats checked lost))
+  unfolding put written guarded-put guarded-as
+  guarded-tells (not-guarded n) ts e w g h o = λ i. (e i .0, places (e i .2) (f32 0) 0 [] (e i .3) (o i))
+  guarded-tells (Applied j n v) ts e w g h o =
+      let many : length ts ≡ n = ap length (w j n v refl) ∙ length-map (range 0 n) (stats-of scratch′ (stats-at (index-of (lent .words) .capacity))) ∙ length-range 0 n in
+      let f = ap (λ x. x .2) e ∙ sym many in
+      let p = ap (λ x. x .3) e ∙ ap report-words (g j n v refl) in
+      λ i. (e i .0, places (f i) (f32 0) 0 [] (p i) (o i))
+  guarded-tells (Deferred v) ts e w g h o =
+      let p = ap (λ x. x .3) e ∙ ap report-words (h v refl) in
+      λ i. (e i .0, places (e i .2) (f32 0) 0 [] (p i) (o i))
+
+  guarded-words-kept : (n : ℕ) → run-refusal (as-run guarded-run guarded-answer) ≡ some n → left .words ≡ lent .words
+  unfolding run-refusal call-of step settle refused-as guarded-put guarded-as
+  guarded-words-kept n h = go (c .answer) (c .told) told
+    where
+      x : Runs.Run
+      x = as-run guarded-run guarded-answer
+
+      told : guarded-answer ≡ refused n
+      told = ap (λ (y : State Store × Answer). y .1) (guarded-meets .does ∙ ap (settle stored (x .before) (call-of x)) h)
+
+      go : (r : Guarded) → (status, left .words, found′, place′) ≡ guarded-put r (lent .words) found place → guarded-as r (c .does .stats) (c .does .report) ≡ refused n → left .words ≡ lent .words
+      go (not-guarded m) e g = ap (λ x. x .1) e
+      go (Applied j m v) e g = absurd (let z : _≡_ {A = ℕ} 0 1 = cc in omega arith)
+      go (Deferred v) e g = ap (λ x. x .1) e
+
+  guarded-right : (r : Guarded) → (status, left .words, found′, place′) ≡ guarded-put r (lent .words) found place → index-of (left .words) ≡ index-kept (index-of (lent .words)) r → Right lent → Right left
+  unfolding guarded-put index-kept
+  guarded-right (not-guarded n) e g h = subst (λ w. w ≡ words-of (index-of w)) (sym (ap (λ x. x .1) e)) h
+  guarded-right (Applied j n v) e g h = ap (λ x. x .1) e ∙ ap words-of (sym g)
+  guarded-right (Deferred v) e g h = subst (λ w. w ≡ words-of (index-of w)) (sym (ap (λ x. x .1) e)) h
+
+  known-guarded : Known guarded-run
+  unfolding put refused-as
+  known-guarded =
+      known-changing (λ m e. let z : _≡_ {A = ℕ} 0 1 = cc in omega arith) guarded-answer guarded-meets
+      (guarded-tells (c .answer) (c .does .stats) (c .told) (c .does .words) (c .does .numbers-applied) (c .does .numbers-deferred) (c .listed))
+      (λ n. refl) guarded-words-kept (guarded-right (c .answer) (c .told) (c .held))
+
 -- ---- every exported function
 
 pub known : {r : Exported-run} → Exported r → Known r
@@ -552,3 +625,4 @@ known (finder-delete stats stats′ c) = known-delete c
 known (finder-guard-enable c) = known-enable c
 known (finder-guard-status c) = known-status c
 known (finder-assess c) = known-assess c
+known (finder-guarded-delete stats stats′ c) = known-guarded c

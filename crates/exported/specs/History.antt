@@ -92,9 +92,8 @@ put (inserted ss) o = (0, places (length ss) (o .alpha) (o .version) (o .bytes) 
 put (deleted ts) o = (0, places (length ts) (o .alpha) (o .version) (o .bytes) (o .guard) (written (deleted ts) (o .outputs)))
 put (standing s) o = (0, places (o .value) (o .alpha) (o .version) (o .bytes) (status-words s) (o .outputs))
 put (assessed r) o = (0, places (o .value) (o .alpha) (o .version) (o .bytes) (report-words (numbers-of r)) (written (assessed r) (o .outputs)))
--- no exported function answers so yet
-put (applied ts r) o = (0, o)
-put (deferred r) o = (0, o)
+put (applied ts r) o = (0, places (length ts) (o .alpha) (o .version) (o .bytes) (report-words (numbers-of r)) (written (applied ts r) (o .outputs)))
+put (deferred r) o = (0, places 0 (o .alpha) (o .version) (o .bytes) (report-words (numbers-of r)) (written (deferred r) (o .outputs)))
 
 -- the twelve words
 unfoldable pub words-in : State View → List ℕ

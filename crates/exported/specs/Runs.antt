@@ -5,7 +5,7 @@ use mathlib.Core.List.{List, [], map}
 use lib.Ieee.{Float}
 use Rattle.vectors.specs.Distance.{f32}
 use Rattle.slots.specs.Sizes.{Slices}
-use Rattle.calls.specs.Calls.{Making, read-dim, read-capacity, read-degree, read-alpha, read-entry, read-live, read-mark, read-version, read-target, Search, Insert, Delete, Operation, create, read, read-vector, search, insert, delete, Assess, enable, assess}
+use Rattle.calls.specs.Calls.{Making, read-dim, read-capacity, read-degree, read-alpha, read-entry, read-live, read-mark, read-version, read-target, Search, Insert, Delete, Operation, create, read, read-vector, search, insert, delete, Assess, enable, assess, guarded-delete}
 use Rattle.guard.specs.Guard.{Config}
 use Rattle.calls.specs.Calls as Calls
 use Rattle.calls.specs.Outputs.{Outputs, no-outputs}
@@ -15,8 +15,9 @@ use Rattle.updating.specs.Insert.{insert-outputs}
 use Rattle.updating.specs.Delete.{stats-outputs}
 use Rattle.deletion.specs.declared.stats.DeleteStats.{DeleteStats}
 use Rattle.deletion.specs.Batch.{stats-in}
-use Rattle.finder.specs.Given.{Creates-words, Reads-number, Reads-alpha, bytes-at, Reads-length, Searches-words, Inserts-words, Deletes-words, Stands-words, Enables-words, Assesses-words}
+use Rattle.finder.specs.Given.{Creates-words, Reads-number, Reads-alpha, bytes-at, Reads-length, Searches-words, Inserts-words, Deletes-words, Stands-words, Enables-words, Assesses-words, Guards-words}
 use Rattle.guarding.specs.Guarding.{report-outputs}
+use Rattle.guarding.specs.Guarded.{guarded-outputs}
 
 -- an index as the app holds it: its twelve words and its six slices
 pub record Memory : Type 0 where
@@ -120,3 +121,6 @@ pub data Exported : Exported-run → Type 0 where
   finder-assess : {lent : Memory} {a : Assess} {checked checked′ lost lost′ scratch scratch′ place place′ : List ℕ} {status : ℕ}
       → Assesses-words (lent .words) (lent .slices) a (report-outputs checked lost) scratch (report-outputs checked′ lost′) scratch′ place place′ status
       → Exported (looking (assess a) lent scratch scratch′ (in-guard place (report-outputs checked lost)) (in-guard place′ (report-outputs checked′ lost′)) status)
+  finder-guarded-delete : {lent left : Memory} {a : Delete} (stats stats′ : List DeleteStats) {checked checked′ lost lost′ scratch scratch′ place place′ : List ℕ} {found found′ status : ℕ}
+      → Guards-words (lent .words) (lent .slices) a (guarded-outputs (map stats-in stats) checked lost) scratch (left .words) (left .slices) (guarded-outputs (map stats-in stats′) checked′ lost′) scratch′ found found′ place place′ status
+      → Exported (changing (guarded-delete a) lent left scratch scratch′ (places found (f32 0) 0 [] place (guarded-outputs (map stats-in stats) checked lost)) (places found′ (f32 0) 0 [] place′ (guarded-outputs (map stats-in stats′) checked′ lost′)) status)
