@@ -59,8 +59,10 @@ extern "C" {
 #define FINDER_MAX_MULTIPLIER 16
 #define FINDER_MAX_SAMPLE 65536
 
-/* The most ids that a delete names. */
+/* The most ids that a delete names, and its largest repair beam and repair degree, in each of which 0 acts as 1. */
 #define FINDER_MAX_IDS 256
+#define FINDER_MAX_REPAIR_BEAM 256
+#define FINDER_MAX_REPAIR_DEGREE 16
 
 /* The six slices, as every function takes them that only reads them. */
 #define FINDER_LENT \
@@ -75,7 +77,7 @@ extern "C" {
 #define FINDER_TOO_MANY 4       /* more vectors are given than there are slots */
 #define FINDER_BAD_GIVEN 5      /* a given row names neither blank nor a given slot, or the entry is not given (0 where none is given) */
 #define FINDER_BAD_INDEX 6      /* the live count differs from the marks, the entry is not below capacity, or the guard is on with a setting or a pool outside its range */
-#define FINDER_OVER_LIMIT 7     /* a beam or a setting of the guard over its limit, k over the length of an output, or more than FINDER_MAX_IDS ids */
+#define FINDER_OVER_LIMIT 7     /* a beam, a repair degree or a setting of the guard over its limit, k over the length of an output, or more than FINDER_MAX_IDS ids */
 #define FINDER_SHORT_SCRATCH 8  /* the scratch is shorter than finder_scratch_words says */
 #define FINDER_BAD_BATCH 9      /* the bytes to be inserted are no whole number of vectors */
 #define FINDER_FULL 10          /* fewer slots are free than vectors are to be inserted */
@@ -163,6 +165,30 @@ uint32_t finder_insert(uint32_t words[FINDER_INDEX_WORDS],
     const uint16_t *versions, size_t versions_len, uint8_t *marks, size_t marks_len, const uint32_t *pool, size_t pool_len,
     const uint8_t *bytes, size_t bytes_len, uint32_t beam,
     uint32_t *slots, size_t slots_len, uint32_t *scratch, size_t scratch_len,
+    uint32_t *found);
+
+/* The counts of one slot that a delete emptied. */
+struct finder_stats {
+    uint32_t outgoing_seeds;         /* the live targets of its row, as they stood before */
+    uint32_t recovered_in_neighbors; /* the slots of a walk to its vector whose row held it */
+    uint32_t repair_candidates;      /* how many of both, each counted once, stay live */
+    uint32_t repair_edges_attempted; /* the links put between them, one each way */
+};
+
+/*
+ * Deletes the slots that ids name and repairs the rows around them; an id that is dead or outside, or that stood there before, is skipped. The slots are
+ * emptied in rising order: their marks are cleared, the live ones that were near are linked with each other (by walks with a list of at most repair_beam
+ * slots, and with at most repair_degree links for each), their rows are emptied and their versions step on by 1 (after 65,535 comes 0), which outdates
+ * what still refers to them. Where the entry is deleted, the lowest live slot becomes the entry; if none is left it stays. The guard is not asked. The
+ * number of the slots is written to *found and their counts to the first *found places of stats, in the order of the slots; the places after them stay.
+ * The words get the new live count and entry; vectors and pool are only read. The scratch is overwritten.
+ * Refusals, in order: 1, 2, 3 (one of the six slices, or fewer places in stats than ids), 6, 7, 8.
+ */
+uint32_t finder_delete(uint32_t words[FINDER_INDEX_WORDS],
+    const uint8_t *vectors, size_t vectors_len, uint32_t *targets, size_t targets_len, uint16_t *edges, size_t edges_len,
+    uint16_t *versions, size_t versions_len, uint8_t *marks, size_t marks_len, const uint32_t *pool, size_t pool_len,
+    const uint32_t *ids, size_t ids_len, uint32_t repair_beam, uint32_t repair_degree,
+    struct finder_stats *stats, size_t stats_len, uint32_t *scratch, size_t scratch_len,
     uint32_t *found);
 
 /*

@@ -106,9 +106,10 @@ static int search(void)
     return 0;
 }
 
-/* Five and eight words, as the library writes them. */
-_Static_assert(sizeof(finder_guard_status_words) == 5 * sizeof(uint32_t), "five words");
-_Static_assert(sizeof(finder_report_words) == 8 * sizeof(uint32_t), "eight words");
+/* Five, eight and four words, as the library writes them. */
+_Static_assert(sizeof(struct finder_guard_status) == 5 * sizeof(uint32_t), "five words");
+_Static_assert(sizeof(struct finder_report) == 8 * sizeof(uint32_t), "eight words");
+_Static_assert(sizeof(struct finder_stats) == 4 * sizeof(uint32_t), "four words");
 
 /* The guard: landmarks are slot 2 and then slot 0; without slot 1 a walk from slot 0 meets no slot 2. */
 static int guard(void)
@@ -174,6 +175,40 @@ static int insert(void)
     return 0;
 }
 
+/* Slot 1, which is the entry: slots 0 and 3 were in its row, and the walk finds slot 0, whose row held it. */
+static int delete(void)
+{
+    static const uint32_t ids[3] = { 1, 9, 1 };
+    static const uint32_t left[CAPACITY][3] = { { 1, 3, FINDER_BLANK }, { 0, FINDER_BLANK, FINDER_BLANK }, { 1, 3, FINDER_BLANK }, { 1, 2, 0 } };
+    uint32_t size = 0;
+    uint32_t found = 77;
+    uint32_t n = 77;
+    CHECK(finder_scratch_words(DIM, CAPACITY, DEGREE, &size) == 0);
+    struct finder_stats *stats = block(3 * sizeof *stats);
+    uint32_t *scratch = block(size * sizeof *scratch);
+    stats[0].outgoing_seeds = 77;
+    stats[1].outgoing_seeds = 77;
+    CHECK(finder_delete(words, SLICES, ids, 3, 2, 1, stats, 2, scratch, size, &found) == FINDER_BAD_LENGTH);
+    CHECK(finder_delete(words, SLICES, ids, 3, 2, FINDER_MAX_REPAIR_DEGREE + 1, stats, 3, scratch, size, &found) == FINDER_OVER_LIMIT);
+    CHECK(found == 77 && stats[0].outgoing_seeds == 77 && marks[1] != 0 && words[5] == CAPACITY);
+    CHECK(finder_delete(words, SLICES, ids, 3, 2, 1, stats, 3, scratch, size, &found) == 0 && found == 1);
+    CHECK(stats[0].outgoing_seeds == 2 && stats[0].recovered_in_neighbors == 1 && stats[0].repair_candidates == 2 && stats[0].repair_edges_attempted == 2);
+    CHECK(stats[1].outgoing_seeds == 77);
+    CHECK(finder_entry(words, SLICES, &n) == 0 && n == 0);
+    CHECK(finder_live(words, SLICES, &n) == 0 && n == COUNT);
+    for (uint32_t slot = 0; slot < CAPACITY; slot++) {
+        CHECK(finder_mark(words, SLICES, slot, &n) == 0 && n == left[slot][0]);
+        CHECK(finder_slot_version(words, SLICES, slot, &n) == 0 && n == (slot == 1));
+        CHECK(finder_target(words, SLICES, slot, 0, &n) == 0 && n == left[slot][1]);
+        CHECK(finder_target(words, SLICES, slot, 1, &n) == 0 && n == left[slot][2]);
+    }
+    printf("slot 1 is deleted: entry %u, %u links\n", (unsigned)words[4], (unsigned)stats[0].repair_edges_attempted);
+    CHECK(finder_delete(words, SLICES, ids, 3, 2, 1, stats, 3, scratch, size, &found) == 0 && found == 0);
+    free(stats);
+    free(scratch);
+    return 0;
+}
+
 static int refuse(void)
 {
     uint32_t n = 77;
@@ -182,7 +217,7 @@ static int refuse(void)
     words[5] = 2;
     CHECK(finder_dim(words, SLICES, &n) == FINDER_BAD_INDEX && n == 77);
     CHECK(finder_vector(words, SLICES, 2) == 0);
-    printf("an index with a live count of 2 and four marks: refused with %d\n", FINDER_BAD_INDEX);
+    printf("an index with a live count of 2 and three marks: refused with %d\n", FINDER_BAD_INDEX);
     words[3] = 0x7fc00000u;
     CHECK(finder_dim(words, SLICES, &n) == FINDER_BAD_ALPHA && n == 77);
     return 0;
@@ -193,7 +228,7 @@ int main(void)
     lend();
     CHECK(make(3.0f) == FINDER_BAD_ALPHA);
     CHECK(make(1.0f) == 0);
-    int wrong = read_all() || search() || guard() || insert() || refuse();
+    int wrong = read_all() || search() || guard() || insert() || delete() || refuse();
     take_back();
     return wrong;
 }

@@ -23,7 +23,7 @@ pub enum Error {
     Given = 5,
     /// The live count differs from the marks, the entry is outside, or the guard has a fault.
     Index = 6,
-    /// A beam or a setting of the guard over its limit, more asked for than the outputs hold, or too many ids.
+    /// A beam, a repair degree or a setting of the guard over its limit, more asked for than the outputs hold, or too many ids.
     Limit = 7,
     /// The scratch is too short.
     Scratch = 8,
@@ -87,6 +87,26 @@ impl GuardStatus {
             live_landmarks: words.live_landmarks,
             landmark_count: words.landmark_count,
             beam: words.beam,
+        }
+    }
+}
+
+/// The counts of one slot that a delete emptied.
+#[derive(Clone, Debug, PartialEq, Eq)]
+pub struct DeleteStats {
+    pub outgoing_seeds: u32,
+    pub recovered_in_neighbors: u32,
+    pub repair_candidates: u32,
+    pub repair_edges_attempted: u32,
+}
+
+impl DeleteStats {
+    fn of(words: raw::StatsWords) -> DeleteStats {
+        DeleteStats {
+            outgoing_seeds: words.outgoing_seeds,
+            recovered_in_neighbors: words.recovered_in_neighbors,
+            repair_candidates: words.repair_candidates,
+            repair_edges_attempted: words.repair_edges_attempted,
         }
     }
 }
@@ -319,6 +339,42 @@ impl Finder {
         Ok(slots)
     }
 
+    /// Deletes the live slots that the ids name and repairs the rows around them; gives the counts of each, in the order of the slots.
+    pub fn delete(&mut self, ids: &[u32], repair_beam: u32, repair_degree: u32) -> Result<Vec<DeleteStats>, Error> {
+        let mut stats = vec![raw::StatsWords::default(); ids.len()];
+        let mut found = 0;
+        // SAFETY: each pointer is that of a whole slice with its length, and what is written is borrowed by this call alone.
+        let status = unsafe {
+            raw::finder_delete(
+                &mut self.words,
+                self.vectors.as_ptr(),
+                self.vectors.len(),
+                self.targets.as_mut_ptr(),
+                self.targets.len(),
+                self.edges.as_mut_ptr(),
+                self.edges.len(),
+                self.versions.as_mut_ptr(),
+                self.versions.len(),
+                self.marks.as_mut_ptr(),
+                self.marks.len(),
+                self.pool.as_ptr(),
+                self.pool.len(),
+                ids.as_ptr(),
+                ids.len(),
+                repair_beam,
+                repair_degree,
+                stats.as_mut_ptr(),
+                stats.len(),
+                self.scratch.as_mut_ptr(),
+                self.scratch.len(),
+                &mut found,
+            )
+        };
+        Error::of(status)?;
+        stats.truncate(found as usize);
+        Ok(stats.into_iter().map(DeleteStats::of).collect())
+    }
+
     /// Enables the guard, which may be on already; a setting of 0 acts as 1.
     pub fn enable_guard(&mut self, landmark_count: u32, multiplier: u32, sample: u32, beam: u32) -> Result<GuardStatus, Error> {
         let mut status = raw::GuardStatusWords::default();
@@ -431,6 +487,25 @@ mod tests {
         let mut pairs = Finder::create(2, 4, 2, 1.0, 0, 0, &[], &[]).unwrap();
         assert_eq!(pairs.insert(&[1, 2, 3], 4), Err(Error::Batch));
         assert_eq!(pairs.insert(&[1, 2, 3, 4], 4), Ok(vec![0, 1]));
+    }
+
+    #[test]
+    fn deletes() {
+        let mut f = shelf();
+        assert_eq!(f.insert(&[6], 2), Ok(vec![3]));
+        assert_eq!(f.delete(&[1], 257, 1), Err(Error::Limit));
+        assert_eq!(f.delete(&[0; 257], 2, 1), Err(Error::Limit));
+        assert_eq!((f.live(), f.entry(), f.slot_version(1)), (Ok(4), Ok(1), Ok(0)));
+        let counts = DeleteStats { outgoing_seeds: 2, recovered_in_neighbors: 1, repair_candidates: 2, repair_edges_attempted: 2 };
+        assert_eq!(f.delete(&[1, 9, 1], 2, 1), Ok(vec![counts]));
+        assert_eq!((f.live(), f.entry(), f.mark(1), f.slot_version(1)), (Ok(3), Ok(0), Ok(false), Ok(1)));
+        assert_eq!((f.target(3, 0), f.target(3, 1), f.target(1, 0)), (Ok(Some(2)), Ok(Some(0)), Ok(None)));
+        assert_eq!(f.search(&[3], 3, 3), Ok(vec![(0, 9.0), (3, 9.0), (2, 49.0)]));
+        assert_eq!(f.delete(&[1], 2, 1), Ok(vec![]));
+        let mut f = shelf();
+        assert_eq!(f.delete(&[2, 0, 1], 2, 1).map(|s| s.len()), Ok(3));
+        assert_eq!((f.live(), f.entry()), (Ok(0), Ok(1)));
+        assert_eq!((f.insert(&[7], 2), f.search(&[7], 1, 1)), (Ok(vec![0]), Ok(vec![])));
     }
 
     #[test]

@@ -30,6 +30,15 @@ pub struct ReportWords {
     pub supplemental: u32,
 }
 
+#[repr(C)]
+#[derive(Clone, Default)]
+pub struct StatsWords {
+    pub outgoing_seeds: u32,
+    pub recovered_in_neighbors: u32,
+    pub repair_candidates: u32,
+    pub repair_edges_attempted: u32,
+}
+
 extern "C" {
     pub fn finder_scratch_words(dim: u32, capacity: u32, degree: u32, size: *mut u32) -> u32;
 
@@ -78,6 +87,31 @@ extern "C" {
         beam: u32,
         slots: *mut u32,
         slots_len: usize,
+        scratch: *mut u32,
+        scratch_len: usize,
+        found: *mut u32,
+    ) -> u32;
+
+    pub fn finder_delete(
+        words: *mut IndexWords,
+        vectors: *const u8,
+        vectors_len: usize,
+        targets: *mut u32,
+        targets_len: usize,
+        edges: *mut u16,
+        edges_len: usize,
+        versions: *mut u16,
+        versions_len: usize,
+        marks: *mut u8,
+        marks_len: usize,
+        pool: *const u32,
+        pool_len: usize,
+        ids: *const u32,
+        ids_len: usize,
+        repair_beam: u32,
+        repair_degree: u32,
+        stats: *mut StatsWords,
+        stats_len: usize,
         scratch: *mut u32,
         scratch_len: usize,
         found: *mut u32,
