@@ -12,7 +12,7 @@ import sys
 ROOT = os.path.dirname(os.path.dirname(os.path.dirname(os.path.abspath(__file__))))
 COPY = os.path.join(ROOT, "target", "replay-faults")
 CRATES = os.path.join(COPY, "crates")
-COMPARE, MAKING, INSERTING = "replay/src/compare.rt", "changes/src/making.rt", "changes/src/inserting.rt"
+COMPARE, MAKING, INSERTING, DELETING, SAME = ("%s.rt" % f for f in ("replay/src/compare", "changes/src/making", "changes/src/inserting", "changes/src/deleting", "changes/src/same"))
 FAULTS = [
     ("read: number with itself", COMPARE, "refusal == 0 && n == value,", "refusal == 0 && n == n,"),
     ("read: alpha with itself", COMPARE, "a == alpha_of(value)", "a == a"),
@@ -34,14 +34,22 @@ FAULTS = [
     ("make: refusal with itself", MAKING, "new.good = m.good && r == m.refusal", "new.good = m.good && r == r"),
     ("make: refusal not looked at where carried out", MAKING, "new.good = m.good && m.refusal == 0", "new.good = m.good"),
     ("make: form of the line not looked at", MAKING, "good: ends(line, refusal),", "good: true,"),
-    ("insert: slot with itself", INSERTING, "slots[i] == slot", "slots[i] == slots[i]"),
-    ("insert: slots not looked at", INSERTING, "n == count.value && same_slots(line, count, slots)", "n == count.value"),
-    ("insert: count with itself", INSERTING, "n == count.value && same_slots", "n == n && same_slots"),
+    ("insert, delete: word with itself", SAME, "words[i] == word", "words[i] == words[i]"),
+    ("insert, delete: end of line not looked at", SAME, "    ends(line, last)\n", "    true\n"),
+    ("insert: slots not looked at", INSERTING, "n == count.value && same_words(line, count, wide(n), slots)", "n == count.value"),
+    ("insert: count with itself", INSERTING, "n == count.value && same_words(line, count, wide(n)", "n == n && same_words(line, count, wide(count.value)"),
     ("insert: refusal with itself", INSERTING, "r == refusal.value && ends(line, refusal)", "r == r && ends(line, refusal)"),
     ("insert: end of a refused line not looked at", INSERTING, "r == refusal.value && ends(line, refusal)", "r == refusal.value"),
     ("insert: refusal not looked at where carried out", INSERTING, "refusal.value == 0 && n == count.value", "n == count.value"),
-    ("insert: end of line not looked at", INSERTING, "    ends(line, last)\n", "    true\n"),
-    ("insert: the index not taken over", INSERTING, "            new.index = index;\n", ""),
+    ("insert: the index not taken over", INSERTING, "new.index = index;", "new.index = step.index;"),
+    ("delete: stats not looked at", DELETING, "        && same_words(line, count, stats_words(n), &scratch[at..])\n", ""),
+    ("delete: stats of another place", DELETING, "+ 2560", "+ 2564"),
+    ("delete: a record has three counts", DELETING, "n as usize * 4", "n as usize * 3"),
+    ("delete: count with itself", DELETING, "n == count.value", "n == n"),
+    ("delete: refusal with itself", DELETING, "r == refusal.value && ends(line, refusal)", "r == r && ends(line, refusal)"),
+    ("delete: end of a refused line not looked at", DELETING, "r == refusal.value && ends(line, refusal)", "r == refusal.value"),
+    ("delete: refusal not looked at where carried out", DELETING, "refusal.value == 0\n        && n", "n"),
+    ("delete: the index not taken over", DELETING, "new.index = index;", "new.index = step.index;"),
 ]
 
 
@@ -54,7 +62,7 @@ def main():
     shutil.rmtree(COPY, ignore_errors=True)
     shutil.copytree(os.path.join(ROOT, "crates"), os.path.join(COPY, "crates"))
     shutil.copy(os.path.join(ROOT, "crates.txt"), COPY)
-    code = {file: open(os.path.join(CRATES, file)).read() for file in (COMPARE, MAKING, INSERTING)}
+    code = {file: open(os.path.join(CRATES, file)).read() for file in (COMPARE, MAKING, INSERTING, DELETING, SAME)}
     if not as_expected():
         sys.exit("without a fault replay prints something else")
     unseen = 0

@@ -2,9 +2,9 @@
 """make.py ORACLE LIST PRINTED
 
 Drives the Rust (compare/rust, variant `sorted`) through random histories and writes them with its answers to LIST, which the
-program `replay` performs. Deletes are no lines of the list yet: after them the Rust's dump is made and stored in the list. The Rust
-gives answers; the refusals that only the port has are worked out here, from document 01's table. Some lines are made wrong on
-purpose (`spoil`); PRINTED is what `replay` must print: the number of each of these, and the counts.
+program `replay` performs. The Rust gives answers; the refusals that only the port has are worked out here, from document 01's
+table. Some lines are made wrong on purpose (`spoil`); PRINTED is what `replay` must print: the number of each of these, and the
+counts.
 """
 import subprocess
 import sys
@@ -155,6 +155,13 @@ class Book:
             return 9
         return 10 if given // dim > self.sizes[1] - self.live else 0
 
+    def delete_refusal(self, beam, degree, ids):
+        if refused := self.refusal(self.lent[6] < ids):
+            return refused
+        if beam > 256 or degree > 16 or ids > 256:
+            return 7
+        return self.short_scratch()
+
     def short_scratch(self):
         return 8 if self.lent[8] < scratch_words(self.sizes[1]) else 0
 
@@ -190,7 +197,7 @@ class List:
 
     def printed(self):
         """What `replay` must print."""
-        counts = [(kind, self.agreed[kind]) for kind in ("make", "read", "vector", "search", "words", "insert")]
+        counts = [(kind, self.agreed[kind]) for kind in ("make", "read", "vector", "search", "words", "insert", "delete")]
         counts += [("lines", self.lines), ("differences", len(self.wrong))]
         return ["differs %d" % n for n in self.wrong] + ["%s %d" % c for c in counts]
 
@@ -268,40 +275,56 @@ class List:
         b.live, b.marked = b.live + len(vectors), b.marked + len(vectors)
         self.put("insert", beam, 0, *slots)
 
-    # ------------------------------------------------------------ an index as the Rust holds it
+    def delete(self, beam, degree, ids):
+        """Deletes these ids, on the Rust too where it is not refused."""
+        b = self.book
+        change, self.change, self.rows = self.change, None, ids
+        self.put("rows", len(ids), *[(i + 1) % 2**32 for i in ids])
+        self.change = change
+        if refused := b.delete_refusal(beam, degree, len(ids)):
+            return self.put("delete", beam, degree, refused)
+        asked = " ".join(str(w) for w in ["delete", beam, degree] + ids)
+        answer, *head = self.oracle.answers([asked, "shelf"])
+        self.oracle.call(asked)
+        stats = [x for record in answer.split()[2:] for x in record.split(",")]
+        entry, live = [int(x) for x in head[0].split()[1::2]]
+        b.entry, b.live, b.marked = entry, live, live
+        self.put("delete", beam, degree, 0, answer.split()[1], *stats)
 
-    def copy(self, dump, most=2048):
-        """Makes the dumped index: slots up to the highest used as given, and what making cannot give stored by hand."""
-        dim, capacity, degree = dump.sizes
-        used = [i for i, s in enumerate(dump.slots) if s.used()]
-        count = 1 + max((i for i in used if i < most), default=-1)
-        self.lend_for(dump.sizes)
-        rows = [t for s in dump.slots[:count] for t, _ in s.edges]
-        self.give([v for s in dump.slots[:count] for v in s.vector], [t if t < count else BLANK for t in rows])
-        entry = dump.entry if dump.entry < count else 0
-        if self.make(dump.sizes, dump.alpha, entry, count):
-            sys.exit("a dump that cannot be made")
-        for i in sorted(set(range(count)) | set(used)):
-            self.amend(i, dump.slots[i], i < count, count, dim, degree)
-        if dump.entry != entry:
-            self.set(4, dump.entry)
-        if dump.live != count:
-            self.set(5, dump.live)
-        self.book.marked = dump.live
+    def begin(self, sizes, alpha, entry, vectors, rows):
+        """Makes an index of these vectors and rows, on the Rust too."""
+        bits = "0x%08x" % (0x3F800000 + (alpha - ONE) // 2)
+        words = ["x" + bytes(v).hex() for v in vectors] + [",".join("-" if t == BLANK else str(t) for t in row) for row in rows]
+        self.oracle.call("make", *sizes, bits, entry, len(vectors), *words)
+        self.lend_for(sizes)
+        self.give([x for v in vectors for x in v], [t for row in rows for t in row])
+        if self.make(sizes, alpha, entry, len(vectors)):
+            sys.exit("a making that is refused")
 
-    def amend(self, i, slot, given, count, dim, degree):
-        if slot.mark != given:
-            self.store(0, i, slot.mark)
-        if slot.version:
-            self.store(1, i, slot.version)
-        for place, (target, version) in enumerate(slot.edges):
-            if target != BLANK and not (given and target < count):
-                self.store(2, i * degree + place, target)
-            if version:
-                self.store(3, i * degree + place, version)
-        for place, value in enumerate(slot.vector):
-            if value and not given:
-                self.store(4, i * dim + place, value)
+    # ------------------------------------------------------------ stored state, altered by hand on both sides
+
+    def put_version(self, slot, version):
+        self.oracle.call("setversion", slot, version)
+        self.store(1, slot, version)
+
+    def put_edge(self, slot, place, target, version):
+        self.oracle.call("setedge", slot, place, "-" if target == BLANK else target, version)
+        at = slot * self.book.sizes[2] + place
+        self.store(2, at, target)
+        self.store(3, at, version)
+
+    def put_marks(self, marks):
+        for slot, mark in marks:
+            self.oracle.call("setmark", slot, mark)
+            self.store(0, slot, mark)
+        self.set(5, self.oracle.dump().live)
+        self.book.marked = self.book.live
+
+    def put_entry(self, slot):
+        self.oracle.call("setentry", slot)
+        self.set(4, slot)
+
+    # ------------------------------------------------------------ readings of an index as the Rust holds it
 
     def read_sizes(self, dump):
         for what, value in enumerate(dump.sizes + [dump.alpha, dump.entry, dump.live]):
@@ -329,16 +352,11 @@ class List:
 
 
 class History:
-    """Random calls to the Rust and in the list. `apart`: the Rust made a call alone, so that its index is to be copied before the list goes on."""
+    """Random calls to the Rust and in the list."""
 
     def __init__(self, out, dim, capacity, degree, alpha, values):
         self.out, self.oracle, self.random = out, out.oracle, out.random
-        self.sizes, self.alpha, self.values, self.apart = [dim, capacity, degree], alpha, values, True
-
-    def join(self):
-        if self.apart:
-            self.out.copy(self.oracle.dump())
-            self.apart = False
+        self.sizes, self.alpha, self.values = [dim, capacity, degree], alpha, values
 
     def vector(self):
         step = 255 // (self.values - 1)
@@ -350,67 +368,52 @@ class History:
         return [BLANK if self.random.below(4) < blanks else self.random.below(count) for _ in range(self.sizes[2])]
 
     def make(self, count):
-        vectors = [bytes(self.vector()).hex() for _ in range(count)]
-        rows = [",".join("-" if t == BLANK else str(t) for t in self.row(count)) for _ in range(count)]
-        ends = [i for i, row in enumerate(rows) if set(row) <= set("-,")]
-        entry = self.random.pick([i for i in range(count) if i not in ends] or [0])
-        alpha = "0x%08x" % (0x3F800000 + (self.alpha - ONE) // 2)
-        self.oracle.call("make", *self.sizes, alpha, entry, count, *["x" + v for v in vectors], *rows)
-        self.apart = True
+        vectors = [self.vector() for _ in range(count)]
+        rows = [self.row(count) for _ in range(count)]
+        entry = self.random.pick([i for i in range(count) if any(t != BLANK for t in rows[i])] or [0])
+        self.out.begin(self.sizes, self.alpha, entry, vectors, rows)
 
     def insert(self, most, reads=2):
         """One vector or more, and readings of some slots whose rows they changed; more vectors than fit are refused."""
         self.insert_just(self.random.among(1, most), self.random.below(12), reads)
 
     def insert_just(self, n, beam, reads):
-        self.join()
+        self.compared(lambda: self.out.insert(beam, [x for _ in range(n) for x in self.vector()]), reads)
+
+    def compared(self, call, reads):
         before = self.oracle.dump()
-        self.out.insert(beam, [x for _ in range(n) for x in self.vector()])
+        call()
         after = self.oracle.dump()
         changed = [i for i, (old, new) in enumerate(zip(before.slots, after.slots)) if old.words != new.words]
         self.out.read(5, 0, 0, after.live)
         for i in sorted({self.random.pick(changed) for _ in range(reads)} if changed else []):
             self.out.read_slot(after, i)
 
-    def delete(self, ids):
-        self.oracle.call("delete", self.random.below(8), self.random.below(4), *ids)
-        self.apart = True
+    def delete(self, ids, reads=2):
+        """Deletes, and readings of some slots whose rows that changed."""
+        self.compared(lambda: self.out.delete(self.random.below(8), self.random.below(4), ids), reads)
 
     def some(self, n):
         return [self.random.below(self.sizes[1]) for _ in range(n)]
 
     def changes(self, rounds, most):
-        """Deletes, and then inserts: one copy for all."""
-        for _ in range(rounds // 2):
-            self.delete(self.some(self.random.among(1, most)))
-        for _ in range(rounds // 2):
-            self.insert(most)
+        for _ in range(rounds):
+            if self.random.below(2):
+                self.insert(most)
+            else:
+                self.delete(self.some(self.random.among(1, most)))
 
     def alter(self):
-        """Hand-made states, on both sides: other versions, marks and references, an entry anywhere."""
-        self.join()
-        out, (capacity, degree) = self.out, self.sizes[1:]
+        """Hand-made states: other versions, marks and references, an entry anywhere."""
+        out, pick, (capacity, degree) = self.out, self.random.pick, self.sizes[1:]
         for slot in self.some(3):
-            version = self.random.pick([0, 1, 65535])
-            self.oracle.call("setversion", slot, version)
-            out.store(1, slot, version)
-            target = self.random.pick(["-", capacity, 70000, self.random.below(capacity)])
-            place, version = self.random.below(degree), self.random.pick([0, 1, 65535])
-            self.oracle.call("setedge", slot, place, target, version)
-            out.store(2, slot * degree + place, BLANK if target == "-" else target)
-            out.store(3, slot * degree + place, version)
-        for slot in self.some(2):
-            mark = self.random.pick([0, 1, 2, 255])
-            self.oracle.call("setmark", slot, mark)
-            out.store(0, slot, mark)
-        entry = self.random.below(capacity)
-        self.oracle.call("setentry", entry)
-        out.set(4, entry)
-        out.set(5, self.oracle.dump().live)
-        out.book.marked = out.book.live
+            out.put_version(slot, pick([0, 1, 65535]))
+            target = pick([BLANK, capacity, 70000, self.random.below(capacity)])
+            out.put_edge(slot, self.random.below(degree), target, pick([0, 1, 65535]))
+        out.put_marks([(slot, pick([0, 1, 2, 255])) for slot in self.some(2)])
+        out.put_entry(self.random.below(capacity))
 
     def shown(self, searches, reads, k=12, beams=(0, 1, 2, 3, 5, 8, 16, 64)):
-        self.join()
         dump = self.oracle.dump()
         self.out.read_some(dump, reads)
         self.out.searches([(self.random.among(0, k), self.random.pick(beams), self.query(dump)) for _ in range(searches)])
@@ -480,9 +483,8 @@ def many(out):
     h = History(out, 2, 1200, 4, ONE * 6 // 5 // 2 * 2, 40)
     h.make(1000)
     for _ in range(4):
-        h.delete(h.some(30))
-    for _ in range(4):
         h.insert(40)
+        h.delete(h.some(30))
     dump = h.shown(60, 3, 20, (10, 32, 100, 300, 700, 1023, 1024))
     for k, beam in ((1024, 1024), (1000, 1023), (1024, 60)):
         out.search(k, beam, h.query(dump))
@@ -495,10 +497,10 @@ def largest(out):
         h.make(120)
         h.insert(20)
         h.delete(h.some(4) + list(range(10, 20)))
+        out.put_marks([(65535, 1), (65534, 1)])
         for slot in (65535, 65534):
-            out.oracle.call("setmark", slot, 1)
-            out.oracle.call("setedge", out.random.below(8), degree - 1, slot, 0)
-        out.oracle.call("setedge", 65535, 0, 7, 0)
+            out.put_edge(out.random.below(8), degree - 1, slot, 0)
+        out.put_edge(65535, 0, 7, 0)
         h.shown(30, 2, 12, (1, 4, 40, 200))
 
 
@@ -571,16 +573,16 @@ def refused_calls(out):
 
 
 def small_shelf(out):
-    """Document 01's inserts: 6 into the shelf; 7 into it with every slot emptied, and then the entry stays dead."""
-    for emptied, beam, value in (([], 2, 6), ([0, 1, 2], 2, 7)):
-        out.oracle.call("make", 1, 4, 2, "0x3f800000", 1, 3, "x00", "x03", "x0a", "1", "0,2", "1")
-        out.oracle.call("delete", 2, 1, *emptied)
-        out.copy(out.oracle.dump())
-        out.insert(beam, [value])
-        dump = out.oracle.dump()
-        for slot in range(4):
-            out.read_slot(dump, slot)
-        out.search(4, 4, [value])
+    """Document 01's: 6 into the shelf, and then 1 is deleted; 7 into it with every slot emptied, and the entry stays dead."""
+    for emptied, value, then in (([], 6, [1]), ([0, 1, 2], 7, [])):
+        out.begin([1, 4, 2], ONE, 1, [[0], [3], [10]], [[1, BLANK], [0, 2], [1, BLANK]])
+        for call in (lambda: out.delete(2, 1, emptied), lambda: out.insert(2, [value]), lambda: out.delete(2, 1, then)):
+            call()
+            dump = out.oracle.dump()
+            out.read(4, 0, 0, dump.entry)
+            for slot in range(4):
+                out.read_slot(dump, slot)
+        out.search(4, 4, [3])
 
 
 def chunks(out):
@@ -625,6 +627,57 @@ def refused_inserts(out):
     out.lend_for(book.sizes)
     for given in ([1] * 5, two, [1, 2], [1, 2], [], [1]):
         out.insert(0, given)
+        out.read(5, 0, 0, book.live)
+
+
+def deletes(out):
+    """Ids that repeat, are dead or outside; many at once; the entry; an index emptied whole; versions that turn to 0."""
+    r = out.random
+    for dim, capacity, degree, values in ((1, 12, 2, 4), (2, 40, 4, 6), (3, 120, 8, 256)):
+        h = History(out, dim, capacity, degree, r.pick([ONE, ONE * 5 // 4, 2 * ONE]), values)
+        h.make(capacity)
+        h.delete([])
+        h.delete([0, 0, capacity - 1, capacity, BLANK, 0])
+        h.delete([out.book.entry], 3)
+        for slot in h.some(3):
+            out.put_version(slot, 65535)
+            h.delete([slot])
+        h.insert(capacity // 4)
+        h.delete(h.some(capacity // 3), 4)
+        h.insert(capacity // 2)
+        h.shown(10, 2)
+        h.delete([slot % capacity for slot in range(256)])
+        h.insert(2)
+        h.shown(6, 1)
+
+
+def refused_deletes(out):
+    """Deletes from an index that was altered, that is lent too much or too little, and with arguments over their limits."""
+    h = History(out, 2, 9, 2, ONE, 5)
+    h.make(7)
+    h.shown(2, 1)
+    book = out.book
+
+    def attempts():
+        out.delete(257, 1, [1, 2])
+        out.delete(1, 17, [1, 2, 3])
+        out.read(5, 0, 0, book.live)
+
+    for field, values in ((0, (0, 257, 3)), (1, (0, 65537, 10)), (2, (0, 65, 3)), (3, (0, NAN)), (4, (9, BLANK)), (5, (6, 8))):
+        kept = (book.sizes + [book.alpha, book.entry, book.live])[field]
+        for value in values:
+            out.set(field, value)
+            attempts()
+        out.set(field, kept)
+        attempts()
+    fit = exact(*book.sizes) + [2, 0, scratch_words(book.sizes[1])]
+    for i in (0, 1, 2, 3, 4, 5, 6, 8):
+        out.lend(*[n - (j == i) for j, n in enumerate(fit)])
+        attempts()
+        out.delete(256, 16, [20, 21])
+    out.lend_for(book.sizes)
+    for beam, degree, ids in ((257, 16, []), (256, 17, []), (256, 16, [9] * 257), (256, 16, [9] * 256), (0, 0, [3, 3])):
+        out.delete(beam, degree, ids)
         out.read(5, 0, 0, book.live)
 
 
@@ -715,6 +768,7 @@ def wrong_answers(out):
     out.spoil("search refused with another number", other(6))
     out.search(5, 1025, vector)
     wrong_inserts(out)
+    wrong_deletes(out)
     for what, words in (("no word", ["", "1"]), ("another word", ["reads", "5"]), ("no number", ["read", "x"]), ("a field that is not there", ["set", "0"])):
         out.spoil(what, lambda w, words=words: words)
         out.put("read", 5, 0, 0, 0, book.live)
@@ -727,7 +781,6 @@ def wrong_answers(out):
 def wrong_inserts(out):
     h = History(out, 2, 40, 3, ONE, 5)
     h.make(5)
-    h.join()
     two = [x for _ in range(2) for x in h.vector()]
     wrong = [("first slot", other(4)), ("last slot", other(5)), ("slots exchanged", exchanged(4, 5)), ("another count", other(3)), ("a number more", lambda w: w + ["0"])]
     wrong += [("one fewer", lambda w: w[:3] + ["1", w[4]]), ("one more", lambda w: w[:3] + ["3"] + w[4:] + [str(int(w[5]) + 1)]), ("a number missing", lambda w: w[:5])]
@@ -741,11 +794,32 @@ def wrong_inserts(out):
         out.insert(1025, two)
 
 
+def wrong_deletes(out):
+    h = History(out, 2, 60, 4, ONE, 5)
+    h.make(60)
+    at = 5  # the first count of the first record
+    wrong = [("count %d of the first" % i, other(at + i)) for i in range(4)] + [("last count", other(at + 7)), ("another number", other(4)), ("a number more", lambda w: w + ["0"])]
+    wrong += [("one fewer", lambda w: w[:4] + ["1"] + w[5:9]), ("one more", lambda w: w[:4] + ["3"] + w[5:] + ["0"] * 4), ("a number missing", lambda w: w[:-1])]
+    wrong += [("records exchanged", lambda w: w[:5] + w[9:13] + w[5:9]), ("carried out, not refused", lambda w: w[:3] + ["7"]), ("carried out, not refused, with its counts", other(3, 7))]
+    for k, (what, change) in enumerate(wrong):
+        while True:  # two records that differ
+            ids = sorted({out.random.below(60) for _ in range(2)})
+            records = out.oracle.answers(["delete 8 2 %s" % " ".join(map(str, ids))])[0].split()[2:]
+            if len(set(records)) == 2:
+                break
+        out.spoil("delete, " + what, change)
+        out.delete(8, 2, ids)
+        out.read(5, 0, 0, out.book.live)
+    for what, change in (("refused, not carried out", lambda w: w[:3] + ["0", "0"]), ("refused with another number", other(3)), ("refused, a number more", lambda w: w + ["0"])):
+        out.spoil("delete, " + what, change)
+        out.delete(257, 2, ids)
+
+
 def main():
     oracle = Oracle(sys.argv[1])
     out = List(oracle, Random(SEED))
     out.note("made by compare/replay/make.py, seed %d" % SEED)
-    parts = (size_answers, refused_makings, refused_calls, refused_inserts, small_shelf, small, medium, chunks, dead_entries, wide, many, largest, wrong_answers)
+    parts = (size_answers, refused_makings, refused_calls, refused_inserts, refused_deletes, small_shelf, small, medium, chunks, deletes, dead_entries, wide, many, largest, wrong_answers)
     for part in parts:
         out.note(part.__name__)
         part(out)

@@ -1,4 +1,5 @@
 // Lines `insert`.
+use super::same::same_words;
 use lines::kinds::INSERT;
 use lines::prepare::GIVEN;
 use lines::prepare::Step;
@@ -11,33 +12,10 @@ use text::ends;
 use text::first;
 use updating::Inserted;
 
-// Whether a slot is the stored one.
-fn same_slot(slots: &[u32; 1024], i: usize, slot: u32) -> bool {
-    if i < 1024 {
-        return slots[i] == slot;
-    }
-    false
-}
-
-// Whether the rest of a line has these slots.
-fn same_slots(line: &[u8], count: Number, slots: &[u32; 1024]) -> bool {
-    let mut last = count;
-    let n = wide(count.value);
-    let mut i: usize = 0;
-    while i < n {
-        last = after(line, last);
-        if !same_slot(slots, i, last.value) {
-            return false;
-        }
-        i += 1;
-    }
-    ends(line, last)
-}
-
 // Whether an insert of n vectors was carried out as stored.
 fn same_filled(line: &[u8], refusal: Number, n: u32, slots: &[u32; 1024]) -> bool {
     let count = after(line, refusal);
-    refusal.value == 0 && n == count.value && same_slots(line, count, slots)
+    refusal.value == 0 && n == count.value && same_words(line, count, wide(n), slots)
 }
 
 // The step after an insert: the index with what was inserted, or the former one where it was refused.

@@ -1,6 +1,9 @@
 // The lines of calls that make or change an index, each compared with the stored answer.
+mod deleting;
 mod inserting;
 mod making;
+mod same;
 
+pub use deleting::delete;
 pub use inserting::insert;
 pub use making::make;

@@ -21,12 +21,14 @@ pub const SEARCH: usize = 9;
 
 pub const INSERT: usize = 10;
 
-pub const NOTE: usize = 11;
+pub const DELETE: usize = 11;
 
-pub const MALFORMED: usize = 12;
+pub const NOTE: usize = 12;
 
-pub const DIFFERENCES: usize = 13;
+pub const MALFORMED: usize = 13;
 
-pub const LINES: usize = 14;
+pub const DIFFERENCES: usize = 14;
 
-pub const KINDS: usize = 15;
+pub const LINES: usize = 15;
+
+pub const KINDS: usize = 16;

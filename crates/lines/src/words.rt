@@ -1,4 +1,5 @@
 // The word that a line begins with.
+use super::kinds::DELETE;
 use super::kinds::GIVE;
 use super::kinds::INSERT;
 use super::kinds::LEND;
@@ -63,11 +64,28 @@ fn preparing(line: &[u8]) -> Word {
     }
 }
 
-// The word of any line.
-pub fn first_word(line: &[u8]) -> Word {
+// The word of a line that makes or changes an index.
+fn changing(line: &[u8]) -> Word {
     if begins(line, b"make ") {
         return Word { kind: MAKE, end: 4 };
     }
+    if begins(line, b"insert ") {
+        return Word {
+            kind: INSERT,
+            end: 6,
+        };
+    }
+    if begins(line, b"delete ") {
+        return Word {
+            kind: DELETE,
+            end: 6,
+        };
+    }
+    preparing(line)
+}
+
+// The word of any line.
+pub fn first_word(line: &[u8]) -> Word {
     if begins(line, b"read ") {
         return Word { kind: READ, end: 4 };
     }
@@ -89,11 +107,5 @@ pub fn first_word(line: &[u8]) -> Word {
             end: 5,
         };
     }
-    if begins(line, b"insert ") {
-        return Word {
-            kind: INSERT,
-            end: 6,
-        };
-    }
-    preparing(line)
+    changing(line)
 }

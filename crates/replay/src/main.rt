@@ -6,6 +6,7 @@ mod compare;
 
 use index::Guard;
 use index::Index;
+use lines::kinds::DELETE;
 use lines::kinds::DIFFERENCES;
 use lines::kinds::INSERT;
 use lines::kinds::KINDS;
@@ -24,7 +25,7 @@ ghost use lib.ListN.{length};
 
 // How many lines there were of each kind.
 struct Counts {
-    of: [u64; 15],
+    of: [u64; 16],
 }
 
 // Prints one count with its name.
@@ -123,6 +124,19 @@ fn perform(
         pool,
         scratch,
     );
+    new = changes::delete(
+        line,
+        word,
+        new,
+        rows,
+        vectors,
+        targets,
+        edges,
+        versions,
+        marks,
+        pool,
+        scratch,
+    );
     compare::look(
         line,
         word,
@@ -153,7 +167,7 @@ fn replay(
 ) -> Counts
     requires { ⌜ n ≤ length (now list) ⌝ }
 {
-    let mut counts = Counts { of: [0; 15] };
+    let mut counts = Counts { of: [0; 16] };
     let mut step = nothing();
     let mut at: usize = 0;
     while at < n {
@@ -188,6 +202,7 @@ fn report(counts: Counts) {
     print_count(b"search ", counts.of[SEARCH]);
     print_count(b"words ", counts.of[WORDS]);
     print_count(b"insert ", counts.of[INSERT]);
+    print_count(b"delete ", counts.of[DELETE]);
     print_count(b"lines ", counts.of[LINES]);
     print_count(b"differences ", counts.of[DIFFERENCES]);
 }

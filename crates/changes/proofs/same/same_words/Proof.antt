@@ -1,16 +1,13 @@
 use Prim.Native.Nat.{_≤_, _-_}
 use borrow.Author.Needs.{needs}
-use Rattle.changes.proofs.inserting.same_slots.Statement.{statement}
-use Rattle.changes.proofs.inserting.same_slots.Tie as tie
+use Rattle.changes.proofs.same.same_words.Statement.{statement}
+use Rattle.changes.proofs.same.same_words.Tie as tie
 
 abbrev Inv-loop : tie.InvT-loop
-Inv-loop line slots last₀ n i₀ last i = i ≤ n
+Inv-loop line n words last₀ i₀ last i = i ≤ n
 
 abbrev μ-loop : tie.MeasureT-loop
-μ-loop line slots last₀ n i₀ last i = n - i
-
-wide-requires : tie.Need-wide-requires Inv-loop μ-loop
-wide-requires c κs = tt
+μ-loop line n words last₀ i₀ last i = n - i
 
 loop-holds : tie.Need-loop-holds Inv-loop μ-loop
 loop-holds c = search needs
@@ -18,8 +15,8 @@ loop-holds c = search needs
 after-requires : tie.Need-after-requires Inv-loop μ-loop
 after-requires c κs = tt
 
-same-slot-requires : tie.Need-same-slot-requires Inv-loop μ-loop
-same-slot-requires c κs = tt
+same-word-requires : tie.Need-same-word-requires Inv-loop μ-loop
+same-word-requires c κs = tt
 
 returns : tie.Need-returns Inv-loop μ-loop
 returns c = tt
@@ -39,16 +36,15 @@ ends-requires c κs = tt
 returns-2 : tie.Need-returns-2 Inv-loop μ-loop
 returns-2 c = tt
 
-pub same-slots-spec : {M : Type 1} → statement M
-same-slots-spec =
+pub same-words-spec : {M : Type 1} → statement M
+same-words-spec =
     tie.close
     (tie.spec
     Inv-loop
     μ-loop
-    wide-requires
     loop-holds
     after-requires
-    same-slot-requires
+    same-word-requires
     returns
     add-i
     loop-less

@@ -1,0 +1,98 @@
+// Lines `delete`.
+use super::same::same_words;
+use lines::kinds::DELETE;
+use lines::prepare::GIVEN_ROWS;
+use lines::prepare::Step;
+use lines::prepare::least;
+use lines::prepare::part;
+use lines::words::Word;
+use text::Number;
+use text::after;
+use text::ends;
+use text::first;
+use updating::Deleted;
+
+// Where in the scratch a delete leaves the words of its stats.
+fn stats_place(capacity: u32) -> usize {
+    capacity as usize + 2560
+}
+
+// How many words the stats of n slots have.
+fn stats_words(n: u32) -> usize {
+    n as usize * 4
+}
+
+// Whether a delete that emptied n slots was carried out as stored.
+fn same_emptied(line: &[u8], refusal: Number, n: u32, capacity: u32, scratch: &[u32]) -> bool {
+    let count = after(line, refusal);
+    let at = least(stats_place(capacity), scratch.len());
+    refusal.value == 0
+        && n == count.value
+        && same_words(line, count, stats_words(n), &scratch[at..])
+}
+
+// The step after a delete: the index without what was deleted, or the former one where it was refused.
+fn after_delete(
+    line: &[u8],
+    refusal: Number,
+    step: Step,
+    deleted: Deleted,
+    scratch: &[u32],
+) -> Step {
+    let mut new = step;
+    match deleted {
+        Deleted::Refused(r) => new.good = r == refusal.value && ends(line, refusal),
+        Deleted::Done(index, n) => {
+            new.index = index;
+            new.good = same_emptied(line, refusal, n, index.capacity, scratch);
+        }
+    }
+    new
+}
+
+// Performs a line `delete`.
+pub fn delete(
+    line: &[u8],
+    word: Word,
+    step: Step,
+    ids: &[u32],
+    vectors: &[u8],
+    targets: &mut [u32],
+    edges: &mut [u16],
+    versions: &mut [u16],
+    marks: &mut [u8],
+    pool: &[u32],
+    scratch: &mut [u32],
+) -> Step {
+    if word.kind != DELETE {
+        return step;
+    }
+    let beam = first(line, word.end);
+    let degree = after(line, beam);
+    let refusal = after(line, degree);
+    let lent = step.lent;
+    let i = part(lent, GIVEN_ROWS, ids.len());
+    let v = part(lent, 0, vectors.len());
+    let t = part(lent, 1, targets.len());
+    let e = part(lent, 2, edges.len());
+    let n = part(lent, 3, versions.len());
+    let a = part(lent, 4, marks.len());
+    let p = part(lent, 5, pool.len());
+    let room = part(lent, 6, 1024);
+    let w = part(lent, 8, scratch.len());
+    let deleted = updating::delete(
+        step.index,
+        &vectors[..v],
+        &mut targets[..t],
+        &mut edges[..e],
+        &mut versions[..n],
+        &mut marks[..a],
+        &pool[..p],
+        &ids[..i],
+        beam.value,
+        degree.value,
+        room,
+        &mut scratch[..w],
+    );
+    after_delete(line, refusal, step, deleted, scratch)
+}
