@@ -157,7 +157,8 @@ uint32_t finder_search(const uint32_t words[FINDER_INDEX_WORDS], FINDER_LENT,
  * lowest. For each a walk from the entry, with a list of at most beam or degree slots, whichever is more, finds neighbours, of which pruning selects its
  * row; the rows of those selected are pruned anew with the new slot among their references. The number of the vectors is written to *found and the slots
  * that they got to the first *found places of slots, lowest first; the places after them stay. The words get the new live count; versions and pool are
- * only read. The scratch is overwritten.
+ * only read. The rows of 256 vectors at a time are worked out on the index as it stands before any of them is written. While the entry is dead, walks find
+ * nothing, and new slots get empty rows. The scratch is overwritten.
  * Refusals, in order: 1, 2, 3 (one of the six slices, or fewer places in slots than vectors), 6, 7, 8, 9, 10.
  */
 uint32_t finder_insert(uint32_t words[FINDER_INDEX_WORDS],
@@ -217,9 +218,9 @@ struct finder_report {
 };
 
 /*
- * Enables the guard, which may be on already. Chooses landmark_count * multiplier landmarks at most out of a sample of about `sample` slots, writes them to
- * the front of pool (the places after them stay), and writes the index's words and *status. In each of the four settings 0 acts as 1, and is stored so.
- * The scratch is overwritten.
+ * Enables the guard, which may be on already. Chooses landmark_count * multiplier landmarks at most, writes them to the front of pool (the places after them
+ * stay), and writes the index's words and *status. They are chosen out of the live ones of every n-th slot, n being capacity / sample, at least 1; if these are
+ * fewer than wanted, out of all live slots. In each of the four settings 0 acts as 1, and is stored so. The scratch is overwritten.
  * Refusals, in order: 1, 2, 3, 6, 7, 8, 12, 13.
  */
 uint32_t finder_guard_enable(uint32_t words[FINDER_INDEX_WORDS],
