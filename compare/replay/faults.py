@@ -43,7 +43,7 @@ FAULTS = [
     ("insert: refusal not looked at where carried out", INSERTING, "refusal.value == 0 && n == count.value", "n == count.value"),
     ("insert: the index not taken over", INSERTING, "new.index = index;", "new.index = step.index;"),
     ("delete: stats not looked at", DELETING, "        && same_words(line, count, stats_words(n), &scratch[at..])\n", ""),
-    ("delete: stats of another place", DELETING, "+ 2560", "+ 2564"),
+    ("delete: stats of another place", DELETING, "stats_place(capacity)", "stats_place(capacity) + 4"),
     ("delete: a record has three counts", DELETING, "n as usize * 4", "n as usize * 3"),
     ("delete: count with itself", DELETING, "n == count.value", "n == n"),
     ("delete: refusal with itself", DELETING, "r == refusal.value && ends(line, refusal)", "r == r && ends(line, refusal)"),

@@ -25,6 +25,10 @@ fn config(settings: [u32; 4]) -> RoutabilityGuardConfig {
     RoutabilityGuardConfig { landmark_count, landmark_pool_multiplier, candidate_sample_size, beam_width }
 }
 
+fn counts(s: &DeleteStats) -> [u32; 4] {
+    [s.outgoing_seeds, s.recovered_in_neighbors, s.repair_candidates, s.repair_edges_attempted].map(|x| x as u32)
+}
+
 fn status(s: &RoutabilityGuardStatus) -> [u32; 5] {
     [s.enabled as usize, s.landmark_pool_size, s.live_landmarks, s.landmark_count, s.beam_width].map(|x| x as u32)
 }
@@ -59,9 +63,8 @@ impl Rust {
     pub fn insert(&mut self, vectors: Vec<Vec<u8>>, beam: usize) -> Result<Vec<u32>, String> {
         self.0.insert_batch(vectors, beam).map_err(|e| error(&e))
     }
-    pub fn delete(&mut self, ids: &[u32], beam: usize, degree: usize) -> Vec<[usize; 4]> {
-        let stats = self.0.delete_batch(ids, beam, degree);
-        stats.iter().map(|s| [s.outgoing_seeds, s.recovered_in_neighbors, s.repair_candidates, s.repair_edges_attempted]).collect()
+    pub fn delete(&mut self, ids: &[u32], beam: usize, degree: usize) -> Vec<[u32; 4]> {
+        self.0.delete_batch(ids, beam, degree).iter().map(counts).collect()
     }
     pub fn enable(&mut self, settings: [u32; 4]) -> Result<[u32; 5], String> {
         self.0.enable_routability_guard(config(settings)).map(|s| status(&s)).map_err(|e| error(&e))
@@ -72,6 +75,14 @@ impl Rust {
     }
     pub fn assess(&self, ids: &[u32]) -> Result<Report, String> {
         self.0.assess_delete_admission(ids).map(report).map_err(|e| error(&e))
+    }
+    /// The stats where it is applied, and the report.
+    pub fn guarded_delete(&mut self, ids: &[u32], beam: usize, degree: usize) -> Result<(Option<Vec<[u32; 4]>>, Report), String> {
+        match self.0.delete_batch_with_admission_control(ids, beam, degree) {
+            Ok(GuardedDeleteResult::Applied { stats, report: r }) => Ok((Some(stats.iter().map(counts).collect()), report(r))),
+            Ok(GuardedDeleteResult::Deferred(r)) => Ok((None, report(r))),
+            Err(e) => Err(error(&e)),
+        }
     }
 
     // ---- what it stores

@@ -1,5 +1,6 @@
 // Lines `delete`.
 use super::same::same_words;
+use deletion::stats_place;
 use lines::kinds::DELETE;
 use lines::prepare::GIVEN_ROWS;
 use lines::prepare::Step;
@@ -11,11 +12,6 @@ use text::after;
 use text::ends;
 use text::first;
 use updating::Deleted;
-
-// Where in the scratch a delete leaves the words of its stats.
-fn stats_place(capacity: u32) -> usize {
-    capacity as usize + 2560
-}
 
 // How many words the stats of n slots have.
 fn stats_words(n: u32) -> usize {

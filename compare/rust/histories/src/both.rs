@@ -1,6 +1,5 @@
 //! One index on both sides: the Rust's, and the library's words and six slices; and what is done to it between calls. Each side goes on from what it left
-//! itself; only after calls that the library does not have is anything copied from one to the other.
-use crate::draw;
+//! itself: nothing is copied from one to the other.
 use crate::finder;
 use crate::lent::{Lent, Piece, Rng};
 use crate::table::{self, BLANK, Lengths, Words};
@@ -100,29 +99,6 @@ impl Both {
         self.rust.put_guard((w[6] != 0).then(|| ([w[7], w[8], w[9], w[10]], self.six.pool.items()[..w[11] as usize].to_vec())));
     }
 
-    /// Copies what the Rust stores into the library's words and slices: no call. Only for calls that the library does not have.
-    fn load(&mut self) {
-        let stored = self.rust.stored();
-        self.six.expect(&stored);
-        let mut words = self.words();
-        (words[4], words[5]) = (stored.entry, stored.live);
-        if let Some((settings, pool)) = stored.guard {
-            words[6..].copy_from_slice(&[1, settings[0], settings[1], settings[2], settings[3], pool.len() as u32]);
-            self.six.pool.expect(&pool);
-        }
-        self.words.put(&words);
-        for (_, piece) in self.six.pieces() {
-            piece.difference();
-        }
-    }
-
-    /// Calls that the library does not have, on the Rust alone.
-    pub fn by_the_rust(&mut self, rng: &mut Rng) {
-        for _ in 0..1 + rng.below(2) {
-            rng.pick(BY_THE_RUST)(self, rng);
-        }
-    }
-
     /// Stored state that no call leaves, but that passes row 6, written on both sides.
     pub fn by_hand(&mut self, rng: &mut Rng) {
         let [dim, capacity, degree, ..] = self.words();
@@ -192,30 +168,5 @@ impl Both {
             said += &format!("\n  versions {}\n  marks {}\n  pool {b:?} ..", a.versions.text(), a.marks.text());
         }
         said
-    }
-}
-
-/// The calls that the library does not have: the Rust performs them alone, and what it then stores is copied.
-pub const BY_THE_RUST: &[fn(&mut Both, &mut Rng)] = &[
-    #[cfg(not(feature = "delete"))]
-    delete,
-    #[cfg(not(feature = "guard"))]
-    enable,
-];
-
-#[cfg(not(feature = "delete"))]
-fn delete(b: &mut Both, rng: &mut Rng) {
-    let ids = draw::ids(b.six.marks.items(), rng);
-    b.rust.delete(&ids, rng.pick(&[0, 1, 2, 4, 8, 16, 32]), rng.below(5) as usize);
-    b.load();
-}
-
-#[cfg(not(feature = "guard"))]
-fn enable(b: &mut Both, rng: &mut Rng) {
-    let capacity = b.capacity();
-    if capacity <= 4_096 && rng.one_in(3) {
-        let settings = [rng.below(6), rng.below(4), rng.below(2 * capacity), rng.pick(&[0, 1, 2, 4, 8, 16, 32])];
-        let _ = b.rust.enable(settings); // turned back where fewer than two are live
-        b.load();
     }
 }

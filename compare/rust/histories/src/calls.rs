@@ -3,7 +3,6 @@
 use crate::both::{Both, Six};
 use crate::draw;
 use crate::finder::{self, call};
-#[cfg(feature = "guard")]
 use crate::guard;
 use crate::lent::{BORDER, Lent, Piece, Rng};
 use crate::table::{self, BLANK, Lengths, Words};
@@ -62,14 +61,11 @@ pub const KINDS: &[Kind] = &[
     Kind { name: "vector", weight: 5, run: vector },
     Kind { name: "search", weight: 38, run: search },
     Kind { name: "insert", weight: 24, run: updates::insert },
-    #[cfg(feature = "delete")]
     Kind { name: "delete", weight: 20, run: updates::delete },
-    #[cfg(feature = "guard")]
     Kind { name: "enable guard", weight: 8, run: guard::enable },
-    #[cfg(feature = "guard")]
     Kind { name: "guard status", weight: 5, run: guard::status },
-    #[cfg(feature = "guard")]
     Kind { name: "assess", weight: 16, run: guard::assess },
+    Kind { name: "guarded", weight: 16, run: guard::guarded_delete },
 ];
 
 /// Compares the answer and every piece: what differs.

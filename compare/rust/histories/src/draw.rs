@@ -85,6 +85,15 @@ pub fn scratch(index: &Words, short: bool, rng: &mut Rng) -> usize {
     if short { rng.pick(&[need - 1, need - 1, need / 2, 0]) } else { need + rng.pick(&[0, 0, 1, 64]) }
 }
 
+/// Lengths of a report's two lists: enough, or one too short.
+pub fn lists(short: bool, rng: &mut Rng) -> [usize; 2] {
+    let mut room = [64 + rng.pick(&[0, 0, 1, 9]), 64 + rng.pick(&[0, 0, 1, 9])];
+    if short {
+        room[rng.below(2) as usize] = rng.pick(&[63, 63, 0, 32]);
+    }
+    room
+}
+
 /// A length of a lent slice that is not its own.
 pub fn wrong_length(n: usize, rng: &mut Rng) -> usize {
     let other = rng.pick(&[n.saturating_sub(1), n + 1, 0, n / 2, n + BORDER, rng.0 as usize % (n + BORDER)]);

@@ -30,6 +30,9 @@ on_index! {
     finder_guard_enable(u32, u32, u32, u32, *mut u32, usize, *mut u32) -> u32;
     finder_guard_status(*mut u32) -> u32;
     finder_assess(*const u32, usize, *mut u32, usize, *mut u32, usize, *mut u32, usize, *mut u32) -> u32;
+    finder_guarded_delete(
+        *const u32, usize, u32, u32, *mut u32, usize, *mut u32, usize, *mut u32, usize, *mut u32, usize, *mut u32, *mut u32
+    ) -> u32;
 }
 
 unsafe extern "C" {

@@ -1,9 +1,11 @@
-//! The guard's calls: enabling it, its status, assessing a delete.
+//! The guard's calls: enabling it, its status, assessing a delete, the guarded delete.
 use crate::calls::{Asked, History, Outcome};
 use crate::draw;
 use crate::finder::call;
 use crate::lent::{Lent, Piece};
 use crate::table;
+use crate::updates::{Delete, meet_delete};
+use diskann_sorted::histories::Report;
 
 pub fn enable(h: &mut History) -> Outcome {
     let faults = if h.rng.one_in(2) { draw::faults(&mut h.rng) } else { 0 };
@@ -72,21 +74,14 @@ pub fn status(h: &mut History) -> Outcome {
 pub fn assess(h: &mut History) -> Outcome {
     let faults = if h.rng.one_in(2) { draw::faults(&mut h.rng) } else { 0 };
     let a = Asked::draw(h, faults);
-    let (rng, mut given) = (&mut h.rng, h.both.words());
-    if given[6] != 0 && given[7] <= 64 {
-        given[7] = given[7].min(draw::landmarks(&a.own)); // of a hand-made guard, or of one enabled when fewer were live
-        h.both.words.put(&given);
-    }
+    let (given, rng) = (fewer_landmarks(h, &a), &mut h.rng);
     let faults: Vec<u32> = (0..rng.pick(&[0, 0, 0, 0, 0, 1, 1, 2])).map(|_| rng.below(3)).collect();
     let mut ids = draw::ids(h.both.six.marks.items(), rng);
     if faults.contains(&0) {
         ids.resize_with(257 + rng.below(3) as usize, || rng.below(a.own[1]));
     }
     let words = draw::scratch(&a.own, faults.contains(&1), rng);
-    let mut room = [64 + rng.pick(&[0, 0, 1, 9]), 64 + rng.pick(&[0, 0, 1, 9])];
-    if faults.contains(&2) {
-        room[rng.below(2) as usize] = rng.pick(&[63, 63, 0, 32]);
-    }
+    let room = draw::lists(faults.contains(&2), rng);
     let (mut checked, mut lost) = (Lent::<u32>::junk(room[0], rng), Lent::<u32>::junk(room[1], rng));
     let (mut report, mut ids) = (Lent::<u32>::junk(8, rng), Lent::of(&ids, rng));
     let sound = a.number(h) == 0;
@@ -100,16 +95,7 @@ pub fn assess(h: &mut History) -> Outcome {
                 report.expect(&said.numbers);
                 checked.expect(&said.checked);
                 lost.expect(&said.lost);
-                let [admitted, requested, entry, .., supplemental] = said.numbers;
-                let met = [
-                    (admitted == 1 && requested > 0).then_some("assess, admitted"),
-                    (admitted == 0).then_some("assess, not admitted"),
-                    (requested == 0).then_some("assess, nothing live"),
-                    (requested > 0 && entry == table::BLANK).then_some("assess, no residual entry"),
-                    (!said.lost.is_empty()).then_some("assess, landmarks lost"),
-                    (supplemental > 0).then_some("assess, supplemental landmarks"),
-                ];
-                met.into_iter().flatten().for_each(|what| h.meet(what));
+                meet(h, "assess", &said);
             }
             (Err(said), n) if said.starts_with(&format!("err {n} ")) => {}
             (answer, n) => odd = Some(format!("document 01 gives {n}, the Rust {:?}", answer.map(|r| r.numbers))),
@@ -124,6 +110,81 @@ pub fn assess(h: &mut History) -> Outcome {
     }
     let said = format!("finder_assess lists {room:?}, scratch {words}, ids {}", ids.text());
     let lists: [(&str, &mut dyn Piece); 2] = [("checked", &mut checked), ("lost", &mut lost)];
+    let mut more: Vec<(&str, &mut dyn Piece)> = vec![("report", &mut report), ("ids", &mut ids), ("scratch", &mut h.scratch)];
+    more.extend(lists);
+    a.settle(&mut h.both, number, (number as u64, got as u64), more, said).and(odd)
+}
+
+/// The words with no more landmarks to be checked than can be chosen soon: a guard may be hand-made, or enabled when fewer slots were live.
+fn fewer_landmarks(h: &mut History, a: &Asked) -> table::Words {
+    let mut words = h.both.words();
+    if words[6] != 0 && words[7] <= 64 {
+        words[7] = words[7].min(draw::landmarks(&a.own));
+        h.both.words.put(&words);
+    }
+    words
+}
+
+/// Notes what a report says.
+fn meet(h: &mut History, call: &str, said: &Report) {
+    let [admitted, requested, entry, .., supplemental] = said.numbers;
+    let met = [
+        (admitted == 1 && requested > 0).then_some("admitted"),
+        (admitted == 0).then_some("not admitted"),
+        (requested == 0).then_some("nothing live"),
+        (requested > 0 && entry == table::BLANK).then_some("no residual entry"),
+        (!said.lost.is_empty()).then_some("landmarks lost"),
+        (supplemental > 0).then_some("supplemental landmarks"),
+    ];
+    met.into_iter().flatten().for_each(|what| h.meet(format!("{call}, {what}")));
+}
+
+pub fn guarded_delete(h: &mut History) -> Outcome {
+    let faults = if h.rng.one_in(2) { draw::faults(&mut h.rng) } else { 0 };
+    let mut a = Asked::draw(h, faults);
+    let given = fewer_landmarks(h, &a);
+    let Delete { ids, beam, degree, stats: records, scratch: words } = Delete::draw(h, &a);
+    let rng = &mut h.rng;
+    let room = draw::lists(rng.one_in(12), rng);
+    let (mut stats, mut found) = (Lent::<u32>::junk(4 * records, rng), Lent::<u32>::junk(1, rng));
+    let (mut checked, mut lost) = (Lent::<u32>::junk(room[0], rng), Lent::<u32>::junk(room[1], rng));
+    let (mut report, mut ids) = (Lent::<u32>::junk(8, rng), Lent::of(&ids, rng));
+    let sound = a.number(h) == 0;
+    let number = table::guarded_delete(&given, &a.lent, h.both.six.marks.items(), ids.len(), beam, degree, records, room, words);
+    assert!(number != 0 || sound);
+    let mut odd = None;
+    if matches!(number, 0 | 11) {
+        h.both.adopt();
+        match (h.both.rust.guarded_delete(ids.items(), beam as usize, degree as usize), number) {
+            (Ok((applied, said)), 0) => {
+                report.expect(&said.numbers);
+                checked.expect(&said.checked);
+                lost.expect(&said.lost);
+                meet(h, "guarded", &said);
+                let done = applied.as_deref().unwrap_or(&[]);
+                stats.expect(&done.concat());
+                found.expect(&[done.len() as u32]);
+                let b = &mut h.both;
+                b.six.expect(&b.rust.stored());
+                if applied.is_some() {
+                    a.changes = true;
+                    b.words.expect(&table::rewritten(&given, b.rust.entry(), b.rust.live()));
+                    meet_delete(h, "guarded", &given, ids.len(), done);
+                }
+            }
+            (Err(said), n) if said.starts_with(&format!("err {n} ")) => {}
+            (answer, n) => odd = Some(format!("document 01 gives {n}, the Rust {:?}", answer.map(|r| r.1.numbers))),
+        }
+    }
+    let got = call!(
+        finder_guarded_delete, h.both, a.lent, ids.ptr(), ids.len(), beam, degree, stats.mut_ptr(), records, checked.mut_ptr(), room[0],
+        lost.mut_ptr(), room[1], h.scratch.mut_ptr(), words, found.mut_ptr(), report.mut_ptr()
+    );
+    if number == 0 {
+        h.scratch.accept(words);
+    }
+    let said = format!("finder_guarded_delete beam {beam}, degree {degree}, stats {records}, lists {room:?}, scratch {words}, ids {}", ids.text());
+    let lists: [(&str, &mut dyn Piece); 4] = [("stats", &mut stats), ("found", &mut found), ("checked", &mut checked), ("lost", &mut lost)];
     let mut more: Vec<(&str, &mut dyn Piece)> = vec![("report", &mut report), ("ids", &mut ids), ("scratch", &mut h.scratch)];
     more.extend(lists);
     a.settle(&mut h.both, number, (number as u64, got as u64), more, said).and(odd)

@@ -1,11 +1,9 @@
 //! The library and the Rust in one process. `histories CALLS SEED`: random calls on both; exit code 1 if any call differs. `histories times PART ..`:
 //! times of the calls that change an index.
-#![cfg_attr(not(all(feature = "delete", feature = "guard")), allow(dead_code))]
 mod both;
 mod calls;
 mod draw;
 mod finder;
-#[cfg(feature = "guard")]
 mod guard;
 mod lent;
 mod table;
@@ -25,19 +23,11 @@ fn main() {
     let weights: u32 = KINDS.iter().map(|k| k.weight).sum();
     let mut counts = vec![[0u64; 16]; KINDS.len()]; // by the number given
     let mut differ = vec![0u64; KINDS.len()];
-    let mut between = [0u64; 2];
-    let mut largest = 0u64; // calls on an index of the largest capacity
+    let (mut by_hand, mut largest) = (0u64, 0u64); // how often state was written by hand; calls on an index of the largest capacity
     for call in 1..=calls {
-        match h.rng.below(100) {
-            0..=9 if !both::BY_THE_RUST.is_empty() => {
-                h.both.by_the_rust(&mut h.rng);
-                between[0] += 1;
-            }
-            10..=14 => {
-                h.both.by_hand(&mut h.rng);
-                between[1] += 1;
-            }
-            _ => {}
+        if h.rng.one_in(20) {
+            h.both.by_hand(&mut h.rng);
+            by_hand += 1;
         }
         let mut at = h.rng.below(weights);
         let kind = KINDS.iter().position(|k| at < k.weight || { at -= k.weight; false }).unwrap();
@@ -52,7 +42,7 @@ fn main() {
         }
     }
     println!("seed {seed}, {calls} calls, {largest} of them on an index of 65,536 slots");
-    println!("between calls: {} times calls that the library does not have, by the Rust alone, then copied; {} times state by hand", between[0], between[1]);
+    println!("state written by hand on both sides between calls: {by_hand} times");
     let numbers: Vec<usize> = (1..16).filter(|&n| counts.iter().any(|c| c[n] > 0)).collect();
     let line = |name: &str, cells: Vec<String>| println!("{name:12}{}", cells.iter().map(|c| format!("{c:>12}")).collect::<String>());
     let heads = ["carried out".to_string()].into_iter().chain(numbers.iter().map(|n| format!("refused {n}"))).chain(["differ".into()]);

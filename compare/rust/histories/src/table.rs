@@ -102,6 +102,15 @@ pub fn assess(i: &Words, lent: &Lengths, marks: &[u8], ids: usize, lists: [usize
     on_index(i, lent, marks, lists.iter().any(|&n| n < 64), &more)
 }
 
+#[allow(clippy::too_many_arguments)]
+pub fn guarded_delete(
+    i: &Words, lent: &Lengths, marks: &[u8], ids: usize, beam: u32, degree: u32, stats: usize, lists: [usize; 2], scratch: usize,
+) -> u32 {
+    let over = beam > 256 || degree > 16 || ids > 256;
+    let more = [(7, over), (8, (scratch as u64) < scratch_words(i[1])), (11, i[6] == 0)];
+    on_index(i, lent, marks, stats < ids || lists.iter().any(|&n| n < 64), &more)
+}
+
 /// The words that a call which changes the index leaves, as include/finder.h says: those given, with entry and live count as they are now; of the
 /// guard's, 1 where it is on, and 0 in all where it is off.
 pub fn rewritten(i: &Words, entry: u32, live: u32) -> Words {

@@ -8,9 +8,7 @@ use diskann_sorted::histories::{Cloud, Rng as Numbers, Rust, cpu};
 
 const PARTS: &[(&str, fn())] = &[
     ("insert", insert),
-    #[cfg(feature = "delete")]
     ("delete", delete),
-    #[cfg(feature = "guard")]
     ("guard", guard),
 ];
 
@@ -75,7 +73,6 @@ impl Timed {
         assert!(slots.difference().is_none());
     }
     /// Deletes on both sides.
-    #[cfg(feature = "delete")]
     fn delete(&mut self, ids: &[u32]) {
         let started = cpu();
         let done = self.both.rust.delete(ids, 64, 4);
@@ -88,12 +85,11 @@ impl Timed {
             found.mut_ptr()
         );
         self.spent[1] += cpu() - started;
-        stats.expect(&done.iter().flatten().map(|&n| n as u32).collect::<Vec<_>>());
+        stats.expect(&done.concat());
         found.expect(&[done.len() as u32]);
         assert!(refused == 0 && stats.difference().is_none() && found.difference().is_none());
     }
     /// Enables the guard on both sides.
-    #[cfg(feature = "guard")]
     fn enable(&mut self, settings: [u32; 4]) {
         let started = cpu();
         let said = self.both.rust.enable(settings).unwrap();
@@ -109,7 +105,6 @@ impl Timed {
         assert!(refused == 0 && status.difference().is_none());
     }
     /// Assesses a delete on both sides.
-    #[cfg(feature = "guard")]
     fn assess(&mut self, ids: &[u32]) {
         let started = cpu();
         let said = self.both.rust.assess(ids).unwrap();
@@ -215,7 +210,6 @@ fn insert() {
 }
 
 /// Deletes slots drawn at random from a full index.
-#[cfg(feature = "delete")]
 fn delete() {
     head("delete, repair beam 64, repair degree 4; time of one slot", "batches of", "slots");
     for (capacity, parts) in [(20_000usize, [(1, 256), (64, 512), (256, 1_024)]), (65_536, [(1, 256), (64, 512), (256, 1_024)])] {
@@ -234,7 +228,6 @@ fn delete() {
 }
 
 /// Enables the guard on a full index, and assesses deletes of slots drawn at random.
-#[cfg(feature = "guard")]
 fn guard() {
     head("guard, settings 32, 4, 4096, 64; time of enabling it (0 ids) and of assessing a delete", "ids", "calls");
     for capacity in [20_000usize, 65_536] {

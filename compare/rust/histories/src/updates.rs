@@ -100,18 +100,16 @@ pub fn insert(h: &mut History) -> Outcome {
 }
 
 /// A delete: its arguments and the lengths of what it is lent.
-#[cfg(feature = "delete")]
-struct Delete {
-    ids: Vec<u32>,
-    beam: u32,
-    degree: u32,
-    stats: usize,
-    scratch: usize,
+pub struct Delete {
+    pub ids: Vec<u32>,
+    pub beam: u32,
+    pub degree: u32,
+    pub stats: usize,
+    pub scratch: usize,
 }
 
-#[cfg(feature = "delete")]
 impl Delete {
-    fn draw(h: &mut History, a: &Asked) -> Delete {
+    pub fn draw(h: &mut History, a: &Asked) -> Delete {
         let rng = &mut h.rng;
         let faults: Vec<u32> = (0..rng.pick(&[0, 0, 0, 0, 0, 1, 1, 2])).map(|_| rng.below(5)).collect();
         let mut ids = draw::ids(h.both.six.marks.items(), rng);
@@ -133,7 +131,6 @@ impl Delete {
     }
 }
 
-#[cfg(feature = "delete")]
 pub fn delete(h: &mut History) -> Outcome {
     let faults = if h.rng.one_in(2) { draw::faults(&mut h.rng) } else { 0 };
     let mut a = Asked::draw(h, faults);
@@ -149,19 +146,11 @@ pub fn delete(h: &mut History) -> Outcome {
         let b = &mut h.both;
         b.adopt();
         let done = b.rust.delete(ids.items(), beam as usize, degree as usize);
-        stats.expect(&done.iter().flatten().map(|&n| n as u32).collect::<Vec<_>>());
+        stats.expect(&done.concat());
         found.expect(&[done.len() as u32]);
         b.words.expect(&table::rewritten(&given, b.rust.entry(), b.rust.live()));
         b.six.expect(&b.rust.stored());
-        let met = [
-            [0, 1, 256].contains(&ids.len()).then(|| format!("delete, ids {}", ids.len())),
-            (b.rust.entry() != given[4]).then(|| "delete, another entry".to_string()),
-            (given[5] > 0 && b.rust.live() == 0).then(|| "delete, nothing stays live".to_string()),
-            done.iter().any(|s| s[1] > 0).then(|| "delete, a slot is recovered".to_string()),
-            done.iter().any(|s| s[3] > 0).then(|| "delete, links are made".to_string()),
-        ];
-        met.into_iter().flatten().for_each(|what| h.meet(what));
-        *h.met.entry("delete, slots in all".to_string()).or_default() += done.len() as u64;
+        meet_delete(h, "delete", &given, ids.len(), &done);
     }
     let got = call!(
         finder_delete, h.both, a.lent, ids.ptr(), ids.len(), beam, degree, stats.mut_ptr(), room, h.scratch.mut_ptr(), words, found.mut_ptr()
@@ -172,6 +161,20 @@ pub fn delete(h: &mut History) -> Outcome {
     let said = format!("finder_delete beam {beam}, degree {degree}, stats {room}, scratch {words}, ids {}", ids.text());
     let more: Vec<(&str, &mut dyn Piece)> = vec![("stats", &mut stats), ("found", &mut found), ("ids", &mut ids), ("scratch", &mut h.scratch)];
     a.settle(&mut h.both, number, (number as u64, got as u64), more, said)
+}
+
+/// Notes what a delete that is carried out meets.
+pub fn meet_delete(h: &mut History, call: &str, given: &table::Words, ids: usize, done: &[[u32; 4]]) {
+    let (entry, live) = (h.both.rust.entry(), h.both.rust.live());
+    let met = [
+        [0, 1, 256].contains(&ids).then(|| format!("{call}, ids {ids}")),
+        (entry != given[4]).then(|| format!("{call}, another entry")),
+        (given[5] > 0 && live == 0).then(|| format!("{call}, nothing stays live")),
+        done.iter().any(|s| s[1] > 0).then(|| format!("{call}, a slot is recovered")),
+        done.iter().any(|s| s[3] > 0).then(|| format!("{call}, links are made")),
+    ];
+    met.into_iter().flatten().for_each(|what| h.meet(what));
+    *h.met.entry(format!("{call}, slots in all")).or_default() += done.len() as u64;
 }
 
 /// Notes what an insert that is carried out meets.
