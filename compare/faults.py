@@ -53,7 +53,8 @@ FINISHED = "        self.set_node_version(plan.id, plan.old_version.wrapping_add
 PRUNED = "                    neighbors = self.prune_with_distance_cache(*source, &neighbors, &mut cache);\n"
 DELETED = '    let said = format!("finder_delete'
 ENABLED = '    let said = format!("finder_guard_enable'
-ASSESSED = '    let said = format!("finder_assess'
+ASSESSED = '    let said = format!("finder_assess '
+GUARDED = '    let said = format!("finder_guarded_delete'
 in_rust = [
     ("ties by the higher slot", WALK, ".then_with(|| self.id.cmp(&other.id)),", ".then_with(|| other.id.cmp(&self.id)),"),
     ("the last sort by distance alone, as published", WALK, "    results.sort();", "    results.sort_by(|a, b| a.dist.total_cmp(&b.dist));"),
@@ -150,13 +151,14 @@ guard_by_library = [
     ("assessing, another number", ASSESSED, "if got == 0 { unsafe { *report.mut_ptr().add(7) += 1 } }"),
     ("assessing, a place past the list is written", ASSESSED, "if got == 0 { unsafe { *lost.mut_ptr().add(report.items()[6] as usize) ^= 1 } }"),
     ("assessing, the index is written", ASSESSED, "if got == 0 { unsafe { *h.both.six.marks.mut_ptr() ^= 1 } }"),
+    ("guarded delete, carried out though not admitted", GUARDED, "if got == 0 && report.items()[0] == 0 { unsafe { *h.both.words.mut_ptr().add(5) -= 1 } }"),
+    ("guarded delete, another count", GUARDED, "if got == 0 && found.items()[0] > 0 { unsafe { *stats.mut_ptr() += 1 } }"),
+    ("guarded delete, stats counted though not admitted", GUARDED, "if got == 0 && report.items()[0] == 0 { unsafe { *found.mut_ptr() += 1 } }"),
+    ("guarded delete, 11 where it is 8", GUARDED, "let got = if got == 8 { 11 } else { got };"),
 ]
 GUARD = "histories/src/guard.rs"
-FEATURES = re.search(r"^default = \[(.*)\]", open(os.path.join(ROOT, "compare/rust/histories/Cargo.toml")).read(), re.M)[1]
-if "delete" in FEATURES:
-    FAULTS += delete_in_rust + [("delete of the library: " + name, UPDATES, DELETED, "    " + code + "\n" + DELETED) for name, code in delete_by_library]
-if "guard" in FEATURES:
-    FAULTS += guard_in_rust + [("guard of the library: " + name, GUARD, at, "    " + code + "\n" + at) for name, at, code in guard_by_library]
+FAULTS += delete_in_rust + [("delete of the library: " + name, UPDATES, DELETED, "    " + code + "\n" + DELETED) for name, code in delete_by_library]
+FAULTS += guard_in_rust + [("guard of the library: " + name, GUARD, at, "    " + code + "\n" + at) for name, at, code in guard_by_library]
 
 
 def run(*command, **more):

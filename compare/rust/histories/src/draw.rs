@@ -12,10 +12,10 @@ pub fn sizes(rng: &mut Rng) -> [u32; 3] {
     let dim = rng.pick(&[1, 2, 3, 4, 1 + rng.0 as u32 % 4, 5 + rng.0 as u32 % 28, 33 + rng.0 as u32 % 223, 256]);
     let degree = rng.pick(&[1, 2, 3, 4, 2 + rng.0 as u32 % 3, 5 + rng.0 as u32 % 12, 17 + rng.0 as u32 % 47, 64]);
     match rng.below(250) {
-        0 if rng.one_in(2) => [dim, 65_536, degree.min(4)],
-        0 => [dim.min(16), 65_536, degree],
-        1..=30 => [dim, 301 + rng.below(3_700), degree],
-        31..=90 => [dim, 25 + rng.below(276), degree],
+        0 => [dim, 65_536, degree.min(4)],
+        1 => [dim.min(16), 65_536, degree],
+        2..=31 => [dim, 301 + rng.below(3_700), degree],
+        32..=91 => [dim, 25 + rng.below(276), degree],
         _ => [dim, 1 + rng.below(24), degree],
     }
 }
