@@ -121,15 +121,24 @@ impl Making {
     fn draw(rng: &mut Rng, b: &Both) -> Making {
         let [dim, capacity, degree, ..] = b.words();
         let same = !rng.one_in(3);
-        let mut sizes = if same { [dim, capacity, degree] } else { draw::sizes(rng) };
+        let crowd = !same && rng.one_in(12);
+        let sizes = if same { [dim, capacity, degree] } else { draw::sizes(rng) };
         let values = if same { b.values.clone() } else { draw::values(rng) };
+        let (mut sizes, values) = if crowd { ([sizes[0].clamp(4, 16), 1_100, sizes[2].clamp(24, 64)], vec![128]) } else { (sizes, values) };
         let faults: Vec<u32> = (0..draw::faults(rng)).map(|_| rng.below(10)).collect();
         let (room, some) = (sizes[1], rng.below(sizes[1] + 1));
         let mut count = rng.pick(&[room, some, some, some, room.div_ceil(2), room / 2, 0, 1]);
         if faults.contains(&0) && room <= 4_096 {
             count = room + 1 + rng.below(3);
         }
+        if crowd {
+            count = 800 + rng.below(60);
+        }
         let mut bytes = rng.vector(&values, (count * sizes[0]) as usize);
+        if crowd {
+            // about as many equal vectors as pruning keeps candidates, and then others
+            bytes[((690 + rng.below(60)) * sizes[0]) as usize..].iter_mut().for_each(|byte| *byte = rng.next() as u8);
+        }
         let mut rows: Vec<u32> = (0..count * sizes[2]).map(|_| if rng.one_in(5) { BLANK } else { rng.below(count) }).collect();
         let mut entry = if count == 0 { 0 } else { rng.below(count) };
         let mut alpha = draw::alpha_bits(rng);

@@ -19,6 +19,9 @@ impl Insert {
         let [dim, capacity, _, _, _, live, ..] = a.own;
         let (dim, need) = (dim as usize, table::scratch_words(capacity) as usize);
         let mut beam = rng.pick(&[0, 1, 2, 4, 8, 16, 64, 300, 1_024]);
+        if (700..=1_024).contains(&live) && rng.one_in(2) {
+            beam = 1_024; // more candidates than pruning keeps
+        }
         let mut count = draw::batch(&a.own, beam, rng) as usize;
         let faults: Vec<u32> = (0..rng.pick(&[0, 0, 0, 0, 0, 1, 1, 2])).map(|_| rng.below(6)).collect();
         if faults.contains(&0) && capacity <= 4_096 {
