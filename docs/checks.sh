@@ -1,12 +1,14 @@
 #!/bin/sh
 # Prints the table of docs/CHECKS.md: for each crate its lines of definitions, inner contracts, code and proof, its must-fail edits, the seconds of its
-# proof in a run from nothing, and what its edits cost at that, each edit being a check of the whole crate. Needs the Rattle kit; removes and makes target/. A line that is blank or only a comment is not counted.
+# proof in a run from nothing, and what its edits cost at that, each edit being a check of the whole crate. A line that is blank or only a comment is not
+# counted. docs/checks.sh LOG takes the seconds from what `.ci/run` printed; without it, all is proved first (needs the Rattle kit; removes and makes target/).
 set -eu
+if [ $# -gt 0 ]; then out=$(realpath "$1"); else
+    out=$(mktemp)
+    trap 'rm -f "$out"' EXIT
+fi
 cd "$(dirname "$0")/.."
-
-out=$(mktemp)
-trap 'rm -f "$out"' EXIT
-rt prove >"$out" 2>&1 || { grep '^rt:' "$out" >&2; exit 1; }
+[ $# -gt 0 ] || rt prove >"$out" 2>&1 || { grep '^rt:' "$out" >&2; exit 1; }
 
 # lines FOLDER SUFFIX COMMENT [WORDS for find]: the lines of the files with this suffix in a folder and below it
 lines() {
