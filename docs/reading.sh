@@ -20,7 +20,7 @@ row 'every call: arguments, when it is turned back, what it does and writes' cal
 row 'demand 3: the main theorem, over calls and over runs of the functions for C; the live count' calls/specs/History.antt exported/specs/Runs.antt exported/specs/History.antt calls/specs/Count.antt
 row 'demand 2: the algorithms, under the names of the Rust' vectors/specs/Distance.antt vectors/specs/Space.antt candidates/specs/Candidates.antt candidates/specs/Quotient.antt walk/specs/Walk.antt prune/specs/Prune.antt insert/specs/Insert.antt repair/specs/Repair.antt repair/specs/Delete.antt guard/specs/Guard.antt
 row 'the paper, and where the library uses it' walk/specs/GreedySearch.antt prune/specs/RobustPrune.antt calls/specs/Instances.antt
-row 'contracts of the calls in code and for C' calls/specs/Runs.antt index/specs/Index.antt index/specs/Run.antt index/specs/Create.antt vectors/specs/Vector.antt reading/specs/Read.antt reading/specs/Search.antt updating/specs/Insert.antt updating/specs/Delete.antt deletion/specs/Batch.antt guarding/specs/Guarding.antt guarding/specs/Guarded.antt finder/specs/IndexWords.antt finder/specs/GuardWords.antt finder/specs/Given.antt
+row 'contracts of the calls in code and for C' calls/specs/Runs.antt index/specs/Index.antt index/specs/Run.antt index/specs/Create.antt vectors/specs/Vector.antt reading/specs/Read.antt reading/specs/Search.antt updating/specs/Insert.antt updating/specs/Delete.antt deletion/specs/Batch.antt guarding/specs/Guarding.antt guarding/specs/Guarded.antt words/specs/IndexWords.antt words/specs/GuardWords.antt words/specs/Given.antt
 row 'functions on lists' lists/specs/Lists.antt
 row "document 01's examples, as a table" calls/specs/Table.antt
 echo "| all | | $total |"

@@ -22,7 +22,7 @@ use Rattle.calls.proofs.History.{Same, Both, same-shown, same-seen}
 use Rattle.calls.proofs.Runs.{refused-slices, run-refused, own-next, run-both, made-run-both, made-accepted, made-plain}
 use Rattle.index.specs.declared.Index.{Index}
 use Rattle.index.specs.Index.{state-of}
-use Rattle.finder.specs.IndexWords.{index-of, words-of}
+use Rattle.words.specs.IndexWords.{index-of, words-of}
 use Rattle.exported.specs.Runs.{Memory, Places, Exported-run, Exported}
 use Rattle.exported.specs.History.{Exported-lends, own, other-slices, any-memory, Event, Exported-chain, Hand, hide-version, in-hand, Asked, asked, put, words-in, plain-hand, plain-hands, Untouched, Refused-untouched, As-plain, Exported-history}
 use Rattle.exported.proofs.Known.{state-in, as-run, Right, Known, known}

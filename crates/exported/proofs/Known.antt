@@ -45,8 +45,8 @@ use Rattle.updating.specs.declared.Deleted.the-variants.{Refused as not-deleted
 use Rattle.updating.specs.Delete.{stats-outputs, deleted-as, index-left}
 use Rattle.repair.specs.Delete.{Stats}
 use Rattle.deletion.specs.Batch.{stats-of, stats-at}
-use Rattle.finder.specs.IndexWords.{index-of, words-of}
-use Rattle.finder.specs.Given.{created-given, Creates-words, value-in, bytes-at, Reads-length, Searches-words, inserted-given, Inserts-words, deleted-put, Deletes-words, standing-put, Stands-words, enabled-put, Enables-words, assessed-put, Assesses-words, guarded-put, Guards-words}
+use Rattle.words.specs.IndexWords.{index-of, words-of}
+use Rattle.words.specs.Given.{created-given, Creates-words, value-in, bytes-at, Reads-length, Searches-words, inserted-given, Inserts-words, deleted-put, Deletes-words, standing-put, Stands-words, enabled-put, Enables-words, assessed-put, Assesses-words, guarded-put, Guards-words}
 use Rattle.exported.specs.Runs.{Memory, Places, places, nowhere, in-value, in-alpha, in-version, Exported-run, making, changing, looking, number, Exported, finder-create, finder-dim, finder-capacity, finder-degree, finder-entry, finder-live, finder-mark, finder-slot-version, finder-target, finder-alpha, finder-vector, finder-search, finder-insert, finder-delete, in-guard, finder-guard-enable, finder-guard-status, finder-assess, finder-guarded-delete}
 use Rattle.guarding.specs.declared.Guarded.{Guarded}
 use Rattle.guarding.specs.declared.Guarded.the-variants.{Refused as not-guarded, Applied, Deferred}
@@ -58,7 +58,7 @@ use Rattle.guarding.specs.declared.Enabled.the-variants.{Refused as not-enabled
 use Rattle.guarding.specs.declared.Assessed.{Assessed}
 use Rattle.guarding.specs.declared.Assessed.the-variants.{Refused as not-assessed, Assessed as Assessed-so}
 use Rattle.guarding.specs.Guarding.{standing-as, enabled-as, enabled-index, report-outputs, numbers-of, assessed-as}
-use Rattle.finder.specs.GuardWords.{report-words}
+use Rattle.words.specs.GuardWords.{report-words}
 use Rattle.exported.specs.History.{put, Untouched}
 
 abbrev pub state-in : Memory → State Store

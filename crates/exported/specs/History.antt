@@ -18,8 +18,8 @@ use Rattle.calls.specs.History.{Seen, seen, Within}
 use Rattle.calls.specs.Runs.{lent-of}
 use Rattle.index.specs.Index.{state-of}
 use Rattle.guarding.specs.Guarding.{numbers-of}
-use Rattle.finder.specs.IndexWords.{index-of, value-words}
-use Rattle.finder.specs.GuardWords.{status-words, report-words}
+use Rattle.words.specs.IndexWords.{index-of, value-words}
+use Rattle.words.specs.GuardWords.{status-words, report-words}
 use Rattle.exported.specs.Runs.{Memory, Places, places, Exported-run, Exported}
 
 -- ---- runs on one index

@@ -1,5 +1,5 @@
 -- Runs of the exported functions that work on an index: all of include/finder.h but `finder_scratch_words`. Each has the contract that its function is
--- proved to meet (finder/specs/Given.antt) and nothing else; what is left has a prime. Assumes nothing.
+-- proved to meet (words/specs/Given.antt) and nothing else; what is left has a prime. Assumes nothing.
 use Prim.Native.Nat.{ℕ}
 use mathlib.Core.List.{List, [], map}
 use lib.Ieee.{Float}
@@ -15,7 +15,7 @@ use Rattle.updating.specs.Insert.{insert-outputs}
 use Rattle.updating.specs.Delete.{stats-outputs}
 use Rattle.deletion.specs.declared.stats.DeleteStats.{DeleteStats}
 use Rattle.deletion.specs.Batch.{stats-in}
-use Rattle.finder.specs.Given.{Creates-words, Reads-number, Reads-alpha, bytes-at, Reads-length, Searches-words, Inserts-words, Deletes-words, Stands-words, Enables-words, Assesses-words, Guards-words}
+use Rattle.words.specs.Given.{Creates-words, Reads-number, Reads-alpha, bytes-at, Reads-length, Searches-words, Inserts-words, Deletes-words, Stands-words, Enables-words, Assesses-words, Guards-words}
 use Rattle.guarding.specs.Guarding.{report-outputs}
 use Rattle.guarding.specs.Guarded.{guarded-outputs}
 

@@ -3,7 +3,6 @@
 mod deleting;
 mod guard_calls;
 mod guarded_delete;
-mod index_words;
 mod inserting;
 mod making;
 mod readings;

@@ -1,17 +1,9 @@
 // The size answer, and making an index.
-use super::index_words::words_from;
-use index::Created;
 use index::ScratchWords;
-ghost use mathlib.Core.Bool.{not};
-ghost use mathlib.Core.Path.{_≡_};
-ghost use lib.Dec.{T};
-ghost use lib.Ieee.{isNan};
+use words::put_created;
 ghost use Rattle.slots.specs.Sizes.{slices};
-ghost use Rattle.index.specs.declared.Index.{Index};
-ghost use Rattle.index.specs.declared.Created.the-variants.{Done};
 ghost use Rattle.index.specs.Create.{making};
-ghost use Rattle.finder.specs.Given.{Sizes-scratch, Creates-words};
-ghost use Rattle.finder.specs.contracts.Putting.{created-put};
+ghost use Rattle.words.specs.Given.{Sizes-scratch, Creates-words};
 
 // Writes how many words of scratch the calls on an index of these sizes ask for.
 #[no_mangle]
@@ -23,20 +15,6 @@ pub extern "C" fn finder_scratch_words(dim: u32, capacity: u32, degree: u32, siz
         ScratchWords::Refused(n) => n,
         ScratchWords::Words(n) => {
             *size = n;
-            0
-        }
-    }
-}
-
-// Writes the words of an index that was made.
-fn put_created(made: Created, words: &mut [u32; 12]) -> u32
-    requires { ⌜ ((i : Index) → made ≡ Done i → T (not (isNan (i .alpha)))) ⌝ }
-    ensures { λ r. ⌜ (r, now (words .exit)) ≡ created-put made (now (words .entry)) ⌝ }
-{
-    match made {
-        Created::Refused(n) => n,
-        Created::Done(i) => {
-            *words = words_from(i);
             0
         }
     }

@@ -1,24 +1,9 @@
 // Search.
-use super::index_words::index_from;
-use reading::Found;
-ghost use mathlib.Core.Path.{_≡_};
+use words::index_from;
+use words::put_found;
 ghost use Rattle.slots.specs.Sizes.{slices};
 ghost use Rattle.reading.specs.Search.{searching, search-outputs};
-ghost use Rattle.finder.specs.Given.{Searches-words};
-ghost use Rattle.finder.specs.contracts.Putting.{found-put};
-
-// Writes how many were found.
-fn put_found(answer: Found, found: &mut u32) -> u32
-    ensures { λ r. ⌜ (r, now (found .exit)) ≡ found-put answer (now (found .entry)) ⌝ }
-{
-    match answer {
-        Found::Refused(n) => n,
-        Found::Found(n) => {
-            *found = n;
-            0
-        }
-    }
-}
+ghost use Rattle.words.specs.Given.{Searches-words};
 
 // The `k` nearest that the walk from the entry finds: their slots, their distances and their number.
 #[no_mangle]

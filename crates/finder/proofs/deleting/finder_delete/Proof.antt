@@ -49,18 +49,18 @@ use Rattle.deletion.proofs.write_stats.Symbol as put-def
 use Rattle.deletion.proofs.write_stats.Symbol.{name as #write-stats}
 use Rattle.deletion.proofs.write_stats.Met as put-thm
 use Rattle.updating.specs.Delete.{deleting, stats-outputs}
-use Rattle.finder.specs.declared.deleting.Left.{Left}
-use Rattle.finder.specs.Given.{Deletes-words}
-use Rattle.finder.specs.contracts.Putting.{Leaves-stats}
+use Rattle.words.specs.declared.deleting.Left.{Left}
+use Rattle.words.specs.Given.{Deletes-words}
+use Rattle.words.specs.contracts.Putting.{Leaves-stats}
 use Rattle.finder.proofs.Again.{LentAgain, lends-again, comes-back}
 use Rattle.finder.proofs.Shared.{LentShared, lends-shared, shared-back}
-use Rattle.finder.proofs.Emptied.{asked, deletes-words}
-use Rattle.finder.proofs.deleting.Left as L
-use Rattle.finder.proofs.deleting.Left.Laws as L′
-use Rattle.finder.proofs.deleting.delete_words as work
-use Rattle.finder.proofs.deleting.delete_words.Symbol as work-def
-use Rattle.finder.proofs.deleting.delete_words.Symbol.{name as #work}
-use Rattle.finder.proofs.deleting.delete_words.Met as work-thm
+use Rattle.words.proofs.Emptied.{asked, deletes-words}
+use Rattle.words.proofs.deleting.Left as L
+use Rattle.words.proofs.deleting.Left.Laws as L′
+use Rattle.words.proofs.delete_words as work
+use Rattle.words.proofs.delete_words.Symbol as work-def
+use Rattle.words.proofs.delete_words.Symbol.{name as #work}
+use Rattle.words.proofs.delete_words.Met as work-thm
 use Rattle.finder.proofs.deleting.finder_delete.Key.{name as #finder-delete}
 use Rattle.finder.proofs.deleting.finder_delete as all
 use Rattle.finder.proofs.deleting.finder_delete.Statement as stated
@@ -308,5 +308,5 @@ finder-delete-spec 𝓤 H 𝓜 𝓖 𝓡 =
     entered 𝓤 H (tripleOf 𝓤 H (𝓖 .A) all.signature (all.spec 𝓤 H (𝓖 .A) (𝓜 .mem) (𝓡 .run)))
     (tables 𝓤 H 𝓜 𝓡 code.env .C) (tables 𝓤 H 𝓜 𝓡 code.env .Λ) #finder-delete code.function (code.unfolded 𝓤 H 𝓜 𝓡)
     (all-meets 𝓤 H (𝓖 .A) (givenOf 𝓤 H 𝓜 𝓖) (𝓜 .mem) (𝓡 .run) (tablesOf 𝓤 H 𝓜 (tables 𝓤 H 𝓜 𝓡 code.env))
-    (cited 𝓤 H (Work 𝓤 H (𝓖 .A) (𝓜 .mem) (𝓡 .run)) 𝓜 𝓡 code.env #work work-def.routine code.calls-finder·deleting·delete-words (work-thm.met 𝓤 H 𝓜 𝓖 𝓡))
+    (cited 𝓤 H (Work 𝓤 H (𝓖 .A) (𝓜 .mem) (𝓡 .run)) 𝓜 𝓡 code.env #work work-def.routine code.calls-words·delete-words (work-thm.met 𝓤 H 𝓜 𝓖 𝓡))
     (cited 𝓤 H (Put 𝓤 H (𝓖 .A) (𝓜 .mem) (𝓡 .run)) 𝓜 𝓡 code.env #write-stats put-def.routine code.calls-deletion·write-stats (put-thm.met 𝓤 H 𝓜 𝓖 𝓡)))

@@ -1,4 +1,4 @@
-use Rattle.finder.proofs.Guarded.{assesses-words}
+use Rattle.words.proofs.Guarded.{assesses-words}
 use borrow.Author.Needs.{needs}
 use Rattle.finder.proofs.guard_calls.finder_assess.Statement.{statement}
 use Rattle.finder.proofs.guard_calls.finder_assess.Tie as tie

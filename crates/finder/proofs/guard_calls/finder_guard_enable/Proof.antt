@@ -1,4 +1,4 @@
-use Rattle.finder.proofs.Guarded.{enabled-number, enables-words}
+use Rattle.words.proofs.Guarded.{enabled-number, enables-words}
 use borrow.Author.Needs.{needs}
 use Rattle.finder.proofs.guard_calls.finder_guard_enable.Statement.{statement}
 use Rattle.finder.proofs.guard_calls.finder_guard_enable.Tie as tie

@@ -1,4 +1,4 @@
-use Rattle.finder.proofs.Guarded.{stands-words}
+use Rattle.words.proofs.Guarded.{stands-words}
 use borrow.Author.Needs.{needs}
 use Rattle.finder.proofs.guard_calls.finder_guard_status.Statement.{statement}
 use Rattle.finder.proofs.guard_calls.finder_guard_status.Tie as tie

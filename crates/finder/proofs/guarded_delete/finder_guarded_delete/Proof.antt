@@ -50,18 +50,18 @@ use Rattle.deletion.proofs.write_stats.Symbol.{name as #write-stats}
 use Rattle.deletion.proofs.write_stats.Met as put-thm
 use Rattle.updating.specs.Delete.{deleting}
 use Rattle.guarding.specs.Guarded.{guarded-outputs}
-use Rattle.finder.specs.declared.deleting.Left.{Left}
-use Rattle.finder.specs.Given.{Guards-words}
-use Rattle.finder.specs.contracts.Putting.{Leaves-guarded}
+use Rattle.words.specs.declared.deleting.Left.{Left}
+use Rattle.words.specs.Given.{Guards-words}
+use Rattle.words.specs.contracts.Putting.{Leaves-guarded}
 use Rattle.finder.proofs.Again.{LentAgain, lends-again, comes-back}
 use Rattle.finder.proofs.Shared.{LentShared, lends-shared, shared-back}
-use Rattle.finder.proofs.Applied.{asked, guards-words}
-use Rattle.finder.proofs.deleting.Left as L
-use Rattle.finder.proofs.deleting.Left.Laws as L′
-use Rattle.finder.proofs.guarded_delete.guarded_words as work
-use Rattle.finder.proofs.guarded_delete.guarded_words.Symbol as work-def
-use Rattle.finder.proofs.guarded_delete.guarded_words.Symbol.{name as #work}
-use Rattle.finder.proofs.guarded_delete.guarded_words.Met as work-thm
+use Rattle.words.proofs.Applied.{asked, guards-words}
+use Rattle.words.proofs.deleting.Left as L
+use Rattle.words.proofs.deleting.Left.Laws as L′
+use Rattle.words.proofs.guarded_words as work
+use Rattle.words.proofs.guarded_words.Symbol as work-def
+use Rattle.words.proofs.guarded_words.Symbol.{name as #work}
+use Rattle.words.proofs.guarded_words.Met as work-thm
 use Rattle.finder.proofs.guarded_delete.finder_guarded_delete.Key.{name as #finder-guarded-delete}
 use Rattle.finder.proofs.guarded_delete.finder_guarded_delete as all
 use Rattle.finder.proofs.guarded_delete.finder_guarded_delete.Statement as stated
@@ -329,5 +329,5 @@ finder-guarded-delete-spec 𝓤 H 𝓜 𝓖 𝓡 =
     entered 𝓤 H (tripleOf 𝓤 H (𝓖 .A) all.signature (all.spec 𝓤 H (𝓖 .A) (𝓜 .mem) (𝓡 .run)))
     (tables 𝓤 H 𝓜 𝓡 code.env .C) (tables 𝓤 H 𝓜 𝓡 code.env .Λ) #finder-guarded-delete code.function (code.unfolded 𝓤 H 𝓜 𝓡)
     (all-meets 𝓤 H (𝓖 .A) (givenOf 𝓤 H 𝓜 𝓖) (𝓜 .mem) (𝓡 .run) (tablesOf 𝓤 H 𝓜 (tables 𝓤 H 𝓜 𝓡 code.env))
-    (cited 𝓤 H (Work 𝓤 H (𝓖 .A) (𝓜 .mem) (𝓡 .run)) 𝓜 𝓡 code.env #work work-def.routine code.calls-finder·guarded-delete·guarded-words (work-thm.met 𝓤 H 𝓜 𝓖 𝓡))
+    (cited 𝓤 H (Work 𝓤 H (𝓖 .A) (𝓜 .mem) (𝓡 .run)) 𝓜 𝓡 code.env #work work-def.routine code.calls-words·guarded-words (work-thm.met 𝓤 H 𝓜 𝓖 𝓡))
     (cited 𝓤 H (Put 𝓤 H (𝓖 .A) (𝓜 .mem) (𝓡 .run)) 𝓜 𝓡 code.env #write-stats put-def.routine code.calls-deletion·write-stats (put-thm.met 𝓤 H 𝓜 𝓖 𝓡)))

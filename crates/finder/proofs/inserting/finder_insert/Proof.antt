@@ -1,4 +1,4 @@
-use Rattle.finder.proofs.Filling.{inserted-number, inserts-words}
+use Rattle.words.proofs.Filling.{inserted-number, inserts-words}
 use borrow.Author.Needs.{needs}
 use Rattle.finder.proofs.inserting.finder_insert.Statement.{statement}
 use Rattle.finder.proofs.inserting.finder_insert.Tie as tie

@@ -1,4 +1,4 @@
-use Rattle.finder.proofs.Told.{made-number, creates-words}
+use Rattle.words.proofs.Told.{made-number, creates-words}
 use borrow.Author.Needs.{needs}
 use Rattle.finder.proofs.making.finder_create.Statement.{statement}
 use Rattle.finder.proofs.making.finder_create.Tie as tie

@@ -1,4 +1,4 @@
-use Rattle.finder.proofs.Told.{scratch-refused, scratch-given}
+use Rattle.words.proofs.Told.{scratch-refused, scratch-given}
 use borrow.Author.Needs.{needs}
 use Rattle.finder.proofs.making.finder_scratch_words.Statement.{statement}
 use Rattle.finder.proofs.making.finder_scratch_words.Tie as tie

@@ -1,4 +1,4 @@
-use Rattle.finder.proofs.Told.{reads-alpha}
+use Rattle.words.proofs.Told.{reads-alpha}
 use borrow.Author.Needs.{needs}
 use Rattle.finder.proofs.readings.finder_alpha.Statement.{statement}
 use Rattle.finder.proofs.readings.finder_alpha.Tie as tie

@@ -1,4 +1,4 @@
-use Rattle.finder.proofs.Told.{reads-length}
+use Rattle.words.proofs.Told.{reads-length}
 use borrow.Author.Needs.{needs}
 use Rattle.finder.proofs.readings.finder_vector.Statement.{statement}
 use Rattle.finder.proofs.readings.finder_vector.Tie as tie

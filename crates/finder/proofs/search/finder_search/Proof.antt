@@ -1,4 +1,4 @@
-use Rattle.finder.proofs.Told.{searches-words}
+use Rattle.words.proofs.Told.{searches-words}
 use borrow.Author.Needs.{needs}
 use Rattle.finder.proofs.search.finder_search.Statement.{statement}
 use Rattle.finder.proofs.search.finder_search.Tie as tie
