@@ -1,4 +1,4 @@
-//! Times of the calls that change an index, the library beside the Rust: one process, one thread, the same input, CPU time. Both go on from what they
+//! Times of the calls, the library beside the Rust: one process, one thread, the same input, CPU time. Both go on from what they
 //! left themselves, and both must have the same index when a part is done.
 use crate::both::Both;
 use crate::finder::call;
@@ -7,6 +7,8 @@ use crate::table;
 use diskann_sorted::histories::{Cloud, Rng as Numbers, Rust, cpu};
 
 const PARTS: &[(&str, fn())] = &[
+    ("create", create),
+    ("search", search),
     ("insert", insert),
     ("delete", delete),
     ("guard", guard),
@@ -45,6 +47,38 @@ impl Timed {
         let both = Both::made([DIM as u32, capacity as u32, DEGREE as u32], ALPHA, 0, vector, &[table::BLANK; DEGREE], &mut rng);
         let scratch = Lent::junk(table::scratch_words(capacity as u32) as usize, &mut rng);
         Timed { both, scratch, rng, spent: [0.0; 2] }
+    }
+    /// Makes an index of the given vectors and rows on both sides, in the memory that is there.
+    fn create(&mut self, capacity: usize, bytes: &[u8], rows: &[u32]) {
+        let started = cpu();
+        self.both.rust = Rust::make(DIM, capacity, DEGREE, ALPHA, 0, bytes, rows).unwrap();
+        self.spent[0] += cpu() - started;
+        let (sizes, count) = ([DIM as u32, capacity as u32, DEGREE as u32], (bytes.len() / DIM) as u32);
+        let (bytes, rows) = (Lent::of(bytes, &mut self.rng), Lent::of(rows, &mut self.rng));
+        let lent = self.both.six.lengths();
+        let started = cpu();
+        let refused = self.both.six.create(&mut self.both.words, lent, sizes, ALPHA.to_bits(), 0, count, &bytes, &rows);
+        self.spent[1] += cpu() - started;
+        assert!(refused == 0);
+    }
+    /// Searches on both sides; k is the beam.
+    fn search(&mut self, query: &[u8], beam: usize) {
+        let started = cpu();
+        let said = self.both.rust.search(query, beam, beam);
+        self.spent[0] += cpu() - started;
+        let (mut slots, mut dists) = (Lent::junk(beam, &mut self.rng), Lent::<u32>::junk(beam, &mut self.rng));
+        let mut found = Lent::junk(1, &mut self.rng);
+        let lent = self.both.six.lengths();
+        let started = cpu();
+        let refused = call!(
+            finder_search, self.both, lent, query.as_ptr(), DIM, beam as u32, beam as u32, slots.mut_ptr(), beam, dists.mut_ptr(), beam,
+            self.scratch.mut_ptr(), self.scratch.len(), found.mut_ptr()
+        );
+        self.spent[1] += cpu() - started;
+        slots.expect(&said.iter().map(|c| c.0).collect::<Vec<u32>>());
+        dists.expect(&said.iter().map(|c| c.1.to_bits()).collect::<Vec<u32>>());
+        found.expect(&[said.len() as u32]);
+        assert!(refused == 0 && [slots, dists, found].iter_mut().all(|piece| piece.difference().is_none()));
     }
     /// Inserts by the library alone; its time and the slots.
     fn insert_by_library(&mut self, batch: &[Vec<u8>]) -> (f64, Lent<u32>) {
@@ -184,6 +218,39 @@ fn head(what: &str, of: &str, counted: &str) {
 
 fn line(capacity: usize, of: usize, count: usize, [rust, library]: [f64; 2]) {
     println!("{capacity:>8} {of:>10} {count:>8} {rust:>10.1} {library:>10.1} {:>6.2}", library / rust);
+}
+
+/// Makes a full index anew of what it stores.
+fn create() {
+    head("create; time of one making of a full index", "vectors", "makings");
+    for capacity in [1_000usize, 20_000, 65_536] {
+        let mut t = filled(capacity, &clustered(capacity));
+        let stored = t.both.rust.stored();
+        let mut times = [f64::MAX; 2];
+        for _ in 0..5 {
+            t.create(capacity, &stored.vectors, &stored.targets);
+            times = best(times, t.each(1));
+        }
+        line(capacity, capacity, 5, times);
+    }
+}
+
+/// Searches in a full index, best of five rounds.
+fn search() {
+    head("search, k equal to the beam; time of one", "beam", "searches");
+    for capacity in [1_000usize, 20_000, 65_536] {
+        let vectors = clustered(capacity + 200);
+        let (stored, queries) = vectors.split_at(capacity);
+        let mut t = filled(capacity, stored);
+        for beam in [16, 64, 256, 1_024] {
+            let mut times = [f64::MAX; 2];
+            for _ in 0..5 {
+                queries.iter().for_each(|query| t.search(query, beam));
+                times = best(times, t.each(queries.len()));
+            }
+            line(capacity, beam, queries.len(), times);
+        }
+    }
 }
 
 /// Inserts in batches of 256, but for the last slots, and then one at a time; of the largest index the last quarter is timed.
