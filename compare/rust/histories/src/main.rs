@@ -6,16 +6,20 @@ mod draw;
 mod finder;
 mod guard;
 mod lent;
+mod sound;
 mod table;
 mod times;
 mod updates;
+mod year;
 
 use calls::KINDS;
 
 fn main() {
     let args: Vec<String> = std::env::args().skip(1).collect();
-    if args[0] == "times" {
-        return times::main(&args[1..]);
+    match args[0].as_str() {
+        "times" => return times::main(&args[1..]),
+        "year" => return year::main(&args[1..]),
+        _ => {}
     }
     let args: Vec<u64> = args.iter().map(|a| a.parse().expect("histories CALLS SEED")).collect();
     let (calls, seed) = (args[0], args[1]);

@@ -1,0 +1,267 @@
+//! A year of deliveries and withdrawals on both sides: what it does to the graph. `histories year SEED BATCH [PIECE]`: an insert brings at most BATCH
+//! vectors; the exit code is 1 where the two sides differ. With a piece, one item of that piece of the library's memory is changed on day 40.
+use crate::finder::call;
+use crate::lent::Rng;
+use crate::sound::{IDS, Same, Sound};
+use crate::table::BLANK;
+
+const DIM: usize = 256;
+const CAPACITY: u32 = 20_000;
+const DEGREE: usize = 32;
+const ALPHA: f32 = 1.2;
+const BEAM: u32 = 64;
+/// Of a delete: repair beam and repair degree.
+const REPAIR: (u32, u32) = (64, 4);
+/// Landmark count, multiplier, sample and beam.
+const GUARD: [u32; 4] = [32, 2, 1_024, 64];
+const MONTHS: [u32; 12] = [31, 28, 31, 30, 31, 30, 31, 31, 30, 31, 30, 31];
+/// Titles that are there when the year begins, inserted one vector at a time.
+const BACKLIST: u32 = 20;
+const QUERIES: usize = 300;
+const BEAMS: [u32; 3] = [16, 64, 256];
+const K: usize = 10;
+const SPOILED: u32 = 40;
+
+/// The vectors delivered together: around one centre, but for one in ten.
+struct Title {
+    centre: Vec<u8>,
+    slots: Vec<u32>,
+    /// When it is to be withdrawn, if ever, and how often that was put off.
+    due: Option<u32>,
+    put_off: u32,
+}
+
+#[derive(Default)]
+struct Counts {
+    inserted: u32,
+    turned_back: u32,
+    deleted: u32,
+    guarded: u32,
+    put_off: u32,
+    left: u32,
+}
+
+struct Year {
+    index: Sound,
+    rng: Rng,
+    batch: usize,
+    titles: Vec<Title>,
+    counts: Counts,
+}
+
+/// Bytes around others.
+fn around(centre: &[u8], by: i32, rng: &mut Rng) -> Vec<u8> {
+    centre.iter().map(|&x| (x as i32 - by + rng.below(2 * by as u32 + 1) as i32).clamp(0, 255) as u8).collect()
+}
+
+fn distance(a: &[u8], b: &[u8]) -> u32 {
+    a.iter().zip(b).map(|(&x, &y)| (x as i32 - y as i32).pow(2) as u32).sum()
+}
+
+/// A reading of one number by the library.
+macro_rules! read {
+    ($index:expr, $name:ident $(, $more:expr)*) => {{
+        let (mut value, lent) = (u32::MAX, $index.both.six.lengths());
+        match call!($name, $index.both, lent $(, $more)*, &mut value) {
+            0 => Ok(value),
+            refused => Err(format!("{}: refused with {refused}", stringify!($name))),
+        }
+    }};
+}
+
+impl Year {
+    fn new(seed: u64, batch: usize) -> Year {
+        let mut rng = Rng(seed);
+        let first = around(&[128; DIM], 40, &mut rng);
+        let index = Sound::new(DIM, CAPACITY, DEGREE, ALPHA, &first, Rng(seed));
+        let own = Title { centre: first, slots: vec![0], due: None, put_off: 0 };
+        Year { index, rng, batch, titles: vec![own], counts: Counts::default() }
+    }
+    /// Vectors of a new title.
+    fn draw(&mut self, count: u32) -> (Vec<u8>, Vec<Vec<u8>>) {
+        let rng = &mut self.rng;
+        let centre = around(&[128; DIM], 40, rng);
+        let vectors = (0..count).map(|_| {
+            let other = &self.titles[rng.below(self.titles.len() as u32) as usize].centre;
+            let near = if rng.one_in(10) { other } else { &centre };
+            around(near, 32, rng)
+        });
+        let vectors = vectors.collect();
+        (centre, vectors)
+    }
+    /// One title of 20 to 300 vectors, in batches of at most so many; one in five stays for good, the others for 10 to 120 days.
+    fn deliver(&mut self, day: u32, batch: usize) -> Same<()> {
+        let count = 20 + self.rng.below(281).min(self.rng.below(281));
+        let (centre, vectors) = self.draw(count);
+        let mut slots = vec![];
+        for vectors in vectors.chunks(batch) {
+            match self.index.insert(vectors, BEAM)? {
+                Some(filled) => slots.extend(filled),
+                None => self.counts.turned_back += vectors.len() as u32,
+            }
+        }
+        self.counts.inserted += slots.len() as u32;
+        let due = (!self.rng.one_in(5)).then(|| day + 10 + self.rng.below(111));
+        self.titles.push(Title { centre, slots, due, put_off: 0 });
+        Ok(())
+    }
+    /// Withdraws the titles that are due, one in four without asking the guard. What the guard puts off is tried again a week later, three times in all.
+    fn withdraw(&mut self, day: u32) -> Same<()> {
+        for title in self.titles.iter_mut().filter(|t| t.due.is_some_and(|due| due <= day)) {
+            let guarded = !self.rng.one_in(4);
+            let mut kept = vec![];
+            for ids in title.slots.chunks(IDS) {
+                if !guarded {
+                    self.index.delete(ids, REPAIR.0, REPAIR.1)?;
+                } else if self.index.guarded_delete(ids, REPAIR.0, REPAIR.1)? {
+                    self.counts.guarded += 1;
+                } else {
+                    self.counts.put_off += 1;
+                    kept.extend_from_slice(ids);
+                    continue;
+                }
+                self.counts.deleted += ids.len() as u32;
+            }
+            title.put_off += 1;
+            title.due = (!kept.is_empty() && title.put_off < 3).then_some(day + 7);
+            self.counts.left += (!kept.is_empty() && title.due.is_none()) as u32;
+            title.slots = kept;
+        }
+        self.titles.retain(|t| !t.slots.is_empty());
+        Ok(())
+    }
+    fn day(&mut self, day: u32, spoil: Option<&str>) -> Same<()> {
+        self.withdraw(day)?;
+        self.deliver(day, self.batch)?;
+        if let (SPOILED, Some(piece)) = (day, spoil) {
+            self.spoil(piece);
+        }
+        self.index.whole()
+    }
+    /// Changes one item of the library's memory.
+    fn spoil(&mut self, piece: &str) {
+        let (rng, b) = (&mut self.rng, &mut self.index.both);
+        macro_rules! flip {
+            ($lent:expr) => {{
+                let place = rng.below($lent.len() as u32) as usize;
+                unsafe { *$lent.mut_ptr().add(place) ^= 1 }
+            }};
+        }
+        match piece {
+            "words" => flip!(b.words),
+            "vectors" => flip!(b.six.vectors),
+            "targets" => flip!(b.six.targets),
+            "edges" => flip!(b.six.edges),
+            "versions" => flip!(b.six.versions),
+            "marks" => flip!(b.six.marks),
+            "pool" => flip!(b.six.pool),
+            _ => panic!("{piece}: words, vectors, targets, edges, versions, marks or pool"),
+        }
+    }
+    fn is_live(&mut self, slot: u32) -> Same<bool> {
+        Ok(read!(self.index, finder_mark, slot)? == 1)
+    }
+    /// The vector of a live slot.
+    fn vector(&mut self, slot: u32) -> &[u8] {
+        let lent = self.index.both.six.lengths();
+        let n = call!(finder_vector, self.index.both, lent, slot);
+        unsafe { std::slice::from_raw_parts(self.index.both.six.vectors.ptr().add(slot as usize * DIM), n) }
+    }
+    fn row(&mut self, slot: u32) -> Same<Vec<u32>> {
+        let mut row = vec![];
+        loop {
+            match read!(self.index, finder_target, slot, row.len() as u32)? {
+                BLANK => return Ok(row),
+                target => row.push(target),
+            }
+        }
+    }
+    /// The rows of all slots, empty where they are dead.
+    fn rows(&mut self, live: &[u32]) -> Same<Vec<Vec<u32>>> {
+        let mut rows = vec![vec![]; CAPACITY as usize];
+        for &slot in live {
+            rows[slot as usize] = self.row(slot)?;
+        }
+        Ok(rows)
+    }
+    /// Of the K nearest live slots to a query, how many a search finds, by beam.
+    fn recall(&mut self, live: &[u32]) -> Same<[f64; 3]> {
+        let mut hits = [0; 3];
+        let vectors: Vec<Vec<u8>> = live.iter().map(|&slot| self.vector(slot).to_vec()).collect();
+        for _ in 0..QUERIES {
+            let query = around(&vectors[self.rng.below(live.len() as u32) as usize], 8, &mut self.rng);
+            let mut all: Vec<u32> = vectors.iter().map(|v| distance(&query, v)).collect();
+            let limit = *all.select_nth_unstable(K - 1).1 as f32;
+            for (hits, beam) in hits.iter_mut().zip(BEAMS) {
+                *hits += self.index.search(&query, K, beam)?.iter().filter(|pair| f32::from_bits(pair.1) <= limit).count();
+            }
+        }
+        Ok(hits.map(|hits| hits as f64 / (QUERIES * K) as f64))
+    }
+    /// The line of a month.
+    fn report(&mut self, month: usize) -> Same<String> {
+        let (mut live, mut emptied) = (vec![], 0);
+        for slot in 0..CAPACITY {
+            if self.is_live(slot)? {
+                live.push(slot);
+            }
+            emptied += (read!(self.index, finder_slot_version, slot)? > 0) as u32;
+        }
+        assert_eq!(live.len() as u32, read!(self.index, finder_live)?);
+        let rows = self.rows(&live)?;
+        let references: usize = rows.iter().map(Vec::len).sum();
+        let unreached = live.len() - reached(&rows, read!(self.index, finder_entry)?);
+        let [a, b, c] = self.recall(&live)?;
+        let n = std::mem::take(&mut self.counts);
+        Ok(format!(
+            "| {month} | {} | {} | {} | {} | {} | {} | {emptied} | {:.2} | {unreached} | {a:.3} | {b:.3} | {c:.3} |",
+            live.len(), n.inserted, n.deleted, n.guarded, n.put_off, n.left, references as f64 / live.len() as f64
+        ))
+    }
+}
+
+/// How many slots a chain of references leads to.
+fn reached(rows: &[Vec<u32>], entry: u32) -> usize {
+    let mut seen = vec![false; rows.len()];
+    let mut open = vec![entry];
+    seen[entry as usize] = true;
+    while let Some(slot) = open.pop() {
+        for &target in &rows[slot as usize] {
+            if !std::mem::replace(&mut seen[target as usize], true) {
+                open.push(target);
+            }
+        }
+    }
+    seen.iter().filter(|&&seen| seen).count()
+}
+
+fn run(seed: u64, batch: usize, spoil: Option<&str>) -> Same<()> {
+    println!("seed {seed}; dim {DIM}, capacity {CAPACITY}, degree {DEGREE}, alpha {ALPHA}, beam {BEAM}, repair {REPAIR:?}, guard {GUARD:?}");
+    println!("| month | live | inserted | deleted | guarded | put off | left | versions above 0 | mean row | unreached | beam 16 | beam 64 | beam 256 |");
+    println!("|-|-|-|-|-|-|-|-|-|-|-|-|-|");
+    let mut year = Year::new(seed, batch);
+    for _ in 0..BACKLIST {
+        year.deliver(0, 1)?;
+    }
+    year.index.whole()?;
+    println!("{}", year.report(0)?);
+    let mut day = 0;
+    for (month, days) in MONTHS.into_iter().enumerate() {
+        year.index.enable(GUARD)?;
+        for _ in 0..days {
+            day += 1;
+            year.day(day, spoil).map_err(|said| format!("day {day}: {said}"))?;
+        }
+        println!("{}", year.report(month + 1)?);
+    }
+    println!("on each of the {day} days both sides had the same index, byte by byte");
+    Ok(())
+}
+
+pub fn main(args: &[String]) {
+    let number = |place: usize| args[place].parse::<u64>().expect("histories year SEED BATCH [PIECE]");
+    if let Err(said) = run(number(0), number(1) as usize, args.get(2).map(String::as_str)) {
+        println!("the library and the Rust differ: {said}");
+        std::process::exit(1);
+    }
+}
