@@ -71,6 +71,8 @@ pub struct Both {
     pub six: Six,
     /// The grey values that vectors are drawn from: few, so that distances are often equal.
     pub values: Vec<u8>,
+    /// Distances must not be equal: the Rust is the one as published.
+    pub apart: bool,
 }
 
 impl Both {
@@ -84,7 +86,7 @@ impl Both {
         words.expect(&[s[0], s[1], s[2], alpha.to_bits(), entry, count, 0, 0, 0, 0, 0, 0]);
         assert!(six.pieces().into_iter().all(|(_, piece)| piece.difference().is_none()) && words.difference().is_none());
         let rust = Rust::make(s[0] as usize, s[1] as usize, s[2] as usize, alpha, entry, bytes, rows).unwrap();
-        Both { rust, words, six, values: vec![0, 1] }
+        Both { rust, words, six, values: vec![0, 1], apart: false }
     }
     pub fn words(&self) -> Words {
         self.words.items().try_into().unwrap()
@@ -112,7 +114,12 @@ impl Both {
                     let version = if target < capacity && !rng.one_in(4) { self.six.versions.items()[target as usize] } else { odd };
                     self.put_edge(slot, rng.below(degree), target, version);
                 }
-                9..=10 => self.put_mark(slot, rng.pick(&[0, 1, 1, 1, 2, 255])),
+                9..=10 => {
+                    self.put_mark(slot, rng.pick(&[0, 1, 1, 1, 2, 255]));
+                    if self.apart {
+                        self.put_vector(slot, &rng.vector(&self.values, dim as usize)); // slots never filled have equal vectors
+                    }
+                }
                 11 => self.put_version(slot, rng.pick(&[0, 1, 2, u16::MAX])),
                 12 => self.put_entry(slot),
                 13..=14 => self.put_vector(slot, &rng.vector(&self.values, dim as usize)),

@@ -6,6 +6,7 @@ use crate::finder::{self, call};
 use crate::guard;
 use crate::lent::{BORDER, Lent, Piece, Rng};
 use crate::table::{self, BLANK, Lengths, Words};
+use crate::ties;
 use crate::updates;
 use diskann_sorted::histories::Rust;
 use std::collections::BTreeMap;
@@ -23,6 +24,9 @@ impl History {
         *self.met.entry(what.into()).or_default() += 1;
     }
 }
+
+/// Stands for the number of a call that is left out because of a tie.
+pub const TIED: u32 = 15;
 
 /// The number that document 01 gives, 0 where the call is carried out; and, where anything differs, the call and what differs.
 pub struct Outcome {
@@ -81,9 +85,10 @@ fn outcome(number: u32, differences: Vec<String>, call: impl FnOnce() -> String)
 }
 
 /// A history begins with an index of one slot.
-pub fn begin(seed: u64) -> History {
+pub fn begin(seed: u64, apart: bool) -> History {
     let mut rng = Rng(seed);
-    let both = Both::made([1, 1, 1], 1.0, 0, &[], &[], &mut rng);
+    let mut both = Both::made([1, 1, 1], 1.0, 0, &[], &[], &mut rng);
+    both.apart = apart;
     let scratch = Lent::junk(table::scratch_words(1) as usize + 64, &mut rng);
     History { rng, both, scratch, met: BTreeMap::new() }
 }
@@ -121,9 +126,10 @@ impl Making {
     fn draw(rng: &mut Rng, b: &Both) -> Making {
         let [dim, capacity, degree, ..] = b.words();
         let same = !rng.one_in(3);
-        let crowd = !same && rng.one_in(12);
+        let crowd = !same && rng.one_in(12) && !b.apart;
         let sizes = if same { [dim, capacity, degree] } else { draw::sizes(rng) };
         let values = if same { b.values.clone() } else { draw::values(rng) };
+        let (sizes, values) = if b.apart && !same { ([sizes[0].max(8), sizes[1], sizes[2]], (0..=255).collect()) } else { (sizes, values) };
         let (mut sizes, values) = if crowd { ([sizes[0].clamp(4, 16), 1_100, sizes[2].clamp(24, 64)], vec![128]) } else { (sizes, values) };
         let faults: Vec<u32> = (0..draw::faults(rng)).map(|_| rng.below(10)).collect();
         let (room, some) = (sizes[1], rng.below(sizes[1] + 1));
@@ -134,7 +140,7 @@ impl Making {
         if crowd {
             count = 800 + rng.below(60);
         }
-        let mut bytes = rng.vector(&values, (count * sizes[0]) as usize);
+        let mut bytes: Vec<u8> = (0..count).flat_map(|_| rng.vector(&values, sizes[0] as usize)).collect();
         if crowd {
             // about as many equal vectors as pruning keeps candidates, and then others
             bytes[((690 + rng.below(60)) * sizes[0]) as usize..].iter_mut().for_each(|byte| *byte = rng.next() as u8);
@@ -277,6 +283,11 @@ impl Asked {
         assert!(number != 0 || own, "a damaged index passes: {w:?}, lengths {:?}", self.lent);
         number
     }
+    /// Does not run the call: it can meet a tie.
+    pub fn leave_out(self, b: &mut Both) -> Outcome {
+        b.words.put(&self.own);
+        Outcome { number: TIED, differs: None }
+    }
     /// Compares the index, its slices and the other pieces, and puts the index's own words back unless the call changed them. `call` tells the call.
     pub fn settle(self, b: &mut Both, number: u32, answers: (u64, u64), more: Vec<(&str, &mut dyn Piece)>, call: String) -> Outcome {
         let mut pieces = b.six.pieces();
@@ -337,7 +348,7 @@ fn search(h: &mut History) -> Outcome {
     let faults = if h.rng.one_in(2) { draw::faults(&mut h.rng) } else { 0 };
     let a = Asked::draw(h, faults);
     let (rng, dim) = (&mut h.rng, a.own[0] as usize);
-    let mut query = rng.vector(&h.both.values, dim);
+    let mut query = if h.both.apart { ties::query(&h.both, rng) } else { rng.vector(&h.both.values, dim) };
     if rng.one_in(6) {
         query[rng.below(dim as u32) as usize] = rng.0 as u8;
     }
@@ -363,6 +374,9 @@ fn search(h: &mut History) -> Outcome {
     let sound = a.number(h) == 0;
     let number = table::search(&h.both.words(), &a.lent, h.both.six.marks.items(), query.len(), k, beam, out, words);
     assert!(number != 0 || sound);
+    if number == 0 && h.both.apart && ties::in_search(&h.both, query.items()) {
+        return a.leave_out(&mut h.both);
+    }
     if number == 0 {
         let pairs = h.both.rust.search(query.items(), k as usize, beam as usize);
         slots.expect(&pairs.iter().map(|p| p.0).collect::<Vec<_>>());

@@ -14,7 +14,8 @@ pub fn sizes(rng: &mut Rng) -> [u32; 3] {
     match rng.below(250) {
         0 => [dim, 65_536, degree.min(4)],
         1 => [dim.min(16), 65_536, degree],
-        2..=31 => [dim, 301 + rng.below(3_700), degree],
+        2 => [dim.min(16), 4_001 + rng.below(61_535), degree],
+        3..=31 => [dim, 301 + rng.below(3_700), degree],
         32..=91 => [dim, 25 + rng.below(276), degree],
         _ => [dim, 1 + rng.below(24), degree],
     }

@@ -23,7 +23,9 @@ impl Rng {
     pub fn pick<T: Copy>(&mut self, from: &[T]) -> T {
         from[self.below(from.len() as u32) as usize]
     }
+    /// Where a vector may have any values, they are below a bound of its own, so that distances spread.
     pub fn vector(&mut self, values: &[u8], dim: usize) -> Vec<u8> {
+        let values = if values.len() == 256 { &values[..8 + self.below(249) as usize] } else { values };
         (0..dim).map(|_| self.pick(values)).collect()
     }
 }

@@ -1,5 +1,6 @@
-//! The library and the Rust in one process. `histories CALLS SEED`: random calls on both; exit code 1 if any call differs. `histories times PART ..`:
-//! times of the calls that change an index.
+//! The library and the Rust in one process. `histories CALLS SEED`: random calls on both; exit code 1 if any call differs. With the word `first` it ends
+//! at the first that differs; with `apart`, calls that can meet a tie are left out. `histories times PART ..`: times of the calls that change an index.
+//! `histories year SEED BATCH`: a year of deliveries.
 mod both;
 mod calls;
 mod draw;
@@ -8,11 +9,15 @@ mod guard;
 mod lent;
 mod sound;
 mod table;
+mod ties;
 mod times;
 mod updates;
 mod year;
 
-use calls::KINDS;
+use calls::{KINDS, TIED};
+
+/// Calls are counted by the capacity of their index: up to each of these.
+const CAPACITIES: [u32; 6] = [1, 24, 300, 4_000, 65_535, 65_536];
 
 fn main() {
     let args: Vec<String> = std::env::args().skip(1).collect();
@@ -21,13 +26,15 @@ fn main() {
         "year" => return year::main(&args[1..]),
         _ => {}
     }
-    let args: Vec<u64> = args.iter().map(|a| a.parse().expect("histories CALLS SEED")).collect();
-    let (calls, seed) = (args[0], args[1]);
-    let mut h = calls::begin(seed);
+    let number = |place: usize| args[place].parse::<u64>().expect("histories CALLS SEED [first] [apart]");
+    let (calls, seed) = (number(0), number(1));
+    let [first, apart] = ["first", "apart"].map(|word| args[2..].iter().any(|a| a == word));
+    let mut h = calls::begin(seed, apart);
     let weights: u32 = KINDS.iter().map(|k| k.weight).sum();
     let mut counts = vec![[0u64; 16]; KINDS.len()]; // by the number given
     let mut differ = vec![0u64; KINDS.len()];
-    let (mut by_hand, mut largest) = (0u64, 0u64); // how often state was written by hand; calls on an index of the largest capacity
+    let mut by_hand = 0u64; // how often state was written by hand
+    let mut capacities = [0u64; CAPACITIES.len()]; // calls by the capacity of the index
     for call in 1..=calls {
         if h.rng.one_in(20) {
             h.both.by_hand(&mut h.rng);
@@ -37,19 +44,24 @@ fn main() {
         let kind = KINDS.iter().position(|k| at < k.weight || { at -= k.weight; false }).unwrap();
         let outcome = (KINDS[kind].run)(&mut h);
         counts[kind][outcome.number as usize] += 1;
-        largest += (h.both.capacity() == 65_536) as u64;
+        capacities[CAPACITIES.iter().position(|&most| h.both.capacity() <= most).unwrap()] += 1;
         if let Some(said) = outcome.differs {
             if differ.iter().all(|&n| n == 0) {
                 println!("first difference, in call {call} (to repeat: compare/histories.sh {call} {seed}):\n{said}\n");
             }
             differ[kind] += 1;
+            if first {
+                break;
+            }
         }
     }
-    println!("seed {seed}, {calls} calls, {largest} of them on an index of 65,536 slots");
+    let on: Vec<String> = CAPACITIES.iter().zip(capacities).map(|(most, n)| format!("{n} up to {most}")).collect();
+    println!("seed {seed}, {calls} calls, by the capacity of the index: {}", on.join(", "));
     println!("state written by hand on both sides between calls: {by_hand} times");
     let numbers: Vec<usize> = (1..16).filter(|&n| counts.iter().any(|c| c[n] > 0)).collect();
     let line = |name: &str, cells: Vec<String>| println!("{name:12}{}", cells.iter().map(|c| format!("{c:>12}")).collect::<String>());
-    let heads = ["carried out".to_string()].into_iter().chain(numbers.iter().map(|n| format!("refused {n}"))).chain(["differ".into()]);
+    let head = |n: &usize| if *n == TIED as usize { "left out".to_string() } else { format!("refused {n}") };
+    let heads = ["carried out".to_string()].into_iter().chain(numbers.iter().map(head)).chain(["differ".into()]);
     line("", heads.collect());
     let row = |c: &[u64; 16], d: u64| [c[0]].into_iter().chain(numbers.iter().map(|&n| c[n])).chain([d]).map(|n| n.to_string()).collect::<Vec<_>>();
     for (kind, (c, &d)) in KINDS.iter().zip(counts.iter().zip(&differ)) {

@@ -4,6 +4,7 @@ use crate::draw;
 use crate::finder::call;
 use crate::lent::{Lent, Piece, Rng};
 use crate::table::{self, BLANK};
+use crate::ties;
 
 /// An insert: its arguments and the lengths of what it is lent.
 struct Insert {
@@ -27,7 +28,9 @@ impl Insert {
         if faults.contains(&0) && capacity <= 4_096 {
             count = (capacity - live + 1 + rng.below(3)) as usize;
         }
-        let mut bytes = vectors(count, dim, &b.values, b.six.vectors.items(), rng);
+        let full = faults.contains(&0); // refused, so that ties do not matter
+        let mut bytes = if b.apart && !full { ties::batch(b, count, rng) } else { vectors(count, dim, &b.values, b.six.vectors.items(), rng) };
+        let count = bytes.len() / dim;
         let mut slots = count + rng.pick(&[0, 0, 1, 9]);
         let mut scratch = need + rng.pick(&[0, 0, 1, 64]);
         for fault in faults {
@@ -71,6 +74,9 @@ pub fn insert(h: &mut History) -> Outcome {
     let number = table::insert(&given, &a.lent, h.both.six.marks.items(), bytes.len(), beam, room, words);
     assert!(number != 0 || sound);
     let mut odd = None;
+    if number == 0 && h.both.apart && ties::in_insert(&h.both, bytes.items()) {
+        return a.leave_out(&mut h.both);
+    }
     if number == 0 {
         a.changes = true;
         h.both.adopt();

@@ -4,6 +4,7 @@ use crate::finder::call;
 use crate::lent::Rng;
 use crate::sound::{IDS, Same, Sound};
 use crate::table::BLANK;
+use crate::ties::distance;
 
 const DIM: usize = 256;
 const CAPACITY: u32 = 20_000;
@@ -13,7 +14,7 @@ const BEAM: u32 = 64;
 /// Of a delete: repair beam and repair degree.
 const REPAIR: (u32, u32) = (64, 4);
 /// Landmark count, multiplier, sample and beam.
-const GUARD: [u32; 4] = [32, 2, 1_024, 64];
+const GUARD: [u32; 4] = [64, 1, 1_024, 16];
 const MONTHS: [u32; 12] = [31, 28, 31, 30, 31, 30, 31, 31, 30, 31, 30, 31];
 /// Titles that are there when the year begins, inserted one vector at a time.
 const BACKLIST: u32 = 20;
@@ -22,13 +23,20 @@ const BEAMS: [u32; 3] = [16, 64, 256];
 const K: usize = 10;
 const SPOILED: u32 = 40;
 
-/// The vectors delivered together: around one centre, but for one in ten.
+/// The slots of the vectors delivered together.
 struct Title {
-    centre: Vec<u8>,
     slots: Vec<u32>,
-    /// When it is to be withdrawn, if ever, and how often that was put off.
+    /// When it is to be withdrawn, if ever, whether the guard is asked, and how often it was tried.
     due: Option<u32>,
-    put_off: u32,
+    guarded: bool,
+    tries: u32,
+}
+
+/// What a day brings. It is drawn from the seed and the day, so that years with other batches have the same deliveries.
+struct Delivery {
+    vectors: Vec<Vec<u8>>,
+    stays: Option<u32>,
+    guarded: bool,
 }
 
 #[derive(Default)]
@@ -43,8 +51,10 @@ struct Counts {
 
 struct Year {
     index: Sound,
-    rng: Rng,
+    seed: u64,
     batch: usize,
+    /// Of each title delivered.
+    centres: Vec<Vec<u8>>,
     titles: Vec<Title>,
     counts: Counts,
 }
@@ -52,10 +62,6 @@ struct Year {
 /// Bytes around others.
 fn around(centre: &[u8], by: i32, rng: &mut Rng) -> Vec<u8> {
     centre.iter().map(|&x| (x as i32 - by + rng.below(2 * by as u32 + 1) as i32).clamp(0, 255) as u8).collect()
-}
-
-fn distance(a: &[u8], b: &[u8]) -> u32 {
-    a.iter().zip(b).map(|(&x, &y)| (x as i32 - y as i32).pow(2) as u32).sum()
 }
 
 /// A reading of one number by the library.
@@ -71,28 +77,32 @@ macro_rules! read {
 
 impl Year {
     fn new(seed: u64, batch: usize) -> Year {
-        let mut rng = Rng(seed);
-        let first = around(&[128; DIM], 40, &mut rng);
+        let first = around(&[128; DIM], 40, &mut Rng(seed));
         let index = Sound::new(DIM, CAPACITY, DEGREE, ALPHA, &first, Rng(seed));
-        let own = Title { centre: first, slots: vec![0], due: None, put_off: 0 };
-        Year { index, rng, batch, titles: vec![own], counts: Counts::default() }
+        Year { index, seed, batch, centres: vec![first], titles: vec![], counts: Counts::default() }
     }
-    /// Vectors of a new title.
-    fn draw(&mut self, count: u32) -> (Vec<u8>, Vec<Vec<u8>>) {
-        let rng = &mut self.rng;
-        let centre = around(&[128; DIM], 40, rng);
+    /// Random numbers of their own for the deliveries, for the queries and for what is spoiled.
+    fn numbers(&self, kind: u64, at: u64) -> Rng {
+        Rng(Rng(self.seed + (kind << 32)).next() ^ at)
+    }
+    /// A title of 20 to 300 vectors around a centre of its own, but for one in ten, which is around that of any title so far. One title in five stays for
+    /// good, the others for 10 to 120 days; one in four is withdrawn without asking the guard.
+    fn draw(&mut self) -> Delivery {
+        let mut rng = self.numbers(1, self.centres.len() as u64);
+        let centre = around(&[128; DIM], 40, &mut rng);
+        self.centres.push(centre.clone());
+        let count = 20 + rng.below(281).min(rng.below(281));
         let vectors = (0..count).map(|_| {
-            let other = &self.titles[rng.below(self.titles.len() as u32) as usize].centre;
-            let near = if rng.one_in(10) { other } else { &centre };
-            around(near, 32, rng)
+            let other = rng.below(self.centres.len() as u32) as usize;
+            let near = if rng.one_in(10) { &self.centres[other] } else { &centre };
+            around(near, 32, &mut rng)
         });
         let vectors = vectors.collect();
-        (centre, vectors)
+        Delivery { vectors, stays: (!rng.one_in(5)).then(|| 10 + rng.below(111)), guarded: !rng.one_in(4) }
     }
-    /// One title of 20 to 300 vectors, in batches of at most so many; one in five stays for good, the others for 10 to 120 days.
+    /// Inserts a delivery, with at most so many vectors to a call.
     fn deliver(&mut self, day: u32, batch: usize) -> Same<()> {
-        let count = 20 + self.rng.below(281).min(self.rng.below(281));
-        let (centre, vectors) = self.draw(count);
+        let Delivery { vectors, stays, guarded } = self.draw();
         let mut slots = vec![];
         for vectors in vectors.chunks(batch) {
             match self.index.insert(vectors, BEAM)? {
@@ -101,17 +111,15 @@ impl Year {
             }
         }
         self.counts.inserted += slots.len() as u32;
-        let due = (!self.rng.one_in(5)).then(|| day + 10 + self.rng.below(111));
-        self.titles.push(Title { centre, slots, due, put_off: 0 });
+        self.titles.push(Title { slots, due: stays.map(|days| day + days), guarded, tries: 0 });
         Ok(())
     }
-    /// Withdraws the titles that are due, one in four without asking the guard. What the guard puts off is tried again a week later, three times in all.
+    /// Withdraws the titles that are due. What the guard puts off is tried again a week later, three times in all, and is then left.
     fn withdraw(&mut self, day: u32) -> Same<()> {
         for title in self.titles.iter_mut().filter(|t| t.due.is_some_and(|due| due <= day)) {
-            let guarded = !self.rng.one_in(4);
             let mut kept = vec![];
             for ids in title.slots.chunks(IDS) {
-                if !guarded {
+                if !title.guarded {
                     self.index.delete(ids, REPAIR.0, REPAIR.1)?;
                 } else if self.index.guarded_delete(ids, REPAIR.0, REPAIR.1)? {
                     self.counts.guarded += 1;
@@ -122,8 +130,8 @@ impl Year {
                 }
                 self.counts.deleted += ids.len() as u32;
             }
-            title.put_off += 1;
-            title.due = (!kept.is_empty() && title.put_off < 3).then_some(day + 7);
+            title.tries += 1;
+            title.due = (!kept.is_empty() && title.tries < 3).then_some(day + 7);
             self.counts.left += (!kept.is_empty() && title.due.is_none()) as u32;
             title.slots = kept;
         }
@@ -140,7 +148,7 @@ impl Year {
     }
     /// Changes one item of the library's memory.
     fn spoil(&mut self, piece: &str) {
-        let (rng, b) = (&mut self.rng, &mut self.index.both);
+        let (mut rng, b) = (self.numbers(3, 0), &mut self.index.both);
         macro_rules! flip {
             ($lent:expr) => {{
                 let place = rng.below($lent.len() as u32) as usize;
@@ -185,11 +193,11 @@ impl Year {
         Ok(rows)
     }
     /// Of the K nearest live slots to a query, how many a search finds, by beam.
-    fn recall(&mut self, live: &[u32]) -> Same<[f64; 3]> {
-        let mut hits = [0; 3];
+    fn recall(&mut self, month: usize, live: &[u32]) -> Same<[f64; 3]> {
+        let (mut hits, mut rng) = ([0; 3], self.numbers(2, month as u64));
         let vectors: Vec<Vec<u8>> = live.iter().map(|&slot| self.vector(slot).to_vec()).collect();
         for _ in 0..QUERIES {
-            let query = around(&vectors[self.rng.below(live.len() as u32) as usize], 8, &mut self.rng);
+            let query = around(&vectors[rng.below(live.len() as u32) as usize], 8, &mut rng);
             let mut all: Vec<u32> = vectors.iter().map(|v| distance(&query, v)).collect();
             let limit = *all.select_nth_unstable(K - 1).1 as f32;
             for (hits, beam) in hits.iter_mut().zip(BEAMS) {
@@ -211,12 +219,11 @@ impl Year {
         let rows = self.rows(&live)?;
         let references: usize = rows.iter().map(Vec::len).sum();
         let unreached = live.len() - reached(&rows, read!(self.index, finder_entry)?);
-        let [a, b, c] = self.recall(&live)?;
+        let [a, b, c] = self.recall(month, &live)?;
         let n = std::mem::take(&mut self.counts);
-        Ok(format!(
-            "| {month} | {} | {} | {} | {} | {} | {} | {emptied} | {:.2} | {unreached} | {a:.3} | {b:.3} | {c:.3} |",
-            live.len(), n.inserted, n.deleted, n.guarded, n.put_off, n.left, references as f64 / live.len() as f64
-        ))
+        let row = references as f64 / live.len() as f64;
+        let cells = [live.len() as u32, n.inserted, n.turned_back, n.deleted, n.guarded, n.put_off, n.left, emptied].map(|n| n.to_string());
+        Ok(format!("| {month} | {} | {row:.2} | {unreached} | {a:.3} | {b:.3} | {c:.3} |", cells.join(" | ")))
     }
 }
 
@@ -237,8 +244,9 @@ fn reached(rows: &[Vec<u32>], entry: u32) -> usize {
 
 fn run(seed: u64, batch: usize, spoil: Option<&str>) -> Same<()> {
     println!("seed {seed}; dim {DIM}, capacity {CAPACITY}, degree {DEGREE}, alpha {ALPHA}, beam {BEAM}, repair {REPAIR:?}, guard {GUARD:?}");
-    println!("| month | live | inserted | deleted | guarded | put off | left | versions above 0 | mean row | unreached | beam 16 | beam 64 | beam 256 |");
-    println!("|-|-|-|-|-|-|-|-|-|-|-|-|-|");
+    println!("at most {batch} vectors to an insert; recall at {K} of {QUERIES} queries by beam");
+    let heads = "live | inserted | turned back | deleted | guarded | put off | left | versions > 0 | mean row | unreached | beam 16 | beam 64 | beam 256";
+    println!("| month | {heads} |\n|{}", "-:|".repeat(14));
     let mut year = Year::new(seed, batch);
     for _ in 0..BACKLIST {
         year.deliver(0, 1)?;
