@@ -1,10 +1,10 @@
 #!/usr/bin/env python3
 """compare/faults.py [calls] [words]
 
-Puts one fault at a time into a copy of the comparing program, below target/, and says in which call compare/histories.sh finds the first difference and
-how many calls differ; 20,000 calls where not given, seed 1. So it shows what that comparison can see. A fault is put into the Rust, or, since the archive is
-built of proved code only, into what the library's call has left by the time that it is compared. With words only the faults whose name has them. Run
-compare/histories.sh first: it builds the library.
+Puts one fault at a time into a copy of the comparing program, below target/, and says in which call compare/histories.sh finds it, as a table; 20,000 calls at
+most where not given, seed 1. So it shows what that comparison can see. A fault is put into the Rust, or, since the archive is built of proved code only,
+into what the library's call has left by the time that it is compared. With words only the faults whose name has them. The exit code is 1 if one is not
+found. Run compare/histories.sh first: it builds the library. The whole takes about half an hour of one core.
 """
 import os
 import re
@@ -14,7 +14,8 @@ import sys
 
 ROOT = os.path.dirname(os.path.dirname(os.path.abspath(__file__)))
 COPY = os.path.join(ROOT, "target", "faults")
-WALK, ROWS, DRIVER, UPDATES = "sorted/src/lib.rs", "sorted/src/mmap_dynamic.rs", "driver.rs", "histories/src/updates.rs"
+WALK, ROWS, DRIVER = "sorted/src/lib.rs", "sorted/src/mmap_dynamic.rs", "driver.rs"
+CALLS, UPDATES, GUARD = "histories/src/calls.rs", "histories/src/updates.rs", "histories/src/guard.rs"
 LIVE = ".filter(|(t, v)| self.is_valid(*t) && self.node_version(*t) == *v)"
 SLOTS = "        let slots = (0..self.meta.capacity)\n"
 OUTGOING = """            for plan in &plans {
@@ -48,7 +49,13 @@ FEWER = """        let mut seen = HashSet::new();
         candidates.retain(|x| seen.insert(x.0));
         candidates.truncate(749);
 """
-INSERTED = "    let text = if bytes.len() <= 1_024"  # where finder_insert has returned
+MADE = "    let mut pieces = six.pieces();\n"  # these are places where a function of the library has returned
+SIZED = "    outcome(number, compare(number as u64, got as u64, vec![(\"words\""
+READ = "            let said = format!(concat!(stringify!($name)"
+VECTOR = '    let said = format!("finder_vector'
+SEARCHED = '    let said = format!("finder_search'
+STATUS = "    a.settle(&mut h.both, number, (number as u64, got as u64), vec![(\"status\", &mut status)], "
+INSERTED = "    let text = if bytes.len() <= 1_024"
 FINISHED = "        self.set_node_version(plan.id, plan.old_version.wrapping_add(1));\n"
 PRUNED = "                    neighbors = self.prune_with_distance_cache(*source, &neighbors, &mut cache);\n"
 DELETED = '    let said = format!("finder_delete'
@@ -56,18 +63,19 @@ ENABLED = '    let said = format!("finder_guard_enable'
 ASSESSED = '    let said = format!("finder_assess '
 GUARDED = '    let said = format!("finder_guarded_delete'
 in_rust = [
-    ("ties by the higher slot", WALK, ".then_with(|| self.id.cmp(&other.id)),", ".then_with(|| other.id.cmp(&self.id)),"),
-    ("the last sort by distance alone, as published", WALK, "    results.sort();", "    results.sort_by(|a, b| a.dist.total_cmp(&b.dist));"),
-    ("the walk ends only where the next is farther than the worst", WALK, "best.dist >= work.peek().unwrap().dist", "best.dist > work.peek().unwrap().dist"),
-    ("a candidate enters a full list at equality", WALK, "candidate.dist < work.peek().unwrap().dist", "candidate.dist <= work.peek().unwrap().dist"),
-    ("beam 0 acts as 2", WALK, "let beam_width = beam_width.max(1);", "let beam_width = if beam_width == 0 { 2 } else { beam_width };"),
-    ("beam 0 not raised to 1", WALK, "let beam_width = beam_width.max(1);", "let beam_width = beam_width;"),
-    ("outdated references followed", ROWS, LIVE, ".filter(|(t, _)| self.is_valid(*t))"),
-    ("references to dead slots followed", ROWS, LIVE, ".filter(|(t, v)| (*t as usize) < self.meta.capacity && self.node_version(*t) == *v)"),
-    ("a search from a dead entry", ROWS, "if self.is_empty() || !self.is_valid(self.meta.medoid_id) {", "if self.is_empty() {"),
-    ("one pair fewer than k", ROWS, "            .take(k)\n", "            .take(k.saturating_sub(1))\n"),
-    ("blank rows of free slots not written", ROWS, ".fill(0xff);", ".fill(0);"),
-    ("the last byte left out of the distance", DRIVER, "    a.iter()\n        .zip(b)\n        .map(|(&x, &y)| {\n            let d = x", "    a.iter()\n        .zip(b)\n        .take(a.len().max(2) - 1)\n        .map(|(&x, &y)| {\n            let d = x"),
+    ("walk: ties by the higher slot", WALK, ".then_with(|| self.id.cmp(&other.id)),", ".then_with(|| other.id.cmp(&self.id)),"),
+    ("walk: the last sort by distance alone, as published", WALK, "    results.sort();", "    results.sort_by(|a, b| a.dist.total_cmp(&b.dist));"),
+    ("walk: it ends only where the next is farther than the worst", WALK, "best.dist >= work.peek().unwrap().dist", "best.dist > work.peek().unwrap().dist"),
+    ("walk: a candidate enters a full list at equality", WALK, "candidate.dist < work.peek().unwrap().dist", "candidate.dist <= work.peek().unwrap().dist"),
+    ("walk: beam 0 acts as 2", WALK, "let beam_width = beam_width.max(1);", "let beam_width = if beam_width == 0 { 2 } else { beam_width };"),
+    ("walk: outdated references followed", ROWS, LIVE, ".filter(|(t, _)| self.is_valid(*t))"),
+    ("walk: references to dead slots followed", ROWS, LIVE, ".filter(|(t, v)| (*t as usize) < self.meta.capacity && self.node_version(*t) == *v)"),
+    ("search: it starts at a dead entry", ROWS, "if self.is_empty() || !self.is_valid(self.meta.medoid_id) {", "if self.is_empty() {"),
+    ("search: one pair fewer than k", ROWS, "            .take(k)\n", "            .take(k.saturating_sub(1))\n"),
+    ("making: blank rows of free slots not written", ROWS, ".fill(0xff);", ".fill(0);"),
+    ("making: the last given slot not live", ROWS, "out.mmap[valid..valid + index.num_vectors].fill(1);", "out.mmap[valid..valid + index.num_vectors.max(1) - 1].fill(1);"),
+    ("making: the entry is slot 0", ROWS, "            medoid_id: index.medoid_id,\n", "            medoid_id: 0,\n"),
+    ("distance: the last byte left out", DRIVER, "    a.iter()\n        .zip(b)\n        .map(|(&x, &y)| {\n            let d = x", "    a.iter()\n        .zip(b)\n        .take(a.len().max(2) - 1)\n        .map(|(&x, &y)| {\n            let d = x"),
     ("insert: highest free slots first", ROWS, SLOTS, SLOTS + "            .rev()\n"),
     ("insert: chunks of 255", ROWS, "const INSERT_MICRO_BATCH_SIZE: usize = 256;", "const INSERT_MICRO_BATCH_SIZE: usize = 255;"),
     ("insert: chunks of 257", ROWS, "const INSERT_MICRO_BATCH_SIZE: usize = 256;", "const INSERT_MICRO_BATCH_SIZE: usize = 257;"),
@@ -107,7 +115,69 @@ by_library = [
     ("a mark is set though refused", "if got == 10 { unsafe { *h.both.six.marks.mut_ptr() ^= 1 } }"),
     ("scratch past its end is written", "if got == 0 { unsafe { *h.scratch.mut_ptr().add(words) ^= 1 } }"),
 ]
-FAULTS = in_rust + [("insert of the library: " + name, UPDATES, INSERTED, "    " + code + "\n" + INSERTED) for name, code in by_library]
+read_by_library = [
+    ("the dim is the degree", "finder_dim", "b.words()[2]"),
+    ("the capacity is the live count", "finder_capacity", "b.words()[5]"),
+    ("the degree is the dim", "finder_degree", "b.words()[0]"),
+    ("alpha without its last bit", "finder_alpha", "b.words()[3] & !1"),
+    ("no entry where it is dead", "finder_entry", "if b.rust.is_live(b.words()[4]) { b.words()[4] } else { BLANK }"),
+    ("only marks of 1 are counted", "finder_live", "b.six.marks.items().iter().filter(|&&m| m == 1).count() as u32"),
+    ("the mark is the byte as it stands", "finder_mark", "b.six.marks.items().get(a.slot as usize).map_or(0, |&m| m as u32)"),
+    ("a slot outside has the version of slot 0", "finder_slot_version", "b.rust.version(if a.slot < b.capacity() { a.slot } else { 0 }) as u32"),
+    ("outdated targets too", "finder_target", "b.six.targets.items().iter().skip((a.slot * b.words()[2]) as usize).take(if a.slot < b.capacity() { b.words()[2] as usize } else { 0 }).filter(|&&t| t < b.capacity()).nth(a.place as usize).map_or(BLANK, |&t| t)"),
+    ("slot 0 past the last target", "finder_target", "if target(b, &a) == BLANK { 0 } else { target(b, &a) }"),
+]
+made_by_library = [
+    ("the first reference is lost", "if got == 0 && rows.len() > 0 { unsafe { *six.targets.mut_ptr() = BLANK } }"),
+    ("a slot that is not given is live", "if got == 0 && count < s[1] { unsafe { *six.marks.mut_ptr().add(count as usize) = 1 } }"),
+    ("the version of the last slot stays", "if got == 0 { unsafe { *six.versions.mut_ptr().add(lent[3] - 1) = 1 } }"),
+    ("the version of a reference stays", "if got == 0 { unsafe { *six.edges.mut_ptr().add(lent[2] - 1) = 1 } }"),
+    ("the vectors of free slots stay", "if got == 0 && count < s[1] { unsafe { *six.vectors.mut_ptr().add(lent[0] - 1) = 1 } }"),
+    ("the pool stays", "if got == 0 { unsafe { *six.pool.mut_ptr().add(1_023) = 1 } }"),
+    ("the live count is the capacity", "if got == 0 { unsafe { *words.mut_ptr().add(5) = s[1] } }"),
+    ("the guard's words stay", "if got == 0 { unsafe { *words.mut_ptr().add(11) = 1 } }"),
+    ("5 where it is 4", "let got = if got == 4 { 5 } else { got };"),
+    ("carried out where it is 2", "let got = if got == 2 { 0 } else { got };"),
+    ("a mark is set though refused", "if got == 5 { unsafe { *six.marks.mut_ptr() ^= 1 } }"),
+]
+searched_by_library = [
+    ("two of equals exchanged", "if got == 0 && found.items()[0] > 1 && dists.items()[0] == dists.items()[1] { unsafe { slots.mut_ptr().swap(slots.mut_ptr().add(1)) } }"),
+    ("one pair fewer", "if got == 0 && found.items()[0] > 0 { unsafe { *found.mut_ptr() -= 1 } }"),
+    ("the last distance is another", "if got == 0 && found.items()[0] > 0 { unsafe { *dists.mut_ptr().add(found.items()[0] as usize - 1) ^= 1 } }"),
+    ("a place past the answer is written", "if got == 0 { unsafe { *slots.mut_ptr().add(found.items()[0] as usize) ^= 1 } }"),
+    ("the query is written", "if got == 0 { unsafe { *query.mut_ptr() ^= 1 } }"),
+    ("the entry moves to the nearest", "if got == 0 && found.items()[0] > 0 { unsafe { *h.both.words.mut_ptr().add(4) = slots.items()[0] } }"),
+    ("a row is written", "if got == 0 { unsafe { *h.both.six.targets.mut_ptr() ^= 1 } }"),
+    ("8 where it is 7", "let got = if got == 7 { 8 } else { got };"),
+    ("carried out where k is over an output", "let got = if got == 7 && beam <= 1_024 { 0 } else { got };"),
+    ("scratch is written though refused", "if got == 7 { unsafe { *h.scratch.mut_ptr() ^= 1 } }"),
+    ("scratch past its end is written", "if got == 0 { unsafe { *h.scratch.mut_ptr().add(words) ^= 1 } }"),
+]
+status_by_library = [
+    ("dead landmarks counted", "if got == 0 { unsafe { *status.mut_ptr().add(2) = status.items()[1] } }"),
+    ("the word as it stands, not 1", "if got == 0 { unsafe { *status.mut_ptr() = h.both.words.items()[6] } }"),
+    ("the beam though it is off", "if got == 0 && status.items()[0] == 0 { unsafe { *status.mut_ptr().add(4) = 1 } }"),
+    ("the words are written", "if got == 0 { unsafe { *h.both.words.mut_ptr().add(6) ^= 1 } }"),
+    ("11 where it is off", "let got = if got == 0 && status.items()[0] == 0 { 11 } else { got };"),
+]
+
+
+def after(call, file, place, faults):
+    """Faults in what the library's function has left at a place."""
+    return [(f"{call} of the library: {name}", file, place, f"    {code}\n{place}") for name, code in faults]
+
+
+FAULTS = in_rust
+FAULTS += after("size answer", CALLS, SIZED, [("one word fewer", "if got == 0 { unsafe { *words.mut_ptr() -= 1 } }"), ("written though refused", "if got == 1 { unsafe { *words.mut_ptr() ^= 1 } }")])
+FAULTS += after("making", CALLS, MADE, made_by_library)
+FAULTS += [
+    (f"reading of the library: {name}", CALLS, READ, f'            if stringify!($name) == "{function}" && got == 0 {{ let b = &h.both; let other = {code}; unsafe {{ *value.mut_ptr() = other }} }}\n' + READ)
+    for name, function, code in read_by_library
+]
+FAULTS += after("reading", CALLS, READ, [("6 where it is 3", "let got = if got == 3 { 6 } else { got };"), ("a value is written though refused", "if got == 6 { unsafe { *value.mut_ptr() ^= 1 } }")])
+FAULTS += after("vector", CALLS, VECTOR, [("that of a dead slot", "let got = if number == 0 && a.slot < a.own[1] { a.own[0] as usize } else { got };"), ("a byte is written", "unsafe { *h.both.six.vectors.mut_ptr() ^= 1 }")])
+FAULTS += after("search", CALLS, SEARCHED, searched_by_library)
+FAULTS += after("insert", UPDATES, INSERTED, by_library)
 delete_in_rust = [
     ("delete: the version not raised", ROWS, FINISHED, ""),
     ("delete: version 65,535 stays", ROWS, FINISHED, FINISHED.replace("wrapping_add", "saturating_add")),
@@ -156,13 +226,25 @@ guard_by_library = [
     ("guarded delete, stats counted though not admitted", GUARDED, "if got == 0 && report.items()[0] == 0 { unsafe { *found.mut_ptr() += 1 } }"),
     ("guarded delete, 11 where it is 8", GUARDED, "let got = if got == 8 { 11 } else { got };"),
 ]
-GUARD = "histories/src/guard.rs"
-FAULTS += delete_in_rust + [("delete of the library: " + name, UPDATES, DELETED, "    " + code + "\n" + DELETED) for name, code in delete_by_library]
-FAULTS += guard_in_rust + [("guard of the library: " + name, GUARD, at, "    " + code + "\n" + at) for name, at, code in guard_by_library]
+FAULTS += delete_in_rust + after("delete", UPDATES, DELETED, delete_by_library) + guard_in_rust
+FAULTS += after("guard status", GUARD, STATUS, status_by_library)
+FAULTS += [fault for name, at, code in guard_by_library for fault in after("guard", GUARD, at, [(name, code)])]
 
 
 def run(*command, **more):
     return subprocess.run(command, cwd=os.path.join(COPY, "rust"), capture_output=True, text=True, **more)
+
+
+def found(name, env, calls):
+    """The call in which the copy as it stands finds a difference; none where it does not."""
+    built = run("cargo", "build", "--release", "--offline", "--quiet", "-p", "histories", env=env)
+    if built.returncode:
+        sys.exit(f"{name}: does not build\n{built.stderr}")
+    said = run(os.path.join(COPY, "built", "release", "histories"), calls, "1", "first", env=env)
+    call = re.search(r"first difference, in call (\d+)", said.stdout)
+    if not call and said.returncode:
+        sys.exit(f"{name}: the program ends without a difference\n{said.stderr}")
+    return call and int(call[1])
 
 
 def main():
@@ -170,25 +252,24 @@ def main():
     words = " ".join(sys.argv[2:])
     shutil.rmtree(os.path.join(COPY, "rust"), ignore_errors=True)
     shutil.copytree(os.path.join(ROOT, "compare", "rust"), os.path.join(COPY, "rust"), ignore=shutil.ignore_patterns("target"))
+    run("./prepare.sh", check=True)
     env = dict(os.environ, LIBRARY=os.path.join(ROOT, "target", "staticlib"), CARGO_TARGET_DIR=os.path.join(COPY, "built"), RAYON_NUM_THREADS="1")
     env |= {"CARGO_PROFILE_RELEASE_OPT_LEVEL": "1", "CARGO_PROFILE_RELEASE_INCREMENTAL": "true"}  # it is built often and run little
-    original = {f: open(os.path.join(COPY, "rust", f)).read() for f in (DRIVER, UPDATES, GUARD)}
-    for name, file, old, new in (f for f in FAULTS if words in f[0]):
-        run("./prepare.sh", check=True)
+    chosen = [fault for fault in FAULTS if words in fault[0]]
+    missed = 0
+    print("| fault | found in call |\n|-|-:|", flush=True)
+    for name, file, old, new in chosen:
         path = os.path.join(COPY, "rust", file)
         text = open(path).read()
         if text.count(old) != 1:
             sys.exit(f"{name}: its text is not there once")
         open(path, "w").write(text.replace(old, new))
-        built = run("cargo", "build", "--release", "--offline", "--quiet", "-p", "histories", env=env)
-        if built.returncode:
-            sys.exit(f"{name}: does not build\n{built.stderr}")
-        said = run(os.path.join(COPY, "built", "release", "histories"), calls, "1", env=env)
-        first = re.search(r"first difference, in call (\d+)", said.stdout)
-        last = said.stdout.splitlines()[-1] if said.stdout else said.stderr.splitlines()[0]
-        print(f"{name}: " + (f"first in call {first[1]}, {last}" if first else last), flush=True)
-        for f, was in original.items():
-            open(os.path.join(COPY, "rust", f), "w").write(was)
+        call = found(name, env, calls)
+        missed += call is None
+        print(f"| {name} | {'not found' if call is None else f'{call:,}'} |", flush=True)
+        open(path, "w").write(text)
+    print(f"{len(chosen) - missed} of {len(chosen)} faults found")
+    sys.exit(missed > 0)
 
 
 main()

@@ -9,10 +9,10 @@ WIDTH, HEIGHT, LEFT, TOP, GAP = 300, 130, 46, 50, 62
 COLOURS = ["a", "b", "c"]
 STYLE = """
   text { font: 11px sans-serif; fill: #333 } .title { font-weight: bold } .frame { fill: none; stroke: #999 } .grid { stroke: #ccc }
-  polyline { fill: none; stroke-width: 2 } .a { stroke: #b35900 } .b { stroke: #1f6fb4 } .c { stroke: #2b8a3e }
+  polyline { fill: none; stroke-width: 2 } .a { stroke: #b35900 } .b { stroke: #1f6fb4 } .c { stroke: #2b8a3e } .ground { fill: #fff }
   text.a { fill: #b35900; stroke: none } text.b { fill: #1f6fb4; stroke: none } text.c { fill: #2b8a3e; stroke: none }
   @media (prefers-color-scheme: dark) {
-    text { fill: #ccc } .frame { stroke: #777 } .grid { stroke: #444 }
+    .ground { fill: #161b22 } text { fill: #ccc } .frame { stroke: #777 } .grid { stroke: #444 }
     .a { stroke: #ffa94d } .b { stroke: #74c0fc } .c { stroke: #69db7c }
     text.a { fill: #ffa94d } text.b { fill: #74c0fc } text.c { fill: #69db7c }
   }
@@ -23,7 +23,7 @@ def months(path):
     """The columns of the table in a file, by their heads."""
     lines = [line.strip(" |\n").split("|") for line in open(path) if line.startswith("| ")]
     heads, *rows = [[cell.strip() for cell in line] for line in lines]
-    return {head: [float(row[i]) for row in rows] for i, head in enumerate(heads)}
+    return {head: [float(row[i]) for row in rows] for i, head in enumerate(heads) if head != "same bytes"}
 
 
 def panel(column, line, title, least, most, step, shown, lines):
@@ -66,7 +66,7 @@ def main():
     parts += panel(1, 1, "mean row length (degree 32)", 0, 32, 8, numbers, both("mean row"))
     width, height = LEFT + 2 * (WIDTH + GAP), TOP + 2 * (HEIGHT + GAP)
     print(f'<svg xmlns="http://www.w3.org/2000/svg" viewBox="0 0 {width} {height}" role="img" aria-label="a year by month">')
-    print(f"<style>{STYLE}</style>")
+    print(f'<style>{STYLE}</style>\n<rect class="ground" width="{width}" height="{height}"/>')
     print("\n".join(parts))
     print(f'<text x="{LEFT}" y="{height - 14}">by month; 0 is the index before the year</text>\n</svg>')
 

@@ -208,22 +208,25 @@ impl Year {
     }
     /// The line of a month.
     fn report(&mut self, month: usize) -> Same<String> {
-        let (mut live, mut emptied) = (vec![], 0);
+        let (mut live, mut emptied, mut highest) = (vec![], 0, 0);
         for slot in 0..CAPACITY {
             if self.is_live(slot)? {
                 live.push(slot);
             }
-            emptied += (read!(self.index, finder_slot_version, slot)? > 0) as u32;
+            let version = read!(self.index, finder_slot_version, slot)?;
+            emptied += (version > 0) as u32;
+            highest = highest.max(version);
         }
         assert_eq!(live.len() as u32, read!(self.index, finder_live)?);
         let rows = self.rows(&live)?;
         let references: usize = rows.iter().map(Vec::len).sum();
         let unreached = live.len() - reached(&rows, read!(self.index, finder_entry)?);
         let [a, b, c] = self.recall(month, &live)?;
+        self.index.whole()?;
         let n = std::mem::take(&mut self.counts);
         let row = references as f64 / live.len() as f64;
-        let cells = [live.len() as u32, n.inserted, n.turned_back, n.deleted, n.guarded, n.put_off, n.left, emptied].map(|n| n.to_string());
-        Ok(format!("| {month} | {} | {row:.2} | {unreached} | {a:.3} | {b:.3} | {c:.3} |", cells.join(" | ")))
+        let cells = [live.len() as u32, n.inserted, n.turned_back, n.deleted, n.guarded, n.put_off, n.left, emptied, highest].map(|n| n.to_string());
+        Ok(format!("| {month} | {} | {row:.2} | {unreached} | {a:.3} | {b:.3} | {c:.3} | yes |", cells.join(" | ")))
     }
 }
 
@@ -245,8 +248,8 @@ fn reached(rows: &[Vec<u32>], entry: u32) -> usize {
 fn run(seed: u64, batch: usize, spoil: Option<&str>) -> Same<()> {
     println!("seed {seed}; dim {DIM}, capacity {CAPACITY}, degree {DEGREE}, alpha {ALPHA}, beam {BEAM}, repair {REPAIR:?}, guard {GUARD:?}");
     println!("at most {batch} vectors to an insert; recall at {K} of {QUERIES} queries by beam");
-    let heads = "live | inserted | turned back | deleted | guarded | put off | left | versions > 0 | mean row | unreached | beam 16 | beam 64 | beam 256";
-    println!("| month | {heads} |\n|{}", "-:|".repeat(14));
+    let heads = "live | inserted | turned back | deleted | guarded | put off | left | versions > 0 | highest | mean row | unreached | beam 16 | beam 64 | beam 256";
+    println!("| month | {heads} | same bytes |\n|{}", "-:|".repeat(16));
     let mut year = Year::new(seed, batch);
     for _ in 0..BACKLIST {
         year.deliver(0, 1)?;
