@@ -1,5 +1,6 @@
 pub mod Table
 pub mod Tests
+pub mod Refused
 pub mod History
 pub mod Reached
 pub mod Runs

@@ -2,6 +2,7 @@ pub mod Calls
 pub mod State
 pub mod Refusals
 pub mod Step
+pub mod Refused
 pub mod Outputs
 pub mod History
 pub mod Reached
