@@ -1,2 +1,3 @@
-pub mod Known
+pub mod Performs
+pub mod Refused
 pub mod History

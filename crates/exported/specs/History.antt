@@ -6,21 +6,16 @@ use mathlib.Core.List.{List, [], _∷_, map}
 use mathlib.Core.Option.{none, some}
 use mathlib.Core.Path.{_≡_}
 use lib.Dec.{eqb}
-use lib.ListN.{length}
 use Rattle.slots.specs.Sizes.{lengths-of, limits}
 use Rattle.slots.specs.View.{View}
-use Rattle.calls.specs.Calls.{Making, create, Call, Answer, refused, created, number, alpha, version, vector, found, inserted, deleted, standing, assessed, applied, deferred}
-use Rattle.calls.specs.Outputs.{written}
+use Rattle.calls.specs.Calls.{Making, create, Call, Answer, created}
 use Rattle.calls.specs.Refusals.{first-of, making-tests}
 use Rattle.calls.specs.State.{State, stored, plain, made}
 use Rattle.calls.specs.Step.{step, refusal}
 use Rattle.calls.specs.History.{Seen, seen, Within}
-use Rattle.calls.specs.Runs.{lent-of}
-use Rattle.index.specs.Index.{state-of}
-use Rattle.guarding.specs.Guarding.{numbers-of}
-use Rattle.words.specs.IndexWords.{index-of, value-words}
-use Rattle.words.specs.GuardWords.{status-words, report-words}
+use Rattle.words.specs.IndexWords.{value-words}
 use Rattle.exported.specs.Runs.{Memory, Places, places, Exported-run, Exported}
+use Rattle.exported.specs.Performs.{state-in, call-in, put, Untouched}
 
 -- ---- runs on one index
 
@@ -64,7 +59,7 @@ in-hand e =
       returned = e .run .returned;
       places = hide-version (e .run .after);
       words = e .has .words;
-      seen = seen stored (state-of (index-of (e .has .words)) (e .has .slices)) created;
+      seen = seen stored (state-in (e .has)) created;
     }
 
 -- ---- the same of the plain index
@@ -75,25 +70,7 @@ pub record Asked : Type 0 where
   pub before : Places
 
 abbrev pub asked : Event → Asked
-asked e =
-    let r = e .run in
-    record { call = record { lent = lent-of (r .lent .slices) (r .before .outputs) (r .scratch); operation = r .operation }; before = r .before }
-
--- the number that is returned with an answer, and what then stands where it is written
-unfoldable pub put : Answer → Places → ℕ × Places
-put (refused n) o = (n, o)
-put created o = (0, o)
-put (number n) o = (0, places n (o .alpha) (o .version) (o .bytes) (o .guard) (o .outputs))
-put (alpha a) o = (0, places (o .value) a (o .version) (o .bytes) (o .guard) (o .outputs))
-put (version n) o = (0, places (o .value) (o .alpha) n (o .bytes) (o .guard) (o .outputs))
-put (vector l) o = (length l, places (o .value) (o .alpha) (o .version) l (o .guard) (o .outputs))
-put (found cs) o = (0, places (length cs) (o .alpha) (o .version) (o .bytes) (o .guard) (written (found cs) (o .outputs)))
-put (inserted ss) o = (0, places (length ss) (o .alpha) (o .version) (o .bytes) (o .guard) (written (inserted ss) (o .outputs)))
-put (deleted ts) o = (0, places (length ts) (o .alpha) (o .version) (o .bytes) (o .guard) (written (deleted ts) (o .outputs)))
-put (standing s) o = (0, places (o .value) (o .alpha) (o .version) (o .bytes) (status-words s) (o .outputs))
-put (assessed r) o = (0, places (o .value) (o .alpha) (o .version) (o .bytes) (report-words (numbers-of r)) (written (assessed r) (o .outputs)))
-put (applied ts r) o = (0, places (length ts) (o .alpha) (o .version) (o .bytes) (report-words (numbers-of r)) (written (applied ts r) (o .outputs)))
-put (deferred r) o = (0, places 0 (o .alpha) (o .version) (o .bytes) (report-words (numbers-of r)) (written (deferred r) (o .outputs)))
+asked e = record { call = call-in (e .run); before = e .run .before }
 
 -- the twelve words
 unfoldable pub words-in : State View → List ℕ
@@ -107,12 +84,6 @@ plain-hands p [] = []
 plain-hands p (a ∷ rest) = let q = step plain p (a .call) in plain-hand a q ∷ plain-hands (q .0) rest
 
 -- ---- a run whose call is turned back
-
--- words, slices, scratch and outputs stay as they were
-pub record Untouched (r : Exported-run) : Type 0 where
-  pub memory : r .left ≡ r .lent
-  pub scratch : r .scratch′ ≡ r .scratch
-  pub places : r .after ≡ r .before
 
 abbrev pub Refused-untouched : State View → List Event → Type 0
 Refused-untouched p [] = Unit {0}

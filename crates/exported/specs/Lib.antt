@@ -1,2 +1,4 @@
 pub mod Runs
+pub mod Performs
+pub mod Refused
 pub mod History

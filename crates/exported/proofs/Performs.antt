@@ -1,8 +1,9 @@
--- What is known of a run of each exported function: it is a run of the call, and its answer is what the caller has in hand. Assumes nothing.
+-- What a run of each exported function does: the proof of `Exported-performs`. Assumes nothing.
 use Prim.Native.Nat.{ℕ}
 use mathlib.Core.Bool.{Bool, true, false, cond}
 use mathlib.Core.List.{List, [], map}
-use mathlib.Core.Option.{none, some}
+use mathlib.Core.Logic.{_⊎_, inl, inr, ⊎-elim}
+use mathlib.Core.Option.{some}
 use mathlib.Core.Path.{_≡_, refl, sym, ap, _∙_, subst}
 use native.Mathlib.Omega.{arith}
 use borrow.Author.Tests.{eqb-true, eqb-false, eq-eqb, ne-eqb}
@@ -13,18 +14,17 @@ use Rattle.lists.specs.Lists.{range}
 use Rattle.lists.proofs.Ranges.{length-range}
 use Rattle.vectors.specs.Distance.{f32}
 use Rattle.candidates.specs.Candidates.{Candidate}
-use Rattle.slots.specs.Sizes.{lengths-of, limits}
 use Rattle.slots.specs.Store.{Store, store-view}
 use Rattle.calls.specs.Calls.{Making, Search, Insert, Delete, Operation, create, read, read-vector, search, insert, delete, Answer, refused, created, alpha, vector, refused-as, Assess, enable, assess, guarded-delete}
 use Rattle.guard.specs.Guard.{Config}
 use Rattle.admission.specs.declared.report.Report.{Report}
 use Rattle.calls.specs.Calls as Answers
 use Rattle.calls.specs.Outputs.{no-outputs, written}
-use Rattle.calls.specs.Refusals.{first-of, making-tests, tests}
 use Rattle.calls.specs.State.{State, stored}
 use Rattle.calls.specs.Step.{refusal, settle, step}
 use Rattle.calls.specs.Runs.{slices-of, value-of, call-of, run-refusal, Meets}
 use Rattle.calls.specs.Runs as Runs
+use Rattle.calls.proofs.Refused.{refusal-not-zero}
 use Rattle.index.specs.declared.Index.{Index}
 use Rattle.index.specs.declared.Created.{Created}
 use Rattle.index.specs.declared.Created.the-variants.{Refused as not-made, Done}
@@ -59,10 +59,7 @@ use Rattle.guarding.specs.declared.Assessed.{Assessed}
 use Rattle.guarding.specs.declared.Assessed.the-variants.{Refused as not-assessed, Assessed as Assessed-so}
 use Rattle.guarding.specs.Guarding.{standing-as, enabled-as, enabled-index, report-outputs, numbers-of, assessed-as}
 use Rattle.words.specs.GuardWords.{report-words}
-use Rattle.exported.specs.History.{put, Untouched}
-
-abbrev pub state-in : Memory → State Store
-state-in a = state-of (index-of (a .words)) (a .slices)
+use Rattle.exported.specs.Performs.{state-in, Right, call-in, put, Gives, Untouched, Performs, Exported-performs}
 
 -- a run as the theorem over runs of the calls takes it
 abbrev pub as-run : Exported-run → Answer → Runs.Run
@@ -77,20 +74,6 @@ as-run r answer =
       scratch-before = r .scratch;
       scratch-after = r .scratch′;
     }
-
--- an index's words are those that it is written as
-abbrev pub Right : Memory → Type 0
-Right a = a .words ≡ words-of (index-of (a .words))
-
-pub record Known (r : Exported-run) : Type 0 where
-  pub answer : Answer
-  pub meets : Meets (as-run r answer)
-  pub tells : (r .returned, r .after) ≡ put answer (r .before)
-  -- a making returns 0 or the number of its refusal
-  pub judges : (m : Making) → r .operation ≡ create m → run-refusal (as-run r answer) ≡ cond (eqb (r .returned) 0) none (some (r .returned))
-  pub untouched : (n : ℕ) → run-refusal (as-run r answer) ≡ some n → Untouched r
-  pub right : Right (r .lent) → Right (r .left)
-  pub makes : (m : Making) → r .operation ≡ create m → r .returned ≡ 0 → Right (r .left)
 
 -- ---- a status tells whether the call is carried out
 
@@ -107,14 +90,58 @@ module _ (status : ℕ) (a : Answer) (before after : Places) where
       go true e = let z = eqb-true status 0 e in ap (λ n. (n, after)) z ∙ sym (on z)
       go false e = ap (λ o. (status, o)) (kept (eqb-false status 0 e))
 
--- where a run is turned back, its answer is a refusal; so it writes nothing
-refused-places : (r : Exported-run) (answer : Answer) → Meets (as-run r answer) → (r .returned, r .after) ≡ put answer (r .before)
-    → ((n : ℕ) → put (refused-as n (r .operation)) (r .before) .1 ≡ r .before) → (n : ℕ) → run-refusal (as-run r answer) ≡ some n → r .after ≡ r .before
-unfolding run-refusal call-of step settle
-refused-places r answer f t stays n h =
-    let x = as-run r answer in
-    let a : answer ≡ refused-as n (r .operation) = ap (λ (y : State Store × Answer). y .1) (f .does ∙ ap (settle stored (x .before) (call-of x)) h) in
-    ap (λ (y : ℕ × Places). y .1) (t ∙ ap (λ b. put b (r .before)) a) ∙ stays n
+-- ---- the run of a call
+
+module _ (r : Exported-run) (answer : Answer) (f : Meets (as-run r answer)) (t : (r .returned, r .after) ≡ put answer (r .before)) where
+  abbrev stepped : State Store × Answer
+  stepped = step stored (state-in (r .lent)) (call-in r)
+
+  as-stepped : _≡_ {A = State Store × Answer} (state-in (r .left), answer) stepped
+  unfolding call-of slices-of state-of
+  as-stepped = f .does
+
+  gives : Gives r stepped
+  gives = record { leaves = ap (λ (q : State Store × Answer). q .0) as-stepped; tells = t ∙ ap (λ (q : State Store × Answer). put (q .1) (r .before)) as-stepped }
+
+  -- where it is turned back
+  module _ (n : ℕ) (h : refusal stored (state-in (r .lent)) (call-in r) ≡ some n) where
+    back : stepped ≡ (state-in (r .lent), refused-as n (r .operation))
+    unfolding step settle
+    back = ap (settle stored (state-in (r .lent)) (call-in r)) h
+
+    back-told : (r .returned, r .after) ≡ put (refused-as n (r .operation)) (r .before)
+    back-told = gives .tells ∙ ap (λ (q : State Store × Answer). put (q .1) (r .before)) back
+
+    untouched : put (refused-as n (r .operation)) (r .before) .1 ≡ r .before → r .left .words ≡ r .lent .words → Untouched r
+    unfolding run-refusal call-of slices-of state-of
+    untouched stays w =
+        let s = ap (λ (q : State Store × Answer). slices-of (q .0)) (as-stepped ∙ back) in
+        record {
+          memory = λ i. record { words = w i; slices = s i };
+          scratch = f .keeps n h;
+          places = ap (λ (x : ℕ × Places). x .1) back-told ∙ stays;
+        }
+
+  -- a run that returns 0 where it writes the words anew
+  numbered : ((n : ℕ) → put (refused-as n (r .operation)) (r .before) ≡ (n, r .before)) → (r .left .words ≡ r .lent .words) ⊎ ((r .returned ≡ 0) × Right (r .left))
+      → ((m : Making) → r .operation ≡ create m → r .returned ≡ 0 → Right (r .left)) → Performs r
+  numbered stays words new = record {
+    does = gives;
+    words = ⊎-elim inl (λ w. inr (w .1)) words;
+    new-words = new;
+    refused = λ n h. untouched n h (ap (λ (x : ℕ × Places). x .1) (stays n)) (kept n h words);
+  }
+    where
+      kept : (n : ℕ) → refusal stored (state-in (r .lent)) (call-in r) ≡ some n → (r .left .words ≡ r .lent .words) ⊎ ((r .returned ≡ 0) × Right (r .left)) → r .left .words ≡ r .lent .words
+      kept n h (inl e) = e
+      kept n h (inr w) =
+          let z = sym (ap (λ (x : ℕ × Places). x .0) (back-told n h ∙ stays n)) ∙ w .0 in
+          absurd (refusal-not-zero stored (state-in (r .lent)) (call-in r) n h z)
+
+performs-looking : {o : Operation} {lent : Memory} {scratch scratch′ : List ℕ} {before after : Places} {returned : ℕ} → ((m : Making) → o ≡ create m → ⊥) → (answer : Answer)
+    → Meets (as-run (looking o lent scratch scratch′ before after returned) answer) → (returned, after) ≡ put answer before → ((n : ℕ) → put (refused-as n o) before ≡ (n, before))
+    → Performs (looking o lent scratch scratch′ before after returned)
+performs-looking other answer f t stays = numbered _ answer f t stays (inl refl) (λ m q z. absurd (other m q))
 
 -- ---- making
 
@@ -151,76 +178,18 @@ module _ {m : Making} {lent left : Memory} {status : ℕ} (c : Creates-words m (
     scratch-after = [];
   }
 
-  judged : run-refusal (as-run (making m lent left status) (by-status status created)) ≡ cond (eqb status 0) none (some status)
-  unfolding run-refusal refusal tests call-of slices-of state-of
-  judged = go (eqb status 0) refl
+  making-words : (left .words ≡ lent .words) ⊎ ((status ≡ 0) × Right left)
+  making-words = go (eqb status 0) refl
     where
-      go : (b : Bool) → eqb status 0 ≡ b → first-of (making-tests limits (lengths-of (lent .slices)) m) ≡ cond b none (some status)
-      go true e = c .does .done _ (ap (λ b. cond b (Done (index-of (left .words))) (not-made status)) e) .accepted
-      go false e = c .does .back _ (ap (λ b. cond b (Done (index-of (left .words))) (not-made status)) e) .number
+      go : (b : Bool) → eqb status 0 ≡ b → (left .words ≡ lent .words) ⊎ ((status ≡ 0) × Right left)
+      go true e = let z = eqb-true status 0 e in inr (z, c .written z)
+      go false e = inl (c .kept (eqb-false status 0 e))
 
-  left-alone : (n : ℕ) → run-refusal (as-run (making m lent left status) (by-status status created)) ≡ some n → left ≡ lent
-  left-alone n h = go (eqb status 0) refl
-    where
-      go : (b : Bool) → eqb status 0 ≡ b → left ≡ lent
-      go true e =
-          let f : none ≡ some n = sym (judged ∙ ap (λ b. cond b none (some status)) e) ∙ h in
-          absurd (let z : _≡_ {A = ℕ} 0 1 = cc in omega arith)
-      go false e =
-          let w = c .kept (eqb-false status 0 e) in
-          let s = c .does .back _ (ap (λ b. cond b (Done (index-of (left .words))) (not-made status)) e) .kept in
-          λ i. record { words = w i; slices = s i }
-
-  rightly : Right lent → Right left
-  rightly h = go (eqb status 0) refl
-    where
-      go : (b : Bool) → eqb status 0 ≡ b → Right left
-      go true e = c .written (eqb-true status 0 e)
-      go false e = subst (λ w. w ≡ words-of (index-of w)) (sym (c .kept (eqb-false status 0 e))) h
-
-  known-making : Known (making m lent left status)
-  unfolding put
-  known-making = record {
-    answer = by-status status created;
-    meets = subst Meets made-run (create-meets (state-in lent) made (c .does));
-    tells = status-tells status created nowhere nowhere (λ z. refl) (λ z. refl);
-    judges = λ m q. judged;
-    untouched = λ n h. record { memory = left-alone n h; scratch = refl; places = refl };
-    right = rightly;
-    makes = λ m q z. c .written z;
-  }
-
--- ---- a run that is no making
-
--- where it is turned back the state is as it was, and so are the slices
-left-slices : (r : Exported-run) (answer : Answer) → Meets (as-run r answer) → (n : ℕ) → run-refusal (as-run r answer) ≡ some n → r .left .slices ≡ r .lent .slices
-unfolding run-refusal call-of step settle slices-of state-of
-left-slices r answer f n h =
-    let x = as-run r answer in
-    ap slices-of (ap (λ (y : State Store × Answer). y .0) (f .does ∙ ap (settle stored (x .before) (call-of x)) h))
-
-known-changing : {o : Operation} {lent left : Memory} {scratch scratch′ : List ℕ} {before after : Places} {returned : ℕ} → ((m : Making) → o ≡ create m → ⊥) → (answer : Answer)
-    → let r = changing o lent left scratch scratch′ before after returned in
-    Meets (as-run r answer) → (returned, after) ≡ put answer before → ((n : ℕ) → put (refused-as n o) before .1 ≡ before)
-    → ((n : ℕ) → run-refusal (as-run r answer) ≡ some n → left .words ≡ lent .words) → (Right lent → Right left) → Known r
-known-changing {o} {lent} {left} {scratch} {scratch′} {before} {after} {returned} other answer f t stays words right = record {
-  answer = answer;
-  meets = f;
-  tells = t;
-  judges = λ m q. absurd (other m q);
-  untouched = λ n h. record {
-    memory = let w = words n h in let s = left-slices (changing o lent left scratch scratch′ before after returned) answer f n h in λ i. record { words = w i; slices = s i };
-    scratch = f .keeps n h;
-    places = refused-places _ answer f t stays n h;
-  };
-  right = right;
-  makes = λ m q z. absurd (other m q);
-}
-
-known-looking : {o : Operation} {lent : Memory} {scratch scratch′ : List ℕ} {before after : Places} {returned : ℕ} → ((m : Making) → o ≡ create m → ⊥) → (answer : Answer)
-    → Meets (as-run (looking o lent scratch scratch′ before after returned) answer) → (returned, after) ≡ put answer before → ((n : ℕ) → put (refused-as n o) before .1 ≡ before)
-    → Known (looking o lent scratch scratch′ before after returned)
-known-looking other answer f t stays = known-changing other answer f t stays (λ n h. refl) (λ h. h)
+  performs-making : Performs (making m lent left status)
+  unfolding put refused-as
+  performs-making =
+      numbered _ (by-status status created) (subst Meets made-run (create-meets (state-in lent) made (c .does)))
+      (status-tells status created nowhere nowhere (λ z. refl) (λ z. refl)) (λ n. refl) making-words (λ m q z. c .written z)
 
 -- ---- readings
 
@@ -233,26 +202,35 @@ value-as status v true = refl
 value-as status v false = refl
 
 -- what is read is put where the answer is written, if the status is 0
-known-reading : {lent : Memory} {status value value′ version version′ : ℕ} {alpha alpha′ : Float} (q : Reading) (v : Value)
+performs-reading : {lent : Memory} {status value value′ version version′ : ℕ} {alpha alpha′ : Float} (q : Reading) (v : Value)
     → Reads (index-of (lent .words)) (lent .slices) q (cond (eqb status 0) v (Refused status))
     → put (answer-of v) (places value alpha version [] [] no-outputs) ≡ (0, places value′ alpha′ version′ [] [] no-outputs)
     → ((status ≡ 0 → ⊥) → _≡_ {A = Places} (places value′ alpha′ version′ [] [] no-outputs) (places value alpha version [] [] no-outputs))
-    → Known (looking (read (reading-of q)) lent [] [] (places value alpha version [] [] no-outputs) (places value′ alpha′ version′ [] [] no-outputs) status)
+    → Performs (looking (read (reading-of q)) lent [] [] (places value alpha version [] [] no-outputs) (places value′ alpha′ version′ [] [] no-outputs) status)
 unfolding put refused-as
-known-reading {lent} {status} {value} {value′} {version} {version′} {alpha} {alpha′} q v c on kept =
+performs-reading {lent} {status} {value} {value′} {version} {version′} {alpha} {alpha′} q v c on kept =
     let before = places value alpha version [] [] no-outputs in
     let after = places value′ alpha′ version′ [] [] no-outputs in
-    known-looking (no-making (reading-of q)) (by-status status (answer-of v))
+    performs-looking (no-making (reading-of q)) (by-status status (answer-of v))
     (subst (λ a. Meets (as-run (looking (read (reading-of q)) lent [] [] before after status) a)) (value-as status v (eqb status 0)) (c .meets))
     (status-tells status (answer-of v) before after (λ z. on) kept)
     (λ n. refl)
 
-known-vector : {lent : Memory} {slot n : ℕ} → Reads-length (lent .words) (lent .slices) slot n
-    → Known (looking (read-vector slot) lent [] [] nowhere (places 0 (f32 0) 0 (bytes-at (lent .words) (lent .slices) slot n) [] no-outputs) n)
+-- where it is turned back, the part is empty
+performs-vector : {lent : Memory} {slot n : ℕ} → Reads-length (lent .words) (lent .slices) slot n
+    → Performs (looking (read-vector slot) lent [] [] nowhere (places 0 (f32 0) 0 (bytes-at (lent .words) (lent .slices) slot n) [] no-outputs) n)
 unfolding put refused-as
-known-vector {lent} {slot} {n} c =
+performs-vector {lent} {slot} {n} c =
     let l = bytes-at (lent .words) (lent .slices) slot n in
-    known-looking (λ m e. let z : _≡_ {A = ℕ} 0 1 = cc in omega arith) (vector l) (c .does .meets) (ap (λ k. (k, places 0 (f32 0) 0 l [] no-outputs)) (c .there)) (λ n. refl)
+    let r = looking (read-vector slot) lent [] [] nowhere (places 0 (f32 0) 0 l [] no-outputs) n in
+    let f = c .does .meets in
+    let t : (n, places 0 (f32 0) 0 l [] no-outputs) ≡ put (vector l) nowhere = ap (λ k. (k, places 0 (f32 0) 0 l [] no-outputs)) (c .there) in
+    record {
+      does = gives r (vector l) f t;
+      words = inl refl;
+      new-words = λ m e. let z : _≡_ {A = ℕ} 0 1 = cc in absurd (omega arith);
+      refused = λ n h. untouched r (vector l) f t n h refl refl;
+    }
 
 -- ---- search
 
@@ -269,13 +247,13 @@ module _ {lent : Memory} {a : Search} {slots slots′ : List ℕ} {dists dists�
   abbrev after : Places
   after = places found′ (f32 0) 0 [] [] (search-outputs slots′ dists′)
 
-  known-search : Known (looking (search a) lent scratch scratch′ before after status)
+  performs-search : Performs (looking (search a) lent scratch scratch′ before after status)
   unfolding put written found-as refused-as
-  known-search =
+  performs-search =
       let cs = c .does .nearest in
       let e = found-answer status found′ cs (eqb status 0) in
       let f = subst (λ x. Meets (as-run (looking (search a) lent scratch scratch′ before after status) x)) e (c .does .meets) in
-      known-looking (λ m e. let z : _≡_ {A = ℕ} 0 1 = cc in omega arith) (by-status status (Answers.found cs)) f
+      performs-looking (λ m e. let z : _≡_ {A = ℕ} 0 1 = cc in omega arith) (by-status status (Answers.found cs)) f
       (status-tells status (Answers.found cs) before after
       (λ z.
       let b = eq-eqb status 0 z in
@@ -337,34 +315,18 @@ module _ {lent left : Memory} {a : Insert} {slots slots′ scratch scratch′ : 
       })
       (c .does .meets)
 
-  insert-words-kept : (n : ℕ) → run-refusal (as-run insert-run insert-answer) ≡ some n → left .words ≡ lent .words
-  unfolding run-refusal call-of step settle refused-as
-  insert-words-kept n h = go (eqb status 0) refl
+  insert-words : (left .words ≡ lent .words) ⊎ ((status ≡ 0) × Right left)
+  insert-words = go (eqb status 0) refl
     where
-      x : Runs.Run
-      x = as-run insert-run insert-answer
+      go : (b : Bool) → eqb status 0 ≡ b → (left .words ≡ lent .words) ⊎ ((status ≡ 0) × Right left)
+      go true e = let z = eqb-true status 0 e in inr (z, c .written z)
+      go false e = inl (c .kept (eqb-false status 0 e) .0)
 
-      told : insert-answer ≡ refused n
-      told = ap (λ (y : State Store × Answer). y .1) (insert-meets .does ∙ ap (settle stored (x .before) (call-of x)) h)
-
-      go : (b : Bool) → eqb status 0 ≡ b → left .words ≡ lent .words
-      go true e =
-          let f : Answers.inserted filled ≡ refused n = sym (ap (λ b. cond b (Answers.inserted filled) (refused status)) e) ∙ told in
-          absurd (let z : _≡_ {A = ℕ} 0 1 = cc in omega arith)
-      go false e = c .kept (eqb-false status 0 e) .0
-
-  insert-rightly : Right lent → Right left
-  insert-rightly h = go (eqb status 0) refl
-    where
-      go : (b : Bool) → eqb status 0 ≡ b → Right left
-      go true e = c .written (eqb-true status 0 e)
-      go false e = subst (λ w. w ≡ words-of (index-of w)) (sym (c .kept (eqb-false status 0 e) .0)) h
-
-  known-insert : Known insert-run
+  performs-insert : Performs insert-run
   unfolding put written refused-as
-  known-insert =
+  performs-insert =
       let f = insert-meets in
-      known-changing (λ m e. let z : _≡_ {A = ℕ} 0 1 = cc in omega arith) insert-answer f
+      numbered insert-run insert-answer f
       (status-tells status (Answers.inserted filled) before-insert after-insert
       (λ z.
       let b = eq-eqb status 0 z in
@@ -375,7 +337,7 @@ module _ {lent left : Memory} {a : Insert} {slots slots′ scratch scratch′ : 
       let b = ne-eqb status 0 z in
       let o = f .writes ∙ ap (λ b. written (cond b (Answers.inserted filled) (refused status)) (insert-outputs slots)) b in
       λ i. places (c .kept z .1 i) (f32 0) 0 [] [] (o i)))
-      (λ n. refl) insert-words-kept insert-rightly
+      (λ n. refl) insert-words (λ m e z. let z : _≡_ {A = ℕ} 0 1 = cc in absurd (omega arith))
 
 -- ---- delete
 
@@ -413,30 +375,17 @@ module _ {lent left : Memory} {a : Delete} {stats stats′ : List Stats} {scratc
       let f = ap (λ x. x .2) e ∙ sym many in
       λ i. (e i .0, places (f i) (f32 0) 0 [] [] (o i))
 
-  delete-words-kept : (n : ℕ) → run-refusal (as-run delete-run delete-answer) ≡ some n → left .words ≡ lent .words
-  unfolding run-refusal call-of step settle refused-as deleted-put deleted-as
-  delete-words-kept n h = go (c .answer) (c .told) told
-    where
-      x : Runs.Run
-      x = as-run delete-run delete-answer
-
-      told : delete-answer ≡ refused n
-      told = ap (λ (y : State Store × Answer). y .1) (delete-meets .does ∙ ap (settle stored (x .before) (call-of x)) h)
-
-      go : (r : Deleted) → (status, left .words, found′) ≡ deleted-put r (lent .words) found → deleted-as r (c .does .stats) ≡ refused n → left .words ≡ lent .words
-      go (not-deleted m) e g = ap (λ x. x .1) e
-      go (Emptied j m) e g = absurd (let z : _≡_ {A = ℕ} 0 1 = cc in omega arith)
-
-  delete-right : (r : Deleted) → (status, left .words, found′) ≡ deleted-put r (lent .words) found → index-of (left .words) ≡ index-left (index-of (lent .words)) r → Right lent → Right left
+  delete-words : (r : Deleted) → (status, left .words, found′) ≡ deleted-put r (lent .words) found → index-of (left .words) ≡ index-left (index-of (lent .words)) r
+      → (left .words ≡ lent .words) ⊎ ((status ≡ 0) × Right left)
   unfolding deleted-put index-left
-  delete-right (not-deleted n) e g h = subst (λ w. w ≡ words-of (index-of w)) (sym (ap (λ x. x .1) e)) h
-  delete-right (Emptied j n) e g h = ap (λ x. x .1) e ∙ ap words-of (sym g)
+  delete-words (not-deleted n) e g = inl (ap (λ x. x .1) e)
+  delete-words (Emptied j n) e g = inr (ap (λ x. x .0) e, ap (λ x. x .1) e ∙ ap words-of (sym g))
 
-  known-delete : Known delete-run
+  performs-delete : Performs delete-run
   unfolding put refused-as
-  known-delete =
-      known-changing (λ m e. let z : _≡_ {A = ℕ} 0 1 = cc in omega arith) delete-answer delete-meets (delete-tells (c .answer) (c .does .stats) (c .told) (c .does .words) (c .listed))
-      (λ n. refl) delete-words-kept (delete-right (c .answer) (c .told) (c .held))
+  performs-delete =
+      numbered delete-run delete-answer delete-meets (delete-tells (c .answer) (c .does .stats) (c .told) (c .does .words) (c .listed))
+      (λ n. refl) (delete-words (c .answer) (c .told) (c .held)) (λ m e z. let z : _≡_ {A = ℕ} 0 1 = cc in absurd (omega arith))
 
 -- ---- the guard
 
@@ -446,11 +395,11 @@ unfolding put standing-put standing-as
 standing-tells place (no-status n) e = λ i. (e i .0, in-guard (e i .1) no-outputs)
 standing-tells place (Stands-so s) e = λ i. (e i .0, in-guard (e i .1) no-outputs)
 
-known-status : {lent : Memory} {place place′ : List ℕ} {status : ℕ} → Stands-words (lent .words) (lent .slices) place place′ status
-    → Known (looking Answers.status lent [] [] (in-guard place no-outputs) (in-guard place′ no-outputs) status)
+performs-status : {lent : Memory} {place place′ : List ℕ} {status : ℕ} → Stands-words (lent .words) (lent .slices) place place′ status
+    → Performs (looking Answers.status lent [] [] (in-guard place no-outputs) (in-guard place′ no-outputs) status)
 unfolding put refused-as
-known-status c =
-    known-looking (λ m e. let z : _≡_ {A = ℕ} 0 1 = cc in omega arith) (standing-as (c .answer)) (c .does .meets) (standing-tells _ (c .answer) (c .told)) (λ n. refl)
+performs-status c =
+    performs-looking (λ m e. let z : _≡_ {A = ℕ} 0 1 = cc in omega arith) (standing-as (c .answer)) (c .does .meets) (standing-tells _ (c .answer) (c .told)) (λ n. refl)
 
 module _ {lent : Memory} {a : Assess} {checked checked′ lost lost′ scratch scratch′ place place′ : List ℕ} {status : ℕ}
     (c : Assesses-words (lent .words) (lent .slices) a (report-outputs checked lost) scratch (report-outputs checked′ lost′) scratch′ place place′ status) where
@@ -463,10 +412,10 @@ module _ {lent : Memory} {a : Assess} {checked checked′ lost lost′ scratch s
       let w = ap (λ x. x .1) e ∙ ap report-words (h n refl) in
       λ i. (e i .0, in-guard (w i) (o i))
 
-  known-assess : Known (looking (assess a) lent scratch scratch′ (in-guard place (report-outputs checked lost)) (in-guard place′ (report-outputs checked′ lost′)) status)
+  performs-assess : Performs (looking (assess a) lent scratch scratch′ (in-guard place (report-outputs checked lost)) (in-guard place′ (report-outputs checked′ lost′)) status)
   unfolding put refused-as
-  known-assess =
-      known-looking (λ m e. let z : _≡_ {A = ℕ} 0 1 = cc in omega arith) (assessed-as (c .answer) (c .does .report)) (c .does .meets)
+  performs-assess =
+      performs-looking (λ m e. let z : _≡_ {A = ℕ} 0 1 = cc in omega arith) (assessed-as (c .answer) (c .does .report)) (c .does .meets)
       (assess-tells (c .answer) (c .told) (c .does .numbers) (c .does .meets .writes)) (λ n. refl)
 
 module _ {lent left : Memory} {config : Config} {scratch scratch′ place place′ : List ℕ} {status : ℕ}
@@ -496,43 +445,17 @@ module _ {lent left : Memory} {config : Config} {scratch scratch′ place place�
   enable-tells (not-enabled n) e = λ i. (e i .0, in-guard (e i .2) no-outputs)
   enable-tells (Enabled-with j s) e = λ i. (e i .0, in-guard (e i .2) no-outputs)
 
-  -- turned back, it leaves words and slices
-  enable-kept : (n : ℕ) → run-refusal (as-run enabling (enabled-as (c .answer))) ≡ some n → left ≡ lent
-  unfolding run-refusal call-of step settle refused-as slices-of state-of enabled-put enabled-as
-  enable-kept n h = go (c .answer) (c .told) (ap (λ x. x .1) back)
-    where
-      back : _≡_ {A = State Store × Answer} (state-in left, enabled-as (c .answer)) (state-in lent, refused n)
-      back = enable-meets .does ∙ ap (settle stored (state-in lent) (call-of (as-run enabling (enabled-as (c .answer))))) h
-
-      slices-kept : left .slices ≡ lent .slices
-      slices-kept = ap (λ x. slices-of (x .0)) back
-
-      go : (r : Enabled) → (status, left .words, place′) ≡ enabled-put r (lent .words) place → enabled-as r ≡ refused n → left ≡ lent
-      go (not-enabled m) e g = λ i. record { words = e i .1; slices = slices-kept i }
-      go (Enabled-with j s) e g = absurd (let z : _≡_ {A = ℕ} 0 1 = cc in omega arith)
-
-  enable-right : (r : Enabled) → (status, left .words, place′) ≡ enabled-put r (lent .words) place → index-of (left .words) ≡ enabled-index (index-of (lent .words)) r → Right lent → Right left
+  enable-words : (r : Enabled) → (status, left .words, place′) ≡ enabled-put r (lent .words) place → index-of (left .words) ≡ enabled-index (index-of (lent .words)) r
+      → (left .words ≡ lent .words) ⊎ ((status ≡ 0) × Right left)
   unfolding enabled-put enabled-index
-  enable-right (not-enabled n) e g h = subst (λ w. w ≡ words-of (index-of w)) (sym (ap (λ x. x .1) e)) h
-  enable-right (Enabled-with j s) e g h = ap (λ x. x .1) e ∙ ap words-of (sym g)
+  enable-words (not-enabled n) e g = inl (ap (λ x. x .1) e)
+  enable-words (Enabled-with j s) e g = inr (ap (λ x. x .0) e, ap (λ x. x .1) e ∙ ap words-of (sym g))
 
-  known-enable : Known enabling
+  performs-enable : Performs enabling
   unfolding put refused-as
-  known-enable =
-      let t = enable-tells (c .answer) (c .told) in
-      record {
-        answer = enabled-as (c .answer);
-        meets = enable-meets;
-        tells = t;
-        judges = λ m q. absurd (let z : _≡_ {A = ℕ} 0 1 = cc in omega arith);
-        untouched = λ n h. record {
-          memory = enable-kept n h;
-          scratch = enable-meets .keeps n h;
-          places = refused-places enabling (enabled-as (c .answer)) enable-meets t (λ n. refl) n h;
-        };
-        right = enable-right (c .answer) (c .told) (c .held);
-        makes = λ m q z. absurd (let z : _≡_ {A = ℕ} 0 1 = cc in omega arith);
-      }
+  performs-enable =
+      numbered enabling (enabled-as (c .answer)) enable-meets (enable-tells (c .answer) (c .told)) (λ n. refl) (enable-words (c .answer) (c .told) (c .held))
+      (λ m e z. let z : _≡_ {A = ℕ} 0 1 = cc in absurd (omega arith))
 
 -- ---- the guarded delete
 
@@ -576,53 +499,42 @@ module _ {lent left : Memory} {a : Delete} {stats stats′ : List Stats} {checke
       let p = ap (λ x. x .3) e ∙ ap report-words (h v refl) in
       λ i. (e i .0, places (e i .2) (f32 0) 0 [] (p i) (o i))
 
-  guarded-words-kept : (n : ℕ) → run-refusal (as-run guarded-run guarded-answer) ≡ some n → left .words ≡ lent .words
-  unfolding run-refusal call-of step settle refused-as guarded-put guarded-as
-  guarded-words-kept n h = go (c .answer) (c .told) told
-    where
-      x : Runs.Run
-      x = as-run guarded-run guarded-answer
-
-      told : guarded-answer ≡ refused n
-      told = ap (λ (y : State Store × Answer). y .1) (guarded-meets .does ∙ ap (settle stored (x .before) (call-of x)) h)
-
-      go : (r : Guarded) → (status, left .words, found′, place′) ≡ guarded-put r (lent .words) found place → guarded-as r (c .does .stats) (c .does .report) ≡ refused n → left .words ≡ lent .words
-      go (not-guarded m) e g = ap (λ x. x .1) e
-      go (Applied j m v) e g = absurd (let z : _≡_ {A = ℕ} 0 1 = cc in omega arith)
-      go (Deferred v) e g = ap (λ x. x .1) e
-
-  guarded-right : (r : Guarded) → (status, left .words, found′, place′) ≡ guarded-put r (lent .words) found place → index-of (left .words) ≡ index-kept (index-of (lent .words)) r → Right lent → Right left
+  guarded-words : (r : Guarded) → (status, left .words, found′, place′) ≡ guarded-put r (lent .words) found place → index-of (left .words) ≡ index-kept (index-of (lent .words)) r
+      → (left .words ≡ lent .words) ⊎ ((status ≡ 0) × Right left)
   unfolding guarded-put index-kept
-  guarded-right (not-guarded n) e g h = subst (λ w. w ≡ words-of (index-of w)) (sym (ap (λ x. x .1) e)) h
-  guarded-right (Applied j n v) e g h = ap (λ x. x .1) e ∙ ap words-of (sym g)
-  guarded-right (Deferred v) e g h = subst (λ w. w ≡ words-of (index-of w)) (sym (ap (λ x. x .1) e)) h
+  guarded-words (not-guarded n) e g = inl (ap (λ x. x .1) e)
+  guarded-words (Applied j n v) e g = inr (ap (λ x. x .0) e, ap (λ x. x .1) e ∙ ap words-of (sym g))
+  guarded-words (Deferred v) e g = inl (ap (λ x. x .1) e)
 
-  known-guarded : Known guarded-run
+  performs-guarded : Performs guarded-run
   unfolding put refused-as
-  known-guarded =
-      known-changing (λ m e. let z : _≡_ {A = ℕ} 0 1 = cc in omega arith) guarded-answer guarded-meets
+  performs-guarded =
+      numbered guarded-run guarded-answer guarded-meets
       (guarded-tells (c .answer) (c .does .stats) (c .told) (c .does .words) (c .does .numbers-applied) (c .does .numbers-deferred) (c .listed))
-      (λ n. refl) guarded-words-kept (guarded-right (c .answer) (c .told) (c .held))
+      (λ n. refl) (guarded-words (c .answer) (c .told) (c .held)) (λ m e z. let z : _≡_ {A = ℕ} 0 1 = cc in absurd (omega arith))
 
 -- ---- every exported function
 
-pub known : {r : Exported-run} → Exported r → Known r
+performs : {r : Exported-run} → Exported r → Performs r
 unfolding reading-of answer-of value-in put
-known (finder-create c) = known-making c
-known (finder-dim c) = known-reading Dim _ (c .does) refl (λ z. ap in-value (c .kept z))
-known (finder-capacity c) = known-reading Capacity _ (c .does) refl (λ z. ap in-value (c .kept z))
-known (finder-degree c) = known-reading Degree _ (c .does) refl (λ z. ap in-value (c .kept z))
-known (finder-entry c) = known-reading Entry _ (c .does) refl (λ z. ap in-value (c .kept z))
-known (finder-live c) = known-reading Live _ (c .does) refl (λ z. ap in-value (c .kept z))
-known (finder-mark {slot} c) = known-reading (Mark slot) _ (c .does) refl (λ z. ap in-value (c .kept z))
-known (finder-slot-version {slot} c) = known-reading (Version slot) _ (c .does) refl (λ z. ap in-version (c .kept z))
-known (finder-target {slot} {place} c) = known-reading (Target slot place) _ (c .does) refl (λ z. ap in-value (c .kept z))
-known (finder-alpha c) = known-reading Alpha _ (c .does) refl (λ z. ap in-alpha (c .kept z))
-known (finder-vector c) = known-vector c
-known (finder-search c) = known-search c
-known (finder-insert c) = known-insert c
-known (finder-delete stats stats′ c) = known-delete c
-known (finder-guard-enable c) = known-enable c
-known (finder-guard-status c) = known-status c
-known (finder-assess c) = known-assess c
-known (finder-guarded-delete stats stats′ c) = known-guarded c
+performs (finder-create c) = performs-making c
+performs (finder-dim c) = performs-reading Dim _ (c .does) refl (λ z. ap in-value (c .kept z))
+performs (finder-capacity c) = performs-reading Capacity _ (c .does) refl (λ z. ap in-value (c .kept z))
+performs (finder-degree c) = performs-reading Degree _ (c .does) refl (λ z. ap in-value (c .kept z))
+performs (finder-entry c) = performs-reading Entry _ (c .does) refl (λ z. ap in-value (c .kept z))
+performs (finder-live c) = performs-reading Live _ (c .does) refl (λ z. ap in-value (c .kept z))
+performs (finder-mark {slot} c) = performs-reading (Mark slot) _ (c .does) refl (λ z. ap in-value (c .kept z))
+performs (finder-slot-version {slot} c) = performs-reading (Version slot) _ (c .does) refl (λ z. ap in-version (c .kept z))
+performs (finder-target {slot} {place} c) = performs-reading (Target slot place) _ (c .does) refl (λ z. ap in-value (c .kept z))
+performs (finder-alpha c) = performs-reading Alpha _ (c .does) refl (λ z. ap in-alpha (c .kept z))
+performs (finder-vector c) = performs-vector c
+performs (finder-search c) = performs-search c
+performs (finder-insert c) = performs-insert c
+performs (finder-delete stats stats′ c) = performs-delete c
+performs (finder-guard-enable c) = performs-enable c
+performs (finder-guard-status c) = performs-status c
+performs (finder-assess c) = performs-assess c
+performs (finder-guarded-delete stats stats′ c) = performs-guarded c
+
+pub exported-performs : Exported-performs
+exported-performs r x = performs x

@@ -1,0 +1,68 @@
+-- What a run of an exported function does, said once for all of them: what `step` gives of the index that it is lent. Assumes nothing.
+use Prim.Native.Nat.{ℕ}
+use mathlib.Core.Logic.{_⊎_}
+use mathlib.Core.Option.{some}
+use mathlib.Core.Path.{_≡_}
+use lib.ListN.{length}
+use Rattle.slots.specs.Store.{Store}
+use Rattle.calls.specs.Calls.{Making, create, Call, Answer, refused, created, number, alpha, version, vector, found, inserted, deleted, standing, assessed, applied, deferred}
+use Rattle.calls.specs.Outputs.{written}
+use Rattle.calls.specs.State.{State, stored}
+use Rattle.calls.specs.Step.{step, refusal}
+use Rattle.calls.specs.Runs.{lent-of}
+use Rattle.index.specs.Index.{state-of}
+use Rattle.guarding.specs.Guarding.{numbers-of}
+use Rattle.words.specs.IndexWords.{index-of, words-of}
+use Rattle.words.specs.GuardWords.{status-words, report-words}
+use Rattle.exported.specs.Runs.{Memory, Places, places, Exported-run, Exported}
+
+-- the index that an app's memory holds
+abbrev pub state-in : Memory → State Store
+state-in a = state-of (index-of (a .words)) (a .slices)
+
+-- its words are those that it is written as
+abbrev pub Right : Memory → Type 0
+Right a = a .words ≡ words-of (index-of (a .words))
+
+-- the call that is run: what is asked, with the lengths of all that is lent
+abbrev pub call-in : Exported-run → Call
+call-in r = record { lent = lent-of (r .lent .slices) (r .before .outputs) (r .scratch); operation = r .operation }
+
+-- the number that is returned with an answer, and what then stands where it is written
+unfoldable pub put : Answer → Places → ℕ × Places
+put (refused n) o = (n, o)
+put created o = (0, o)
+put (number n) o = (0, places n (o .alpha) (o .version) (o .bytes) (o .guard) (o .outputs))
+put (alpha a) o = (0, places (o .value) a (o .version) (o .bytes) (o .guard) (o .outputs))
+put (version n) o = (0, places (o .value) (o .alpha) n (o .bytes) (o .guard) (o .outputs))
+put (vector l) o = (length l, places (o .value) (o .alpha) (o .version) l (o .guard) (o .outputs))
+put (found cs) o = (0, places (length cs) (o .alpha) (o .version) (o .bytes) (o .guard) (written (found cs) (o .outputs)))
+put (inserted ss) o = (0, places (length ss) (o .alpha) (o .version) (o .bytes) (o .guard) (written (inserted ss) (o .outputs)))
+put (deleted ts) o = (0, places (length ts) (o .alpha) (o .version) (o .bytes) (o .guard) (written (deleted ts) (o .outputs)))
+put (standing s) o = (0, places (o .value) (o .alpha) (o .version) (o .bytes) (status-words s) (o .outputs))
+put (assessed r) o = (0, places (o .value) (o .alpha) (o .version) (o .bytes) (report-words (numbers-of r)) (written (assessed r) (o .outputs)))
+put (applied ts r) o = (0, places (length ts) (o .alpha) (o .version) (o .bytes) (report-words (numbers-of r)) (written (applied ts r) (o .outputs)))
+put (deferred r) o = (0, places 0 (o .alpha) (o .version) (o .bytes) (report-words (numbers-of r)) (written (deferred r) (o .outputs)))
+
+-- all that is lent stays: words, slices, scratch, and what stands where an answer is written
+pub record Untouched (r : Exported-run) : Type 0 where
+  pub memory : r .left ≡ r .lent
+  pub scratch : r .scratch′ ≡ r .scratch
+  pub places : r .after ≡ r .before
+
+-- a run leaves an index, and returns and writes an answer
+pub record Gives (r : Exported-run) (q : State Store × Answer) : Type 0 where
+  pub leaves : state-in (r .left) ≡ q .0
+  pub tells : (r .returned, r .after) ≡ put (q .1) (r .before)
+
+-- what every exported function does
+pub record Performs (r : Exported-run) : Type 0 where
+  pub does : Gives r (step stored (state-in (r .lent)) (call-in r))
+  -- the words stay, or are written anew; a making that is carried out writes them
+  pub words : (r .left .words ≡ r .lent .words) ⊎ Right (r .left)
+  pub new-words : (m : Making) → r .operation ≡ create m → r .returned ≡ 0 → Right (r .left)
+  -- a call that is turned back
+  pub refused : (n : ℕ) → refusal stored (state-in (r .lent)) (call-in r) ≡ some n → Untouched r
+
+abbrev pub Exported-performs : Type 0
+Exported-performs = (r : Exported-run) → Exported r → Performs r
