@@ -1,18 +1,19 @@
--- Document 01's small shelf and an example of each refusal that can occur, as one table of calls with their answers. Assumes nothing.
+-- Document 01's small shelf, and for each call every row that can turn it back, as one table of calls with their answers. Assumes nothing.
 use Prim.Native.Nat.{ℕ, _-_}
 use mathlib.Core.Bool.{true, false}
 use mathlib.Core.List.{List, [], _∷_, _++_, map}
 use mathlib.Core.Option.{none, some}
 use lib.ListN.{replicate}
-use lib.Ieee.{Float, binary32, ofBits}
+use Rattle.lists.specs.Lists.{concat-map}
+use lib.Ieee.{Float, nan, binary32, ofBits}
 use Rattle.candidates.specs.Candidates.{Candidate}
 use Rattle.vectors.specs.Distance.{f32}
-use Rattle.slots.specs.Sizes.{Lengths, slices, exact, limits}
+use Rattle.slots.specs.Sizes.{Sizes, Lengths, slices, exact, limits}
 use Rattle.slots.specs.Scratch.{size-answer}
 use Rattle.slots.specs.Store.{Store, blank}
 use Rattle.repair.specs.Delete.{Stats}
-use Rattle.guard.specs.Guard.{config, Report, off}
-use Rattle.calls.specs.Calls.{Making, read-entry, read-live, read-mark, read-version, read-target, Delete, Operation, create, read, read-vector, search, insert, delete, enable, status, assess, guarded-delete, Call, Answer, refused, created, number, version, vector, found, inserted, deleted, standing, assessed, applied, deferred}
+use Rattle.guard.specs.Guard.{config, Report, Guard, off, on}
+use Rattle.calls.specs.Calls.{Making, read-dim, read-capacity, read-degree, read-alpha, read-entry, read-live, read-mark, read-version, read-target, Delete, Operation, create, read, read-vector, search, insert, delete, enable, status, assess, guarded-delete, Room, Call, Answer, created, number, alpha, version, vector, found, inserted, deleted, standing, assessed, applied, deferred, refused-as}
 use Rattle.calls.specs.State.{State, state, shown, made, stored}
 use Rattle.calls.specs.Step.{step}
 use Rattle.calls.specs.Runs.{slices-of}
@@ -38,9 +39,12 @@ deleting ids beam degree = record { ids = ids; repair-beam = beam; repair-degree
 abbrev assessing : List ℕ → Operation
 assessing ids = assess (record { ids = ids })
 
+abbrev size : ℕ → ℕ → ℕ → Float → Sizes
+size dim capacity degree a = record { dim = dim; capacity = capacity; degree = degree; alpha = a }
+
 -- slices of exact length
 abbrev lengths : ℕ → ℕ → ℕ → Lengths
-lengths dim capacity degree = exact limits (record { dim = dim; capacity = capacity; degree = degree; alpha = f32 1 })
+lengths dim capacity degree = exact limits (size dim capacity degree (f32 1))
 
 -- a call with room for n in each list of slots, distances and stats and for m in each list of a report, and with some scratch
 abbrev lent : Lengths → ℕ → ℕ → ℕ → Operation → Call
@@ -55,33 +59,25 @@ ample slices o = lent slices 4 64 (size-answer 4) o
 
 unfoldable pub shelf : Making
 shelf = record {
-  sizes = record { dim = 1; capacity = 4; degree = 2; alpha = f32 1 };
+  sizes = size 1 4 2 (f32 1);
   count = 3;
   bytes = 0 ∷ 3 ∷ 10 ∷ [];
   rows = 1 ∷ blank ∷ 0 ∷ 2 ∷ 1 ∷ blank ∷ [];
   entry = 1;
 }
 
--- the shelf with other sizes, or given otherwise
-abbrev sized : ℕ → ℕ → Float → Making
-sized dim degree alpha = record { sizes = record { dim = dim; capacity = 4; degree = degree; alpha = alpha }; count = 3; bytes = shelf .bytes; rows = shelf .rows; entry = 1 }
-
 abbrev given : ℕ → List ℕ → List ℕ → ℕ → Making
 given n bytes rows entry = record { sizes = shelf .sizes; count = n; bytes = bytes; rows = rows; entry = entry }
 
 -- three vectors of dim 2 in four slots
 unfoldable pub wide : List ℕ → Making
-wide bytes = record { sizes = record { dim = 2; capacity = 4; degree = 1; alpha = f32 1 }; count = 3; bytes = bytes; rows = replicate 3 blank; entry = 0 }
+wide bytes = record { sizes = size 2 4 1 (f32 1); count = 3; bytes = bytes; rows = replicate 3 blank; entry = 0 }
 
 -- memory that holds nothing
 unfoldable pub nothing : State Store
-nothing = state (record { sizes = record { dim = 0; capacity = 0; degree = 0; alpha = f32 0 }; entry = 0; live = 0; guard = off }) (slices [] [] [] [] [] [])
+nothing = state (record { sizes = size 0 0 0 (f32 0); entry = 0; live = 0; guard = off }) (slices [] [] [] [] [] [])
 
--- the shelf with a live count of 2
-unfoldable pub miscounted : State Store
-miscounted = state (record { sizes = shelf .sizes; entry = shelf .entry; live = 2; guard = off }) (slices-of (made stored shelf))
-
--- ---- the table
+-- ---- cases
 
 -- the answers to some calls, and the landmark pool after them
 pub record Outcome : Type 0 where
@@ -99,8 +95,117 @@ on-shelf-with pool cs answers = record { start = nothing; calls = ample (lengths
 abbrev on-shelf : List Operation → List Answer → Case
 on-shelf os answers = on-shelf-with [] (map (ample (lengths 1 4 2)) os) answers
 
-abbrev making : Making → Lengths → ℕ → Case
-making m n row = record { start = nothing; calls = ample n (create m) ∷ []; outcome = record { answers = refused row ∷ []; pool = [] } }
+-- ---- every row of every call; of the rows past the one that is given most hold too
+
+-- calls that a row turns back, each on its own; the pool stays
+abbrev back : ℕ → State Store → List Call → List Case
+back row w cs = map (λ c. record { start = w; calls = c ∷ []; outcome = record { answers = refused-as row (c .operation) ∷ []; pool = shown stored w .pool } }) cs
+
+-- an index that says something of the shelf's slices
+abbrev held : Sizes → ℕ → ℕ → Guard → State Store
+held z entry live guard = state (record { sizes = z; entry = entry; live = live; guard = guard }) (slices-of (made stored shelf))
+
+-- the shelf after a delete
+abbrev without : List ℕ → State Store
+without ids = step stored (made stored shelf) (ample (lengths 1 4 2) (delete (deleting ids 2 1))) .0
+
+-- the calls that take scratch
+abbrev working : List Operation
+working =
+    nearest 0 1 ∷ insert-all (replicate 5 1) 1 ∷ delete (deleting (0 ∷ []) 1 1) ∷ enable (config 1 1 1 1) ∷ assessing (0 ∷ []) ∷ guarded-delete (deleting (0 ∷ []) 1 1) ∷ []
+
+-- the same, each setting over its limit in turn
+abbrev over : List Operation
+over =
+    search (record { query = 0 ∷ []; k = 1; beam = 1025 }) ∷ search (record { query = 0 ∷ []; k = 258; beam = 1 }) ∷ insert-all (1 ∷ 2 ∷ []) 1025
+    ∷ delete (deleting (0 ∷ []) 257 1) ∷ delete (deleting (0 ∷ []) 1 17) ∷ delete (deleting (replicate 257 0) 1 1)
+    ∷ enable (config 65 1 1 1) ∷ enable (config 1 17 1 1) ∷ enable (config 1 1 65537 1) ∷ enable (config 1 1 1 1025)
+    ∷ assessing (replicate 257 0)
+    ∷ guarded-delete (deleting (0 ∷ []) 257 1) ∷ guarded-delete (deleting (0 ∷ []) 1 17) ∷ guarded-delete (deleting (replicate 257 0) 1 1)
+    ∷ []
+
+-- all others but making
+abbrev looking : List Operation
+looking =
+    read read-dim ∷ read read-capacity ∷ read read-degree ∷ read read-alpha ∷ read read-entry ∷ read read-live ∷ read (read-mark 0) ∷ read (read-version 0)
+    ∷ read (read-target 0 0) ∷ read-vector 0 ∷ status ∷ []
+
+-- a making with all but its sizes wrong
+abbrev wrongly : Sizes → Making
+wrongly z = record { sizes = z; count = 5; bytes = []; rows = 9 ∷ []; entry = 9 }
+
+-- 1: dim, capacity and degree outside their ranges
+abbrev wrong-sizes : Float → List Sizes
+wrong-sizes a = size 257 4 2 a ∷ size 0 4 2 a ∷ size 1 65537 2 a ∷ size 1 0 2 a ∷ size 1 4 65 a ∷ size 1 4 0 a ∷ []
+
+-- 2: 0.9, the next above 2.0, and no number
+abbrev wrong-alphas : List Float
+wrong-alphas = ofBits binary32 0x3f66_6666 ∷ ofBits binary32 0x4000_0001 ∷ nan ∷ []
+
+-- 3: one of the slices shorter or longer
+abbrev wrong-lengths : List Lengths
+wrong-lengths =
+    let long : ℕ → ℕ → ℕ → ℕ → ℕ → ℕ → Lengths = λ v t e n m p. record { vectors = v; targets = t; edges = e; versions = n; marks = m; pool = p } in
+    long 3 8 8 4 4 1024 ∷ long 4 9 8 4 4 1024 ∷ long 4 8 7 4 4 1024 ∷ long 4 8 8 5 4 1024 ∷ long 4 8 8 4 3 1024 ∷ long 4 8 8 4 4 1025 ∷ []
+
+-- 6: a guard that is on
+abbrev wrong-guards : List Guard
+wrong-guards =
+    on (config 0 1 1 1) 0 ∷ on (config 1 0 1 1) 0 ∷ on (config 1 1 0 1) 0 ∷ on (config 1 1 1 0) 0
+    ∷ on (config 65 1 1 1) 0 ∷ on (config 1 17 1 1) 0 ∷ on (config 1 1 65537 1) 0 ∷ on (config 1 1 1 1025) 0 ∷ on (config 1 1 1 1) 1025 ∷ []
+
+unfoldable pub refusals : List Case
+refusals =
+    let right = size 1 4 2 (f32 1) in
+    let calls = looking ++ over in
+    let short = lent (lengths 1 3 2) 0 0 0 in
+    let room : Room → Operation → Call = λ r o. record { lent = record { slices = lengths 1 4 2; room = r; scratch = 0 }; operation = o } in
+    let rooms : ℕ → ℕ → ℕ → ℕ → ℕ → Room = λ a b c d e. record { slots = a; dists = b; stats = c; checked = d; lost = e } in
+    -- making
+    back 1 nothing (map (λ z. short (create (wrongly z))) (wrong-sizes nan))
+    ++ back 2 nothing (map (λ a. short (create (wrongly (size 1 4 2 a)))) wrong-alphas)
+    ++ back 3 nothing (map (λ n. ample n (create (given 5 (replicate 5 0) (replicate 10 9) 9))) wrong-lengths)
+    ++ back 3 nothing (map (ample (lengths 1 4 2)) (create (given 5 (replicate 4 0) (replicate 10 9) 9) ∷ create (given 5 (replicate 5 0) (replicate 11 9) 9) ∷ []))
+    ++ back 3 nothing (ample (lengths 2 4 1) (create (wide (1 ∷ 2 ∷ 3 ∷ 4 ∷ 5 ∷ []))) ∷ [])
+    ++ back 4 nothing (ample (lengths 1 4 2) (create (given 5 (replicate 5 0) (replicate 10 9) 9)) ∷ [])
+    ++ back 5 nothing
+    (map (ample (lengths 1 4 2)) (create (given 3 (shelf .bytes) (1 ∷ blank ∷ 0 ∷ 3 ∷ 1 ∷ blank ∷ []) 1) ∷ create (given 3 (shelf .bytes) (shelf .rows) 3) ∷ create (given 0 [] [] 1) ∷ []))
+    -- 1, 2, 3 and 6 of every other call, and each way in which they can hold
+    ++ back 1 (held (size 257 4 2 nan) 4 2 off) (map short calls)
+    ++ concat-map (λ z. back 1 (held z 4 2 off) (short status ∷ [])) (wrong-sizes nan)
+    ++ back 2 (held (size 1 4 2 nan) 4 2 off) (map short calls)
+    ++ concat-map (λ a. back 2 (held (size 1 4 2 a) 4 2 off) (short status ∷ [])) wrong-alphas
+    ++ back 3 (held right 4 2 off) (map short calls)
+    ++ back 3 (held right 4 2 off) (map (λ n. ample n status) wrong-lengths)
+    ++ back 6 (held right 1 2 off) (map (lent (lengths 1 4 2) 257 64 0) calls)
+    ++ back 6 (held right 4 3 off) (ample (lengths 1 4 2) status ∷ [])
+    ++ concat-map (λ g. back 6 (held right 1 3 g) (ample (lengths 1 4 2) status ∷ [])) wrong-guards
+    -- 3: a query, and room for slots, stats and each list of a report
+    ++ back 3 (made stored shelf)
+    (room (rooms 4 4 4 64 64) (search (record { query = 0 ∷ 0 ∷ []; k = 1; beam = 1025 }))
+    ∷ room (rooms 1 0 0 0 0) (insert-all (1 ∷ 2 ∷ []) 1025)
+    ∷ room (rooms 0 0 0 0 0) (delete (deleting (0 ∷ []) 257 1))
+    ∷ room (rooms 0 0 0 63 64) (assessing (replicate 257 0))
+    ∷ room (rooms 0 0 0 64 63) (assessing (replicate 257 0))
+    ∷ room (rooms 0 0 0 64 64) (guarded-delete (deleting (0 ∷ []) 257 1))
+    ∷ room (rooms 0 0 1 63 64) (guarded-delete (deleting (0 ∷ []) 257 1))
+    ∷ room (rooms 0 0 1 64 63) (guarded-delete (deleting (0 ∷ []) 257 1))
+    ∷ [])
+    -- 7, and k over either list of a search
+    ++ back 7 (made stored shelf) (map (lent (lengths 1 4 2) 257 64 0) over)
+    ++ back 7 (made stored shelf) (map (λ r. room r (nearest 0 2)) (rooms 1 2 0 0 0 ∷ rooms 2 1 0 0 0 ∷ []))
+    -- 8: one word less than the size answer, and none
+    ++ back 8 (without (0 ∷ 1 ∷ 2 ∷ [])) (map (lent (lengths 1 4 2) 5 64 (size-answer 4 - 1)) working)
+    ++ back 8 (without (0 ∷ 1 ∷ 2 ∷ [])) (map (lent (lengths 1 4 2) 5 64 0) working)
+    -- 9: 3 bytes, dim 2; 5 bytes, which are two vectors and more, and one slot is free
+    ++ back 9 (made stored (wide (1 ∷ 2 ∷ 3 ∷ 4 ∷ 5 ∷ 6 ∷ []))) (map (ample (lengths 2 4 1)) (insert-all (1 ∷ 2 ∷ 3 ∷ []) 2 ∷ insert-all (1 ∷ 2 ∷ 3 ∷ 4 ∷ 5 ∷ []) 2 ∷ []))
+    -- 10: 2 into 1; 11: a fresh shelf; 12: all emptied; 13: one live
+    ++ back 10 (made stored shelf) (ample (lengths 1 4 2) (insert-all (1 ∷ 2 ∷ []) 2) ∷ [])
+    ++ back 11 (made stored shelf) (map (ample (lengths 1 4 2)) (assessing (0 ∷ []) ∷ guarded-delete (deleting (0 ∷ []) 1 1) ∷ []))
+    ++ back 12 (without (0 ∷ 1 ∷ 2 ∷ [])) (ample (lengths 1 4 2) (enable (config 1 1 4 2)) ∷ [])
+    ++ back 13 (without (0 ∷ 1 ∷ [])) (ample (lengths 1 4 2) (enable (config 1 1 4 2)) ∷ [])
+
+-- ---- the table
 
 unfoldable pub table : List Case
 table =
@@ -155,44 +260,11 @@ table =
     ∷ applied (stats 1 1 1 0 ∷ []) (record { admitted = true; requested = 1; entry = some 1; checked = 2 ∷ []; baseline = 1; residual = 1; lost = []; supplemental = 0 })
     ∷ standing (record { enabled = true; pool-size = 1; live-landmarks = 1; landmark-count = 1; beam = 2 })
     ∷ [])
+    -- sizes and alpha
+    ∷ on-shelf (read read-dim ∷ read read-capacity ∷ read read-degree ∷ read read-alpha ∷ []) (number 1 ∷ number 4 ∷ number 2 ∷ alpha (f32 1) ∷ [])
     -- empty batches: no slots, no counts
     ∷ on-shelf (insert-all [] 2 ∷ delete (deleting [] 2 1) ∷ []) (inserted [] ∷ deleted [] ∷ [])
-    -- 1: dim 257; 2: alpha 0.9; 3: three slots of dim 2, 5 bytes; 4: 5 into 4; 5: 3 given, a row names 3; entry not given
-    ∷ making (sized 257 2 (f32 1)) (lengths 257 4 2) 1
-    ∷ making (sized 1 0 (f32 1)) (lengths 1 4 0) 1
-    ∷ making (sized 1 2 (ofBits binary32 0x3f66_6666)) (lengths 1 4 2) 2
-    ∷ making (wide (1 ∷ 2 ∷ 3 ∷ 4 ∷ 5 ∷ [])) (lengths 2 4 1) 3
-    ∷ making shelf (lengths 1 4 1) 3
-    ∷ making (given 5 (replicate 5 0) (replicate 10 blank) 0) (lengths 1 4 2) 4
-    ∷ making (given 3 (shelf .bytes) (1 ∷ blank ∷ 0 ∷ 3 ∷ 1 ∷ blank ∷ []) 1) (lengths 1 4 2) 5
-    ∷ making (given 3 (shelf .bytes) (shelf .rows) 3) (lengths 1 4 2) 5
-    -- 6: live 2, three marks; a vector that is read is the empty part
-    ∷ record { start = miscounted; calls = map (ample (lengths 1 4 2)) (read read-entry ∷ read-vector 0 ∷ []); outcome = record { answers = refused 6 ∷ vector [] ∷ []; pool = [] } }
-    -- 3, 7, 8, 10 and 11, and which comes first: by room for slots, distances and stats, by room for a report, and by scratch
-    ∷ on-shelf-with []
-    (lent (lengths 1 4 2) 4 64 0 (search (record { query = 0 ∷ 0 ∷ []; k = 1; beam = 1 }))
-    ∷ lent (lengths 1 4 2) 256 64 0 (delete (deleting (replicate 257 0) 2 1))
-    ∷ lent (lengths 1 4 2) 4 63 0 (assessing (replicate 257 0))
-    ∷ lent (lengths 1 4 2) 257 64 0 (delete (deleting (replicate 257 0) 2 1))
-    ∷ lent (lengths 1 4 2) 4 64 0 (search (record { query = 0 ∷ []; k = 2; beam = 1025 }))
-    ∷ lent (lengths 1 4 2) 1 64 (size-answer 4) (search (record { query = 0 ∷ []; k = 2; beam = 1 }))
-    ∷ lent (lengths 1 4 2) 1 64 (size-answer 4 - 1) (nearest 0 1)
-    ∷ lent (lengths 1 4 2) 2 64 (size-answer 4) (insert-all (1 ∷ 2 ∷ []) 2)
-    ∷ ample (lengths 1 4 2) (assessing (0 ∷ []))
-    ∷ [])
-    (refused 3 ∷ refused 3 ∷ refused 3 ∷ refused 7 ∷ refused 7 ∷ refused 7 ∷ refused 8 ∷ refused 10 ∷ refused 11 ∷ [])
-    -- 3: slices of other lengths
-    ∷ record { start = made stored shelf; calls = map (ample (lengths 1 3 2)) (read read-entry ∷ read-vector 0 ∷ []); outcome = record { answers = refused 3 ∷ vector [] ∷ []; pool = [] } }
-    -- 9: 3 bytes, dim 2, which comes before 10
-    ∷ record {
-      start = made stored (wide (1 ∷ 2 ∷ 3 ∷ 4 ∷ 5 ∷ 6 ∷ []));
-      calls = map (ample (lengths 2 4 1)) (insert-all (1 ∷ 2 ∷ 3 ∷ []) 2 ∷ insert-all (1 ∷ 2 ∷ 3 ∷ 4 ∷ 5 ∷ []) 2 ∷ []);
-      outcome = record { answers = refused 9 ∷ refused 9 ∷ []; pool = [] };
-    }
-    -- 12: all emptied; 13: one live
-    ∷ on-shelf (delete (deleting (0 ∷ 1 ∷ []) 2 1) ∷ enable (config 1 1 4 2) ∷ delete (deleting (2 ∷ []) 2 1) ∷ enable (config 1 1 4 2) ∷ [])
-    (deleted (stats 1 0 0 0 ∷ stats 2 1 1 0 ∷ []) ∷ refused 13 ∷ deleted (stats 0 0 0 0 ∷ []) ∷ refused 12 ∷ [])
-    ∷ []
+    ∷ refusals
 
 -- what a list of calls answers and leaves
 unfoldable pub outcome-of : State Store → List Call → Outcome
