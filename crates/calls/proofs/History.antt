@@ -1,6 +1,6 @@
 -- Demand 3 over lists of calls: the proof of `History`. Assumes nothing.
 use Prim.Native.Nat.{ℕ, zero, suc, _+_, _*_, _/_, _≤_, max}
-use mathlib.Core.Bool.{Bool, true, false, not, _&&_, _||_, cond}
+use mathlib.Core.Bool.{Bool, true, false, not, _||_, cond}
 use mathlib.Core.Option.{Option, none, some}
 use mathlib.Core.Path.{_≡_, refl, sym, ap, ap₂, _∙_, subst}
 use mathlib.Core.List.{List, [], _∷_, _++_, map}
@@ -25,12 +25,12 @@ use Rattle.insert.specs.Insert.{insert-batch}
 use Rattle.insert.proofs.Agree.{Long, agree-insert}
 use Rattle.repair.specs.Delete.{Stats, delete-batch}
 use Rattle.repair.proofs.Agree.{agree-delete}
-use Rattle.guard.specs.Guard.{Config, Guard, off, on, Report, normalized, pool-of, guard-status, landmark-pool, select-landmarks, greatest-from, farthest}
-use Rattle.calls.specs.Calls.{Making, Reading, read-dim, read-capacity, read-degree, read-alpha, read-entry, read-live, read-mark, read-version, read-target, Delete, Operation, create, read, read-vector, search, insert, delete, enable, status, assess, guarded-delete, Lent, Call, Answer, number, alpha, version, vector, found, inserted, deleted, standing, assessed, applied, deferred, created}
+use Rattle.guard.specs.Guard.{Config, on, Report, normalized, pool-of, guard-status, landmark-pool, select-landmarks, greatest-from, farthest}
+use Rattle.calls.specs.Calls.{Making, Reading, read-dim, read-capacity, read-degree, read-alpha, read-entry, read-live, read-mark, read-version, read-target, Delete, Operation, create, read, read-vector, search, insert, delete, enable, status, assess, guarded-delete, Lent, Call, Answer, number, alpha, vector, found, inserted, deleted, standing, assessed, applied, created}
 use Rattle.calls.specs.Refusals.{Test, first-of, making-tests, config-over, new-pool, index-tests, scratch-short, tests, guard-fault}
-use Rattle.calls.specs.State.{State, Kind, stored, plain, view-of, shown, made, with-graph, with-guard}
+use Rattle.calls.specs.State.{State, Kind, stored, plain, shown, made, with-graph, with-guard}
 use Rattle.calls.specs.Step.{vectors-of, report-of, reading, guarded, perform, refusal, settle, step}
-use Rattle.calls.specs.History.{Seen, hide, look, seen, log-performed, log-settled, Few, log-after, Within, trace, History}
+use Rattle.calls.specs.History.{hide, look, seen, compared, log-performed, log-settled, Few, log-after, Within, trace, History}
 use Rattle.calls.proofs.Tests.{first-none, or-neither, accepted}
 
 -- ---- the two states agree
@@ -224,26 +224,17 @@ module _ (log : List ℕ) (w : State Store) (p : State View) (e : Same log w p) 
 
 -- ---- every history
 
-pub same-seen : (log : List ℕ) (r : State Store × Answer) (q : State View × Answer) → Both log r q → seen stored (r .0) (r .1) ≡ seen plain (q .0) (q .1)
-unfolding look
-same-seen log r q e = λ i.
-    let s = same-shown (e .same) i in
-    record {
-      answer = e .answer i;
-      entry = s .graph .entry;
-      live = s .live;
-      guard = s .guard;
-      pool = s .pool;
-      slots = live-slots (s .graph);
-      vectors = map (s .graph .space .vector) (live-slots (s .graph));
-      targets = map (live-neighbors (s .graph)) (range 0 (s .graph .sizes .capacity));
-    }
+pub same-seen : (log : List ℕ) (w : State Store) (p : State View) → Same log w p → seen stored w ≡ seen plain p
+same-seen log w p e = ap look (same-shown e)
+
+pub same-compared : (log : List ℕ) (r : State Store × Answer) (q : State View × Answer) → Both log r q → compared stored r ≡ compared plain q
+same-compared log r q e = λ i. (same-seen log (r .0) (q .0) (e .same) i, e .answer i)
 
 pub traces : (log : List ℕ) (w : State Store) (p : State View) → Same log w p → (cs : List Call) → Within log p cs → trace stored w cs ≡ trace plain p cs
 traces log w p e [] h = refl
 traces log w p e (c ∷ cs) h =
     let b = step-both log w p e c (h .0) in
-    ap₂ (λ x y. x ∷ y) (same-seen (log-after log p c) (step stored w c) (step plain p c) b)
+    ap₂ (λ x y. x ∷ y) (same-compared (log-after log p c) (step stored w c) (step plain p c) b)
     (traces (log-after log p c) (step stored w c .0) (step plain p c .0) (b .same) cs (h .1))
 
 -- the making with which a history begins
@@ -255,6 +246,6 @@ made-step K w lent m acc = ap (settle K w (record { lent = lent; operation = cre
 pub history : History
 history w p lent m cs acc h =
     let b = made-both (lent .slices) m acc in
-    ap (λ (x : State Store × Answer). seen stored (x .0) (x .1) ∷ trace stored (x .0) cs) (made-step stored w lent m acc)
-    ∙ ap₂ (λ x y. x ∷ y) (same-seen [] _ _ b) (traces [] _ _ (b .same) cs h)
-    ∙ sym (ap (λ (x : State View × Answer). seen plain (x .0) (x .1) ∷ trace plain (x .0) cs) (made-step plain p lent m acc))
+    ap (λ (x : State Store × Answer). compared stored x ∷ trace stored (x .0) cs) (made-step stored w lent m acc)
+    ∙ ap₂ (λ x y. x ∷ y) (same-compared [] _ _ b) (traces [] _ _ (b .same) cs h)
+    ∙ sym (ap (λ (x : State View × Answer). compared plain x ∷ trace plain (x .0) cs) (made-step plain p lent m acc))

@@ -2,7 +2,7 @@
 use Prim.Native.Nat.{ℕ}
 use mathlib.Core.Bool.{Bool, true, false, or-true}
 use mathlib.Core.List.{List, [], _∷_, map}
-use mathlib.Core.Logic.{_⊎_, inl, inr}
+use mathlib.Core.Logic.{inl, inr}
 use mathlib.Core.Option.{Option, none, some}
 use mathlib.Core.Path.{_≡_, refl, sym, ap, _∙_, subst}
 use native.Mathlib.Omega.{arith}
@@ -10,7 +10,7 @@ use borrow.Author.Tests.{eq-eqb}
 use lib.Dec.{eqb}
 use Rattle.lists.specs.Lists.{elem}
 use Rattle.slots.specs.Sizes.{limits}
-use Rattle.calls.specs.Calls.{Reading, read-dim, read-capacity, read-degree, read-alpha, read-entry, read-live, read-mark, read-version, read-target, Delete, Operation, create, read, read-vector, search, insert, delete, enable, status, assess, guarded-delete, Call, Answer, refused, refused-as}
+use Rattle.calls.specs.Calls.{Reading, read-dim, read-capacity, read-degree, read-alpha, read-entry, read-live, read-mark, read-version, read-target, Delete, Operation, create, read, read-vector, search, insert, delete, enable, status, assess, guarded-delete, Call, refused, refused-as}
 use Rattle.calls.specs.Refusals.{Test, first-of, making-tests, index-tests, tests}
 use Rattle.calls.specs.State.{State, Kind, shown}
 use Rattle.calls.specs.Step.{reading, guarded, report-of, perform, refusal, settle, step}

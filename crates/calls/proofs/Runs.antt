@@ -1,23 +1,21 @@
 -- Demand 3 over runs of the code: the proof of `History-of-runs`. Assumes nothing.
 use Prim.Native.Nat.{ℕ}
-use mathlib.Core.Bool.{Bool, true, false, not}
+use mathlib.Core.Bool.{Bool, true, false}
 use mathlib.Core.Option.{Option, none, some}
 use mathlib.Core.Path.{_≡_, refl, sym, ap, ap₂, _∙_, subst}
 use mathlib.Core.List.{List, [], _∷_, map}
 use native.Mathlib.Omega.{arith}
-use Rattle.lists.specs.Lists.{times}
 use Rattle.slots.specs.Sizes.{Lengths, exact, lengths-of, limits, sizes-ok, alpha-ok, lengths-ok}
 use Rattle.slots.specs.View.{View}
-use Rattle.slots.specs.Store.{Store, Shaped, store-view, store-ops}
-use Rattle.slots.proofs.Agree.{Agree, Sound}
-use Rattle.calls.specs.Calls.{Making, Operation, create, read, read-vector, search, insert, delete, enable, status, assess, guarded-delete, Lent, Call, Answer, created, refused-as}
+use Rattle.slots.specs.Store.{Store, store-view, store-ops}
+use Rattle.calls.specs.Calls.{Making, Operation, create, read, read-vector, search, insert, delete, enable, status, assess, guarded-delete, Lent, Call, Answer, created}
 use Rattle.calls.specs.Refusals.{Test, first-of, making-tests, index-tests, tests}
 use Rattle.calls.specs.State.{State, stored, plain, shown, made}
 use Rattle.calls.specs.Step.{perform, refusal, settle, step}
-use Rattle.calls.specs.History.{Seen, seen, Few, log-after, Within, trace}
+use Rattle.calls.specs.History.{compared, Few, log-after, Within, trace}
 use Rattle.calls.specs.Runs.{Run, slices-of, slices-lent, call-of, value-of, Lends, the-index, other-slices, a-new-one, run-refusal, Meets, after-run, next, Chain, observed, History-of-runs}
 use Rattle.calls.proofs.Tests.{passed-lengths}
-use Rattle.calls.proofs.History.{Same, Both, same-refusal, step-both, same-seen, made-both, made-step}
+use Rattle.calls.proofs.History.{Same, Both, same-refusal, step-both, same-compared, made-both, made-step}
 
 -- ---- slices of other lengths are refused
 
@@ -164,7 +162,7 @@ observed-trace log w p e (r ∷ rs) c h =
     let log′ = log-after log p (call-of r) in
     let q = step plain p (call-of r) in
     let b = run-both log w p e r (c .0) (c .1) (h .0) in
-    ap₂ (λ x y. x ∷ y) (same-seen log′ (next w r, r .answer) q b) (observed-trace log′ (next w r) (q .0) (b .same) rs (c .2) (h .1))
+    ap₂ (λ x y. x ∷ y) (same-compared log′ (next w r, r .answer) q b) (observed-trace log′ (next w r) (q .0) (b .same) rs (c .2) (h .1))
 
 -- the making with which the runs begin
 abbrev making-of : Run → Making → Call
@@ -200,6 +198,6 @@ module _ (m : Making) (r : Run) (q : r .operation ≡ create m) (acc : first-of 
 pub history-of-runs : History-of-runs
 history-of-runs w p m r rs q acc c h =
     let b = made-run-both m r q acc w (c .1) in
-    ap₂ (λ x y. x ∷ y) (same-seen [] (next w r, r .answer) (made plain m, created) b)
+    ap₂ (λ x y. x ∷ y) (same-compared [] (next w r, r .answer) (made plain m, created) b)
     (observed-trace [] (next w r) (made plain m) (b .same) rs (c .2) h)
-    ∙ sym (ap (λ (x : State View × Answer). seen plain (x .0) (x .1) ∷ trace plain (x .0) (map call-of rs)) (made-plain m r q acc p))
+    ∙ sym (ap (λ (x : State View × Answer). compared plain x ∷ trace plain (x .0) (map call-of rs)) (made-plain m r q acc p))

@@ -17,7 +17,6 @@ use Rattle.calls.specs.Step.{step, refusal, report-of}
 -- ---- what is compared after each call
 
 pub record Seen : Type 0 where
-  pub answer : Answer
   pub entry : ℕ
   pub live : ℕ
   pub guard : Guard
@@ -26,28 +25,11 @@ pub record Seen : Type 0 where
   pub vectors : List (List ℕ)
   pub targets : List (List ℕ)
 
--- an answer that is a version is not compared
-unfoldable pub hide : Answer → Answer
-hide (refused n) = refused n
-hide created = created
-hide (number n) = number n
-hide (alpha a) = alpha a
-hide (version n) = version 0
-hide (vector xs) = vector xs
-hide (found cs) = found cs
-hide (inserted ss) = inserted ss
-hide (deleted ds) = deleted ds
-hide (standing s) = standing s
-hide (assessed r) = assessed r
-hide (applied ds r) = applied ds r
-hide (deferred r) = deferred r
-
--- the answer, entry, live count, guard, pool, the live slots and their vectors, and the live targets of every slot
-unfoldable pub look : State View → Answer → Seen
-look w answer =
+-- entry, live count, guard, pool, the live slots and their vectors, and the live targets of every slot
+unfoldable pub look : State View → Seen
+look w =
     let v = w .graph in
     record {
-      answer = hide answer;
       entry = v .entry;
       live = w .live;
       guard = w .guard;
@@ -57,8 +39,8 @@ look w answer =
       targets = map (live-neighbors v) (range 0 (v .sizes .capacity));
     }
 
-abbrev pub seen : {B : Type 0} → Kind B → State B → Answer → Seen
-seen K w answer = look (shown K w) answer
+abbrev pub seen : {B : Type 0} → Kind B → State B → Seen
+seen K w = look (shown K w)
 
 -- ---- how often each slot was emptied
 
@@ -91,12 +73,32 @@ abbrev pub Within : List ℕ → State View → List Call → Type 0
 Within log p [] = Unit {0}
 Within log p (c ∷ cs) = let log′ = log-after log p c in Few log′ × Within log′ (step plain p c .0) cs
 
--- ---- histories
+-- ---- histories of calls
 
--- what is seen of a list of calls, each on what the last one left
-abbrev pub trace : {B : Type 0} → Kind B → State B → List Call → List Seen
+-- an answer that is a version is not compared
+unfoldable pub hide : Answer → Answer
+hide (refused n) = refused n
+hide created = created
+hide (number n) = number n
+hide (alpha a) = alpha a
+hide (version n) = version 0
+hide (vector xs) = vector xs
+hide (found cs) = found cs
+hide (inserted ss) = inserted ss
+hide (deleted ds) = deleted ds
+hide (standing s) = standing s
+hide (assessed r) = assessed r
+hide (applied ds r) = applied ds r
+hide (deferred r) = deferred r
+
+-- what a call leaves and answers
+abbrev pub compared : {B : Type 0} → Kind B → State B × Answer → Seen × Answer
+compared K r = (seen K (r .0), hide (r .1))
+
+-- a list of calls, each on what the last one left
+abbrev pub trace : {B : Type 0} → Kind B → State B → List Call → List (Seen × Answer)
 trace K w [] = []
-trace K w (c ∷ cs) = let r = step K w c in seen K (r .0) (r .1) ∷ trace K (r .0) cs
+trace K w (c ∷ cs) = let r = step K w c in compared K r ∷ trace K (r .0) cs
 
 -- the claim, whatever stood in the memory before the accepted making with which the list begins
 abbrev pub History : Type 0

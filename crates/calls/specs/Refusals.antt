@@ -6,7 +6,7 @@ use mathlib.Core.List.{List, [], _∷_}
 use mathlib.Core.Option.{Option, none, some}
 use lib.ListN.{length}
 use lib.Dec.{eqb, ltb}
-use Rattle.slots.specs.Sizes.{Sizes, Limits, Lengths, sizes-ok, alpha-ok, lengths-ok}
+use Rattle.slots.specs.Sizes.{Limits, Lengths, sizes-ok, alpha-ok, lengths-ok}
 use Rattle.slots.specs.Scratch.{size-answer}
 use Rattle.slots.specs.View.{View, live-slots, free-slots}
 use Rattle.slots.specs.Store.{blank}

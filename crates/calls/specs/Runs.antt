@@ -12,7 +12,7 @@ use Rattle.calls.specs.Outputs.{Outputs, room-of, written}
 use Rattle.calls.specs.Refusals.{first-of, making-tests}
 use Rattle.calls.specs.State.{State, Value, made, stored, plain}
 use Rattle.calls.specs.Step.{step, refusal}
-use Rattle.calls.specs.History.{Seen, seen, trace, Within}
+use Rattle.calls.specs.History.{Seen, compared, trace, Within}
 
 -- one run of a public function: what it was given and lent, what outputs and scratch held, and what it left and answered
 pub record Run : Type 0 where
@@ -73,9 +73,9 @@ abbrev pub Chain : State Store → List Run → Type 0
 Chain w [] = Unit {0}
 Chain w (r ∷ rs) = Lends w r × Meets r × Chain (next w r) rs
 
-abbrev pub observed : State Store → List Run → List Seen
+abbrev pub observed : State Store → List Run → List (Seen × Answer)
 observed w [] = []
-observed w (r ∷ rs) = seen stored (next w r) (r .answer) ∷ observed (next w r) rs
+observed w (r ∷ rs) = compared stored (next w r, r .answer) ∷ observed (next w r) rs
 
 -- the claim, whatever stood in the memory before the accepted making with which the runs begin
 abbrev pub History-of-runs : Type 0

@@ -12,7 +12,7 @@ use Rattle.slots.specs.Sizes.{Sizes, Lengths, slices, exact, limits}
 use Rattle.slots.specs.Scratch.{size-answer}
 use Rattle.slots.specs.Store.{Store, blank}
 use Rattle.repair.specs.Delete.{Stats}
-use Rattle.guard.specs.Guard.{config, Report, Guard, off, on}
+use Rattle.guard.specs.Guard.{config, Guard, off, on}
 use Rattle.calls.specs.Calls.{Making, read-dim, read-capacity, read-degree, read-alpha, read-entry, read-live, read-mark, read-version, read-target, Delete, Operation, create, read, read-vector, search, insert, delete, enable, status, assess, guarded-delete, Room, Call, Answer, created, number, alpha, version, vector, found, inserted, deleted, standing, assessed, applied, deferred, refused-as}
 use Rattle.calls.specs.State.{State, state, shown, made, stored}
 use Rattle.calls.specs.Step.{step}

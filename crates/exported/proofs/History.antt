@@ -26,9 +26,9 @@ use Rattle.calls.proofs.Runs.{refused-slices, run-refused, own-next, run-both, 
 use Rattle.index.specs.declared.Index.{Index}
 use Rattle.index.specs.Index.{state-of}
 use Rattle.words.specs.IndexWords.{index-of, words-of}
-use Rattle.exported.specs.Runs.{Memory, Places, Exported-run, Exported}
+use Rattle.exported.specs.Runs.{Memory, Places, Exported-run}
 use Rattle.exported.specs.Performs.{state-in, Right, call-in, put, Untouched, Performs}
-use Rattle.exported.specs.History.{Exported-lends, own, other-slices, any-memory, Event, Exported-chain, Hand, hide-version, in-hand, Asked, asked, words-in, plain-hand, plain-hands, Refused-untouched, As-plain, Exported-history}
+use Rattle.exported.specs.History.{Exported-lends, own, other-slices, any-memory, Event, Exported-chain, hide-version, in-hand, asked, words-in, plain-hand, plain-hands, Refused-untouched, As-plain, Exported-history}
 use Rattle.exported.proofs.Performs.{as-run, exported-performs}
 use Rattle.exported.proofs.Refused.{returns}
 
@@ -177,7 +177,7 @@ module _ (e : Event) (k : Performs (e .run)) where
   hand log q h b =
       let t = told (e .run) k b in
       let w = h ∙ words-told (index-of (e .has .words)) (e .has .slices) ∙ ap words-in (same-shown (b .same)) ∙ plain-told (q .0) in
-      let s = same-seen log (state-in (e .has), created) (q .0, created) (record { same = b .same; answer = refl }) in
+      let s = same-seen log (state-in (e .has)) (q .0) (b .same) in
       λ i. record { returned = t i .0; places = t i .1; words = w i; seen = s i }
 
   both : (log : List ℕ) (had : Memory) (p : State View) → Same log (state-in had) p → Exported-lends had (e .run) (e .has) → Few (log-after log p (asked e .call))

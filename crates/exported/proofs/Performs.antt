@@ -47,7 +47,7 @@ use Rattle.repair.specs.Delete.{Stats}
 use Rattle.deletion.specs.Batch.{stats-of, stats-at}
 use Rattle.words.specs.IndexWords.{index-of, words-of}
 use Rattle.words.specs.Given.{created-given, Creates-words, value-in, bytes-at, Reads-length, Searches-words, inserted-given, Inserts-words, deleted-put, Deletes-words, standing-put, Stands-words, enabled-put, Enables-words, assessed-put, Assesses-words, guarded-put, Guards-words}
-use Rattle.exported.specs.Runs.{Memory, Places, places, nowhere, in-value, in-alpha, in-version, Exported-run, making, changing, looking, number, Exported, finder-create, finder-dim, finder-capacity, finder-degree, finder-entry, finder-live, finder-mark, finder-slot-version, finder-target, finder-alpha, finder-vector, finder-search, finder-insert, finder-delete, in-guard, finder-guard-enable, finder-guard-status, finder-assess, finder-guarded-delete}
+use Rattle.exported.specs.Runs.{Memory, Places, places, nowhere, in-value, in-alpha, in-version, Exported-run, making, changing, looking, Exported, finder-create, finder-dim, finder-capacity, finder-degree, finder-entry, finder-live, finder-mark, finder-slot-version, finder-target, finder-alpha, finder-vector, finder-search, finder-insert, finder-delete, in-guard, finder-guard-enable, finder-guard-status, finder-assess, finder-guarded-delete}
 use Rattle.guarding.specs.declared.Guarded.{Guarded}
 use Rattle.guarding.specs.declared.Guarded.the-variants.{Refused as not-guarded, Applied, Deferred}
 use Rattle.guarding.specs.Guarded.{guarded-outputs, guarded-as, index-kept}

@@ -8,7 +8,7 @@ use mathlib.Core.Path.{_≡_}
 use lib.Dec.{eqb}
 use Rattle.slots.specs.Sizes.{lengths-of, limits}
 use Rattle.slots.specs.View.{View}
-use Rattle.calls.specs.Calls.{Making, create, Call, Answer, created}
+use Rattle.calls.specs.Calls.{Making, create, Call, Answer}
 use Rattle.calls.specs.Refusals.{first-of, making-tests}
 use Rattle.calls.specs.State.{State, stored, plain, made}
 use Rattle.calls.specs.Step.{step, refusal}
@@ -46,7 +46,7 @@ pub record Hand : Type 0 where
   pub places : Places
   -- the twelve words
   pub words : List ℕ
-  -- pool, live slots, their vectors and live targets; the answer stands above
+  -- pool, live slots, their vectors and live targets
   pub seen : Seen
 
 -- a version is not compared
@@ -59,7 +59,7 @@ in-hand e =
       returned = e .run .returned;
       places = hide-version (e .run .after);
       words = e .has .words;
-      seen = seen stored (state-in (e .has)) created;
+      seen = seen stored (state-in (e .has));
     }
 
 -- ---- the same of the plain index
@@ -77,7 +77,7 @@ unfoldable pub words-in : State View → List ℕ
 words-in w = value-words (record { sizes = w .graph .sizes; entry = w .graph .entry; live = w .live; guard = w .guard })
 
 unfoldable pub plain-hand : Asked → State View × Answer → Hand
-plain-hand a q = let o = put (q .1) (a .before) in record { returned = o .0; places = hide-version (o .1); words = words-in (q .0); seen = seen plain (q .0) created }
+plain-hand a q = let o = put (q .1) (a .before) in record { returned = o .0; places = hide-version (o .1); words = words-in (q .0); seen = seen plain (q .0) }
 
 unfoldable pub plain-hands : State View → List Asked → List Hand
 plain-hands p [] = []
