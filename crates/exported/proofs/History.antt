@@ -15,7 +15,7 @@ use Rattle.slots.specs.Plain.{plain-ops}
 use Rattle.calls.specs.Calls.{Making, create, read-vector, Answer, refused, created, number, alpha, version, vector, found, inserted, deleted, standing, assessed, applied, deferred}
 use Rattle.calls.specs.Outputs.{written}
 use Rattle.calls.specs.Refusals.{first-of, or-zero, making-tests}
-use Rattle.calls.specs.State.{State, stored, plain, shown, made}
+use Rattle.calls.specs.State.{State, Value, state, stored, plain, shown, made}
 use Rattle.calls.specs.Step.{refusal, step}
 use Rattle.calls.specs.History.{hide, Few, log-after, Within}
 use Rattle.calls.specs.Runs.{slices-of, value-of, call-of, run-refusal, Meets, after-run, next}
@@ -23,11 +23,9 @@ use Rattle.calls.specs.Runs as Runs
 use Rattle.calls.proofs.History.{Same, Both, same-shown, same-seen}
 use Rattle.calls.proofs.Refused.{refusal-not-zero}
 use Rattle.calls.proofs.Runs.{refused-slices, run-refused, own-next, run-both, made-run-both, made-accepted, made-plain}
-use Rattle.index.specs.declared.Index.{Index}
-use Rattle.index.specs.Index.{state-of}
-use Rattle.words.specs.IndexWords.{index-of, words-of}
+use Rattle.words.specs.IndexWords.{value-words}
 use Rattle.exported.specs.Runs.{Memory, Places, Exported-run}
-use Rattle.exported.specs.Performs.{state-in, Right, call-in, put, Untouched, Performs}
+use Rattle.exported.specs.Performs.{value-held, state-in, Right, call-in, put, Untouched, Performs}
 use Rattle.exported.specs.History.{Exported-lends, own, other-slices, any-memory, Event, Exported-chain, hide-version, in-hand, asked, words-in, plain-hand, plain-hands, Refused-untouched, As-plain, Exported-history}
 use Rattle.exported.proofs.Performs.{as-run, exported-performs}
 use Rattle.exported.proofs.Refused.{returns}
@@ -35,9 +33,9 @@ use Rattle.exported.proofs.Refused.{returns}
 -- ---- the words
 
 -- those that an index is written as are those that its state shows
-words-told : (i : Index) (s : Slices) → words-of i ≡ words-in (shown stored (state-of i s))
-unfolding words-in shown stored store-ops store-view state-of
-words-told i s = refl
+words-told : (v : Value) (s : Slices) → value-words v ≡ words-in (shown stored (state v s))
+unfolding words-in shown stored store-ops store-view
+words-told v s = refl
 
 plain-told : (p : State View) → words-in (shown plain p) ≡ words-in p
 unfolding words-in shown plain plain-ops
@@ -87,11 +85,11 @@ abbrev stepped : Exported-run → State Store × Answer
 stepped r = step stored (state-in (r .lent)) (call-in r)
 
 abbrev run : Exported-run → Runs.Run
-run r = as-run r (stepped r .1)
+run r = as-run state-in r (stepped r .1)
 
 module _ {r : Exported-run} (k : Performs r) where
   meets : Meets (run r)
-  unfolding run-refusal call-of slices-of state-of
+  unfolding run-refusal call-of slices-of
   meets = record {
     does = λ i. (k .does .leaves i, stepped r .1);
     writes = ap (λ (x : ℕ × Places). x .1 .outputs) (k .does .tells) ∙ put-outputs (stepped r .1) (r .before);
@@ -100,7 +98,7 @@ module _ {r : Exported-run} (k : Performs r) where
 
   -- a making returns 0 or the number of its refusal
   judges : (m : Making) → r .operation ≡ create m → run-refusal (run r) ≡ cond (eqb (r .returned) 0) none (some (r .returned))
-  unfolding run-refusal call-of slices-of state-of
+  unfolding run-refusal call-of slices-of
   judges m q =
       let h = returns k (λ s e. let f : create m ≡ read-vector s = sym q ∙ e in let z : _≡_ {A = ℕ} 0 1 = cc in omega arith) in
       go (refusal stored (state-in (r .lent)) (call-in r)) refl h
@@ -115,16 +113,16 @@ module _ {r : Exported-run} (k : Performs r) where
   right h = go (k .words)
     where
       go : (r .left .words ≡ r .lent .words) ⊎ Right (r .left) → Right (r .left)
-      go (inl e) = subst (λ w. w ≡ words-of (index-of w)) (sym e) h
+      go (inl e) = subst (λ w. w ≡ value-words (value-held w)) (sym e) h
       go (inr e) = e
 
 -- ---- where the app has its index
 
 module _ (had : Memory) {r : Exported-run} (k : Performs r) where
   lends : {has : Memory} → Exported-lends had r has → Runs.Lends (state-in had) (run r)
-  unfolding value-of store-view state-of slices-of
+  unfolding value-of store-view slices-of
   lends (own q) = Runs.the-index (ap state-in q)
-  lends (other-slices other q n) = Runs.other-slices (ap (λ w. value-of (state-of (index-of w) (r .lent .slices))) q) n
+  lends (other-slices other q n) = Runs.other-slices (ap (λ w. value-of (state (value-held w) (r .lent .slices))) q) n
   lends (any-memory m q) = Runs.a-new-one m q
 
   -- a making that is turned back leaves the app what it had
@@ -146,21 +144,21 @@ module _ (had : Memory) {r : Exported-run} (k : Performs r) where
   module _ (log : List ℕ) (p : State View) (e : Same log (state-in had) p) where
     other : ((m : Making) → r .operation ≡ create m → ⊥) → r .lent .words ≡ had .words → (lengths-of (r .lent .slices) ≡ lengths-of (had .slices) → ⊥)
         → (run-refusal (run r) ≡ some 3) × (had .words ≡ r .left .words)
-    unfolding value-of store-view state-of slices-of run-refusal call-of
+    unfolding value-of store-view slices-of run-refusal call-of
     other o q n =
-        let f = refused-slices log (state-in had) p e (run r) o (ap (λ w. value-of (state-of (index-of w) (r .lent .slices))) q) n in
+        let f = refused-slices log (state-in had) p e (run r) o (ap (λ w. value-of (state (value-held w) (r .lent .slices))) q) n in
         (f, sym (ap (λ a. a .words) (k .refused 3 f .memory) ∙ q))
 
     has-next : {has : Memory} → Exported-lends had r has → next (state-in had) (run r) ≡ state-in has
     unfolding next after-run
     has-next (own q) = next-own q
     has-next (other-slices o q n) =
-        let f = other o q n in ap (after-run (state-in had) (run r)) (f .0) ∙ ap (λ w. state-of (index-of w) (had .slices)) (f .1)
+        let f = other o q n in ap (after-run (state-in had) (run r)) (f .0) ∙ ap (λ w. state (value-held w) (had .slices)) (f .1)
     has-next (any-memory m q) = next-made (judges k m q)
 
     has-right : {has : Memory} → Exported-lends had r has → Right had → Right has
     has-right (own q) h = right k (subst Right (sym q) h)
-    has-right (other-slices o q n) h = subst (λ w. w ≡ words-of (index-of w)) (other o q n .1) h
+    has-right (other-slices o q n) h = subst (λ w. w ≡ value-words (value-held w)) (other o q n .1) h
     has-right (any-memory m q) h = right-made h m q (eqb (r .returned) 0) refl
 
 -- ---- one run
@@ -176,13 +174,13 @@ module _ (e : Event) (k : Performs (e .run)) where
   unfolding in-hand plain-hand
   hand log q h b =
       let t = told (e .run) k b in
-      let w = h ∙ words-told (index-of (e .has .words)) (e .has .slices) ∙ ap words-in (same-shown (b .same)) ∙ plain-told (q .0) in
+      let w = h ∙ words-told (value-held (e .has .words)) (e .has .slices) ∙ ap words-in (same-shown (b .same)) ∙ plain-told (q .0) in
       let s = same-seen log (state-in (e .has)) (q .0) (b .same) in
       λ i. record { returned = t i .0; places = t i .1; words = w i; seen = s i }
 
   both : (log : List ℕ) (had : Memory) (p : State View) → Same log (state-in had) p → Exported-lends had (e .run) (e .has) → Few (log-after log p (asked e .call))
       → Both (log-after log p (asked e .call)) (state-in (e .has), stepped (e .run) .1) (step plain p (asked e .call))
-  unfolding call-of slices-of state-of
+  unfolding call-of slices-of
   both log had p s l few =
       subst (λ w. Both (log-after log p (asked e .call)) (w, stepped (e .run) .1) (step plain p (asked e .call))) (has-next had k log p s l)
       (run-both log (state-in had) p s (run (e .run)) (lends had k l) (meets k) few)
@@ -190,7 +188,7 @@ module _ (e : Event) (k : Performs (e .run)) where
   -- a run whose call the plain index turns back
   turned-back : (log : List ℕ) (had : Memory) (p : State View) → Same log (state-in had) p → Exported-lends had (e .run) (e .has) → (n : ℕ)
       → refusal plain p (asked e .call) ≡ some n → Untouched (e .run)
-  unfolding run-refusal call-of slices-of state-of
+  unfolding run-refusal call-of slices-of
   turned-back log had p s l n h = k .refused n (sym (run-refused log (state-in had) p s (run (e .run)) (lends had k l)) ∙ h)
 
 -- ---- every list of runs
@@ -211,7 +209,7 @@ as-plain log had p s h (e ∷ es) c f =
 
 module _ (had : Memory) (m : Making) (e : Event) (k : Performs (e .run)) (q : e .run .operation ≡ create m) (acc : first-of (making-tests limits (lengths-of (e .run .lent .slices)) m) ≡ none) where
   begun : Both [] (next (state-in had) (run (e .run)), stepped (e .run) .1) (made plain m, created)
-  unfolding slices-of state-of
+  unfolding slices-of
   begun = made-run-both m (run (e .run)) q acc (state-in had) (meets k)
 
   returns-0 : e .run .returned ≡ 0
@@ -227,7 +225,7 @@ module _ (had : Memory) (m : Making) (e : Event) (k : Performs (e .run)) (q : e 
   )
 
 pub exported-history : Exported-history
-unfolding plain-hands call-of slices-of state-of
+unfolding plain-hands call-of slices-of
 exported-history had p m e es q acc c f =
     let k = exported-performs (e .run) (c .0) in
     let n = first-next had m e k q acc (c .1) in

@@ -9,18 +9,18 @@ use native.Mathlib.Omega.{arith}
 use borrow.Author.Tests.{eqb-true, eqb-false, eq-eqb, ne-eqb}
 use lib.Dec.{eqb}
 use lib.Ieee.{Float}
-use lib.ListN.{length, length-map}
+use lib.ListN.{length, getD, length-map}
 use Rattle.lists.specs.Lists.{range}
 use Rattle.lists.proofs.Ranges.{length-range}
 use Rattle.vectors.specs.Distance.{f32}
 use Rattle.candidates.specs.Candidates.{Candidate}
 use Rattle.slots.specs.Store.{Store, store-view}
 use Rattle.calls.specs.Calls.{Making, Search, Insert, Delete, Operation, create, read, read-vector, search, insert, delete, Answer, refused, created, alpha, vector, refused-as, Assess, enable, assess, guarded-delete}
-use Rattle.guard.specs.Guard.{Config}
+use Rattle.guard.specs.Guard.{Config, config, off, on}
 use Rattle.admission.specs.declared.report.Report.{Report}
 use Rattle.calls.specs.Calls as Answers
 use Rattle.calls.specs.Outputs.{no-outputs, written}
-use Rattle.calls.specs.State.{State, stored}
+use Rattle.calls.specs.State.{State, state, stored}
 use Rattle.calls.specs.Step.{refusal, settle, step}
 use Rattle.calls.specs.Runs.{slices-of, value-of, call-of, run-refusal, Meets}
 use Rattle.calls.specs.Runs as Runs
@@ -28,7 +28,8 @@ use Rattle.calls.proofs.Refused.{refusal-not-zero}
 use Rattle.index.specs.declared.Index.{Index}
 use Rattle.index.specs.declared.Created.{Created}
 use Rattle.index.specs.declared.Created.the-variants.{Refused as not-made, Done}
-use Rattle.index.specs.Index.{state-of}
+use Rattle.index.specs.declared.Guard.the-variants.{Off, On}
+use Rattle.index.specs.Index.{guard-of, index-value, state-of}
 use Rattle.index.specs.Create.{created-as, left-by, create-run}
 use Rattle.index.proofs.Calls.{create-meets}
 use Rattle.reading.specs.declared.Reading.{Reading}
@@ -45,9 +46,10 @@ use Rattle.updating.specs.declared.Deleted.the-variants.{Refused as not-deleted
 use Rattle.updating.specs.Delete.{stats-outputs, deleted-as, index-left}
 use Rattle.repair.specs.Delete.{Stats}
 use Rattle.deletion.specs.Batch.{stats-of, stats-at}
-use Rattle.words.specs.IndexWords.{index-of, words-of}
-use Rattle.words.specs.Given.{created-given, Creates-words, value-in, bytes-at, Reads-length, Searches-words, inserted-given, Inserts-words, deleted-put, Deletes-words, standing-put, Stands-words, enabled-put, Enables-words, assessed-put, Assesses-words, guarded-put, Guards-words}
-use Rattle.exported.specs.Runs.{Memory, Places, places, nowhere, in-value, in-alpha, in-version, Exported-run, making, changing, looking, Exported, finder-create, finder-dim, finder-capacity, finder-degree, finder-entry, finder-live, finder-mark, finder-slot-version, finder-target, finder-alpha, finder-vector, finder-search, finder-insert, finder-delete, in-guard, finder-guard-enable, finder-guard-status, finder-assess, finder-guarded-delete}
+use Rattle.words.specs.IndexWords.{index-of, value-words, words-of}
+use Rattle.words.specs.IndexWords.{guard-of as guard-in}
+use Rattle.words.specs.Given.{created-given, Creates-words, value-in, Reads-length, Searches-words, inserted-given, Inserts-words, deleted-put, Deletes-words, standing-put, Stands-words, enabled-put, Enables-words, assessed-put, Assesses-words, guarded-put, Guards-words}
+use Rattle.exported.specs.Runs.{Memory, bytes-from, Places, places, nowhere, in-value, in-alpha, in-version, Exported-run, making, changing, looking, Exported, finder-create, finder-dim, finder-capacity, finder-degree, finder-entry, finder-live, finder-mark, finder-slot-version, finder-target, finder-alpha, finder-vector, finder-search, finder-insert, finder-delete, in-guard, finder-guard-enable, finder-guard-status, finder-assess, finder-guarded-delete}
 use Rattle.guarding.specs.declared.Guarded.{Guarded}
 use Rattle.guarding.specs.declared.Guarded.the-variants.{Refused as not-guarded, Applied, Deferred}
 use Rattle.guarding.specs.Guarded.{guarded-outputs, guarded-as, index-kept}
@@ -59,15 +61,43 @@ use Rattle.guarding.specs.declared.Assessed.{Assessed}
 use Rattle.guarding.specs.declared.Assessed.the-variants.{Refused as not-assessed, Assessed as Assessed-so}
 use Rattle.guarding.specs.Guarding.{standing-as, enabled-as, enabled-index, report-outputs, numbers-of, assessed-as}
 use Rattle.words.specs.GuardWords.{report-words}
-use Rattle.exported.specs.Performs.{state-in, Right, call-in, put, Gives, Untouched, Performs, Exported-performs}
+use Rattle.exported.specs.Performs.{value-held, state-in, Right, call-in, put, Gives, Untouched, Performs, Exported-performs}
+
+-- ---- the index that words hold
+
+-- as the contracts say it
+abbrev held-in : Memory → State Store
+held-in a = state-of (index-of (a .words)) (a .slices)
+
+abbrev Rightly : Memory → Type 0
+Rightly a = a .words ≡ words-of (index-of (a .words))
+
+same-value : (w : List ℕ) → index-value (index-of w) ≡ value-held w
+unfolding index-of guard-in guard-of value-held
+same-value w =
+    let g = go (eqb (getD w 6 0) 0) in
+    λ i. record { sizes = value-held w .sizes; entry = getD w 4 0; live = getD w 5 0; guard = g i }
+  where
+    go : (b : Bool)
+        → guard-of (cond b Off (On (record { count = getD w 7 0; multiplier = getD w 8 0; sample = getD w 9 0; beam = getD w 10 0; pool = getD w 11 0 })))
+        ≡ cond b off (on (config (getD w 7 0) (getD w 8 0) (getD w 9 0) (getD w 10 0)) (getD w 11 0))
+    go true = refl
+    go false = refl
+
+same-state : held-in ≡ state-in
+unfolding state-of
+same-state = λ i a. state (same-value (a .words) i) (a .slices)
+
+right : (a : Memory) → Rightly a → Right a
+right a h = h ∙ ap value-words (same-value (a .words))
 
 -- a run as the theorem over runs of the calls takes it
-abbrev pub as-run : Exported-run → Answer → Runs.Run
-as-run r answer =
+abbrev pub as-run : (Memory → State Store) → Exported-run → Answer → Runs.Run
+as-run state-of r answer =
     record {
       operation = r .operation;
-      before = state-in (r .lent);
-      after = state-in (r .left);
+      before = state-of (r .lent);
+      after = state-of (r .left);
       answer = answer;
       outputs-before = r .before .outputs;
       outputs-after = r .after .outputs;
@@ -84,15 +114,18 @@ by-status status a = cond (eqb status 0) a (refused status)
 module _ (status : ℕ) (a : Answer) (before after : Places) where
   status-tells : (status ≡ 0 → put a before ≡ (0, after)) → ((status ≡ 0 → ⊥) → after ≡ before) → (status, after) ≡ put (by-status status a) before
   unfolding put
-  status-tells on kept = go (eqb status 0) refl
+  status-tells done kept = go (eqb status 0) refl
     where
       go : (b : Bool) → eqb status 0 ≡ b → (status, after) ≡ put (cond b a (refused status)) before
-      go true e = let z = eqb-true status 0 e in ap (λ n. (n, after)) z ∙ sym (on z)
+      go true e = let z = eqb-true status 0 e in ap (λ n. (n, after)) z ∙ sym (done z)
       go false e = ap (λ o. (status, o)) (kept (eqb-false status 0 e))
 
 -- ---- the run of a call
 
-module _ (r : Exported-run) (answer : Answer) (f : Meets (as-run r answer)) (t : (r .returned, r .after) ≡ put answer (r .before)) where
+module _ (r : Exported-run) (answer : Answer) (c : Meets (as-run held-in r answer)) (t : (r .returned, r .after) ≡ put answer (r .before)) where
+  f : Meets (as-run state-in r answer)
+  f = subst (λ h. Meets (as-run h r answer)) same-state c
+
   abbrev stepped : State Store × Answer
   stepped = step stored (state-in (r .lent)) (call-in r)
 
@@ -123,23 +156,23 @@ module _ (r : Exported-run) (answer : Answer) (f : Meets (as-run r answer)) (t :
         }
 
   -- a run that returns 0 where it writes the words anew
-  numbered : ((n : ℕ) → put (refused-as n (r .operation)) (r .before) ≡ (n, r .before)) → (r .left .words ≡ r .lent .words) ⊎ ((r .returned ≡ 0) × Right (r .left))
-      → ((m : Making) → r .operation ≡ create m → r .returned ≡ 0 → Right (r .left)) → Performs r
+  numbered : ((n : ℕ) → put (refused-as n (r .operation)) (r .before) ≡ (n, r .before)) → (r .left .words ≡ r .lent .words) ⊎ ((r .returned ≡ 0) × Rightly (r .left))
+      → ((m : Making) → r .operation ≡ create m → r .returned ≡ 0 → Rightly (r .left)) → Performs r
   numbered stays words new = record {
     does = gives;
-    words = ⊎-elim inl (λ w. inr (w .1)) words;
-    new-words = new;
+    words = ⊎-elim inl (λ w. inr (right (r .left) (w .1))) words;
+    new-words = λ m q z. right (r .left) (new m q z);
     refused = λ n h. untouched n h (ap (λ (x : ℕ × Places). x .1) (stays n)) (kept n h words);
   }
     where
-      kept : (n : ℕ) → refusal stored (state-in (r .lent)) (call-in r) ≡ some n → (r .left .words ≡ r .lent .words) ⊎ ((r .returned ≡ 0) × Right (r .left)) → r .left .words ≡ r .lent .words
+      kept : (n : ℕ) → refusal stored (state-in (r .lent)) (call-in r) ≡ some n → (r .left .words ≡ r .lent .words) ⊎ ((r .returned ≡ 0) × Rightly (r .left)) → r .left .words ≡ r .lent .words
       kept n h (inl e) = e
       kept n h (inr w) =
           let z = sym (ap (λ (x : ℕ × Places). x .0) (back-told n h ∙ stays n)) ∙ w .0 in
           absurd (refusal-not-zero stored (state-in (r .lent)) (call-in r) n h z)
 
 performs-looking : {o : Operation} {lent : Memory} {scratch scratch′ : List ℕ} {before after : Places} {returned : ℕ} → ((m : Making) → o ≡ create m → ⊥) → (answer : Answer)
-    → Meets (as-run (looking o lent scratch scratch′ before after returned) answer) → (returned, after) ≡ put answer before → ((n : ℕ) → put (refused-as n o) before ≡ (n, before))
+    → Meets (as-run held-in (looking o lent scratch scratch′ before after returned) answer) → (returned, after) ≡ put answer before → ((n : ℕ) → put (refused-as n o) before ≡ (n, before))
     → Performs (looking o lent scratch scratch′ before after returned)
 performs-looking other answer f t stays = numbered _ answer f t stays (inl refl) (λ m q z. absurd (other m q))
 
@@ -157,19 +190,19 @@ module _ {m : Making} {lent left : Memory} {status : ℕ} (c : Creates-words m (
       go true = refl
       go false = refl
 
-  made-left : left-by made (state-in lent) (left .slices) ≡ state-in left
+  made-left : left-by made (held-in lent) (left .slices) ≡ held-in left
   unfolding left-by state-of value-of store-view
   made-left = go (eqb status 0) refl
     where
-      go : (b : Bool) → eqb status 0 ≡ b → left-by (cond b (Done (index-of (left .words))) (not-made status)) (state-in lent) (left .slices) ≡ state-in left
+      go : (b : Bool) → eqb status 0 ≡ b → left-by (cond b (Done (index-of (left .words))) (not-made status)) (held-in lent) (left .slices) ≡ held-in left
       go true e = refl
       go false e = ap (λ w. state-of (index-of w) (left .slices)) (sym (c .kept (eqb-false status 0 e)))
 
-  made-run : create-run m (state-in lent) (lent .slices) (left .slices) made ≡ as-run (making m lent left status) (by-status status created)
+  made-run : create-run m (held-in lent) (lent .slices) (left .slices) made ≡ as-run held-in (making m lent left status) (by-status status created)
   unfolding state-of value-of store-view
   made-run = λ i. record {
     operation = create m;
-    before = state-in lent;
+    before = held-in lent;
     after = made-left i;
     answer = made-as i;
     outputs-before = no-outputs;
@@ -178,17 +211,17 @@ module _ {m : Making} {lent left : Memory} {status : ℕ} (c : Creates-words m (
     scratch-after = [];
   }
 
-  making-words : (left .words ≡ lent .words) ⊎ ((status ≡ 0) × Right left)
+  making-words : (left .words ≡ lent .words) ⊎ ((status ≡ 0) × Rightly left)
   making-words = go (eqb status 0) refl
     where
-      go : (b : Bool) → eqb status 0 ≡ b → (left .words ≡ lent .words) ⊎ ((status ≡ 0) × Right left)
+      go : (b : Bool) → eqb status 0 ≡ b → (left .words ≡ lent .words) ⊎ ((status ≡ 0) × Rightly left)
       go true e = let z = eqb-true status 0 e in inr (z, c .written z)
       go false e = inl (c .kept (eqb-false status 0 e))
 
   performs-making : Performs (making m lent left status)
   unfolding put refused-as
   performs-making =
-      numbered _ (by-status status created) (subst Meets made-run (create-meets (state-in lent) made (c .does)))
+      numbered _ (by-status status created) (subst Meets made-run (create-meets (held-in lent) made (c .does)))
       (status-tells status created nowhere nowhere (λ z. refl) (λ z. refl)) (λ n. refl) making-words (λ m q z. c .written z)
 
 -- ---- readings
@@ -208,20 +241,20 @@ performs-reading : {lent : Memory} {status value value′ version version′ : �
     → ((status ≡ 0 → ⊥) → _≡_ {A = Places} (places value′ alpha′ version′ [] [] no-outputs) (places value alpha version [] [] no-outputs))
     → Performs (looking (read (reading-of q)) lent [] [] (places value alpha version [] [] no-outputs) (places value′ alpha′ version′ [] [] no-outputs) status)
 unfolding put refused-as
-performs-reading {lent} {status} {value} {value′} {version} {version′} {alpha} {alpha′} q v c on kept =
+performs-reading {lent} {status} {value} {value′} {version} {version′} {alpha} {alpha′} q v c done kept =
     let before = places value alpha version [] [] no-outputs in
     let after = places value′ alpha′ version′ [] [] no-outputs in
     performs-looking (no-making (reading-of q)) (by-status status (answer-of v))
-    (subst (λ a. Meets (as-run (looking (read (reading-of q)) lent [] [] before after status) a)) (value-as status v (eqb status 0)) (c .meets))
-    (status-tells status (answer-of v) before after (λ z. on) kept)
+    (subst (λ a. Meets (as-run held-in (looking (read (reading-of q)) lent [] [] before after status) a)) (value-as status v (eqb status 0)) (c .meets))
+    (status-tells status (answer-of v) before after (λ z. done) kept)
     (λ n. refl)
 
 -- where it is turned back, the part is empty
 performs-vector : {lent : Memory} {slot n : ℕ} → Reads-length (lent .words) (lent .slices) slot n
-    → Performs (looking (read-vector slot) lent [] [] nowhere (places 0 (f32 0) 0 (bytes-at (lent .words) (lent .slices) slot n) [] no-outputs) n)
-unfolding put refused-as
+    → Performs (looking (read-vector slot) lent [] [] nowhere (places 0 (f32 0) 0 (bytes-from lent slot n) [] no-outputs) n)
+unfolding put refused-as index-of
 performs-vector {lent} {slot} {n} c =
-    let l = bytes-at (lent .words) (lent .slices) slot n in
+    let l = bytes-from lent slot n in
     let r = looking (read-vector slot) lent [] [] nowhere (places 0 (f32 0) 0 l [] no-outputs) n in
     let f = c .does .meets in
     let t : (n, places 0 (f32 0) 0 l [] no-outputs) ≡ put (vector l) nowhere = ap (λ k. (k, places 0 (f32 0) 0 l [] no-outputs)) (c .there) in
@@ -252,7 +285,7 @@ module _ {lent : Memory} {a : Search} {slots slots′ : List ℕ} {dists dists�
   performs-search =
       let cs = c .does .nearest in
       let e = found-answer status found′ cs (eqb status 0) in
-      let f = subst (λ x. Meets (as-run (looking (search a) lent scratch scratch′ before after status) x)) e (c .does .meets) in
+      let f = subst (λ x. Meets (as-run held-in (looking (search a) lent scratch scratch′ before after status) x)) e (c .does .meets) in
       performs-looking (λ m e. let z : _≡_ {A = ℕ} 0 1 = cc in omega arith) (by-status status (Answers.found cs)) f
       (status-tells status (Answers.found cs) before after
       (λ z.
@@ -299,13 +332,13 @@ module _ {lent left : Memory} {a : Insert} {slots slots′ scratch scratch′ : 
       go true e = refl
       go false e = ap index-of (sym (c .kept (eqb-false status 0 e) .0))
 
-  insert-meets : Meets (as-run insert-run insert-answer)
+  insert-meets : Meets (as-run held-in insert-run insert-answer)
   insert-meets =
       let e = inserted-answer status found′ (index-of (left .words)) filled (eqb status 0) in
       subst Meets
       (λ i. record {
         operation = insert a;
-        before = state-in lent;
+        before = held-in lent;
         after = state-of (left-index i) (left .slices);
         answer = e i;
         outputs-before = insert-outputs slots;
@@ -315,10 +348,10 @@ module _ {lent left : Memory} {a : Insert} {slots slots′ scratch scratch′ : 
       })
       (c .does .meets)
 
-  insert-words : (left .words ≡ lent .words) ⊎ ((status ≡ 0) × Right left)
+  insert-words : (left .words ≡ lent .words) ⊎ ((status ≡ 0) × Rightly left)
   insert-words = go (eqb status 0) refl
     where
-      go : (b : Bool) → eqb status 0 ≡ b → (left .words ≡ lent .words) ⊎ ((status ≡ 0) × Right left)
+      go : (b : Bool) → eqb status 0 ≡ b → (left .words ≡ lent .words) ⊎ ((status ≡ 0) × Rightly left)
       go true e = let z = eqb-true status 0 e in inr (z, c .written z)
       go false e = inl (c .kept (eqb-false status 0 e) .0)
 
@@ -349,12 +382,12 @@ module _ {lent left : Memory} {a : Delete} {stats stats′ : List Stats} {scratc
   abbrev delete-answer : Answer
   delete-answer = deleted-as (c .answer) (c .does .stats)
 
-  delete-meets : Meets (as-run delete-run delete-answer)
+  delete-meets : Meets (as-run held-in delete-run delete-answer)
   delete-meets =
       subst Meets
       (λ i. record {
         operation = delete a;
-        before = state-in lent;
+        before = held-in lent;
         after = state-of (sym (c .held) i) (left .slices);
         answer = delete-answer;
         outputs-before = stats-outputs stats;
@@ -376,7 +409,7 @@ module _ {lent left : Memory} {a : Delete} {stats stats′ : List Stats} {scratc
       λ i. (e i .0, places (f i) (f32 0) 0 [] [] (o i))
 
   delete-words : (r : Deleted) → (status, left .words, found′) ≡ deleted-put r (lent .words) found → index-of (left .words) ≡ index-left (index-of (lent .words)) r
-      → (left .words ≡ lent .words) ⊎ ((status ≡ 0) × Right left)
+      → (left .words ≡ lent .words) ⊎ ((status ≡ 0) × Rightly left)
   unfolding deleted-put index-left
   delete-words (not-deleted n) e g = inl (ap (λ x. x .1) e)
   delete-words (Emptied j n) e g = inr (ap (λ x. x .0) e, ap (λ x. x .1) e ∙ ap words-of (sym g))
@@ -406,7 +439,7 @@ module _ {lent : Memory} {a : Assess} {checked checked′ lost lost′ scratch s
   assess-tells : (r : Assessed) → (status, place′) ≡ assessed-put r place → ((n : Report) → r ≡ Assessed-so n → n ≡ numbers-of (c .does .report))
       → report-outputs checked′ lost′ ≡ written (assessed-as r (c .does .report)) (report-outputs checked lost)
       → (status, in-guard place′ (report-outputs checked′ lost′)) ≡ put (assessed-as r (c .does .report)) (in-guard place (report-outputs checked lost))
-  unfolding put written assessed-put assessed-as
+  unfolding put written assessed-put assessed-as report-words
   assess-tells (not-assessed n) e h o = λ i. (e i .0, in-guard (e i .1) (o i))
   assess-tells (Assessed-so n) e h o =
       let w = ap (λ x. x .1) e ∙ ap report-words (h n refl) in
@@ -423,14 +456,14 @@ module _ {lent left : Memory} {config : Config} {scratch scratch′ place place�
   abbrev enabling : Exported-run
   enabling = changing (enable config) lent left scratch scratch′ (in-guard place no-outputs) (in-guard place′ no-outputs) status
 
-  enable-meets : Meets (as-run enabling (enabled-as (c .answer)))
+  enable-meets : Meets (as-run held-in enabling (enabled-as (c .answer)))
   enable-meets = subst (λ i. Meets (enabled-run i)) (sym (c .held)) (c .does .meets)
     where
       enabled-run : Index → Runs.Run
       enabled-run i =
           record {
             operation = enable config;
-            before = state-in lent;
+            before = held-in lent;
             after = state-of i (left .slices);
             answer = enabled-as (c .answer);
             outputs-before = no-outputs;
@@ -446,7 +479,7 @@ module _ {lent left : Memory} {config : Config} {scratch scratch′ place place�
   enable-tells (Enabled-with j s) e = λ i. (e i .0, in-guard (e i .2) no-outputs)
 
   enable-words : (r : Enabled) → (status, left .words, place′) ≡ enabled-put r (lent .words) place → index-of (left .words) ≡ enabled-index (index-of (lent .words)) r
-      → (left .words ≡ lent .words) ⊎ ((status ≡ 0) × Right left)
+      → (left .words ≡ lent .words) ⊎ ((status ≡ 0) × Rightly left)
   unfolding enabled-put enabled-index
   enable-words (not-enabled n) e g = inl (ap (λ x. x .1) e)
   enable-words (Enabled-with j s) e g = inr (ap (λ x. x .0) e, ap (λ x. x .1) e ∙ ap words-of (sym g))
@@ -468,12 +501,12 @@ module _ {lent left : Memory} {a : Delete} {stats stats′ : List Stats} {checke
   abbrev guarded-answer : Answer
   guarded-answer = guarded-as (c .answer) (c .does .stats) (c .does .report)
 
-  guarded-meets : Meets (as-run guarded-run guarded-answer)
+  guarded-meets : Meets (as-run held-in guarded-run guarded-answer)
   guarded-meets =
       subst Meets
       (λ i. record {
         operation = guarded-delete a;
-        before = state-in lent;
+        before = held-in lent;
         after = state-of (sym (c .held) i) (left .slices);
         answer = guarded-answer;
         outputs-before = guarded-outputs stats checked lost;
@@ -488,7 +521,7 @@ module _ {lent left : Memory} {a : Delete} {stats stats′ : List Stats} {checke
       → ((i : Index) (n : ℕ) (v : Report) → r ≡ Applied i n v → v ≡ numbers-of (c .does .report)) → ((v : Report) → r ≡ Deferred v → v ≡ numbers-of (c .does .report))
       → guarded-outputs stats′ checked′ lost′ ≡ written (guarded-as r ts (c .does .report)) (guarded-outputs stats checked lost)
       → (status, places found′ (f32 0) 0 [] place′ (guarded-outputs stats′ checked′ lost′)) ≡ put (guarded-as r ts (c .does .report)) (places found (f32 0) 0 [] place (guarded-outputs stats checked lost))
-  unfolding put written guarded-put guarded-as
+  unfolding put written guarded-put guarded-as report-words
   guarded-tells (not-guarded n) ts e w g h o = λ i. (e i .0, places (e i .2) (f32 0) 0 [] (e i .3) (o i))
   guarded-tells (Applied j n v) ts e w g h o =
       let many : length ts ≡ n = ap length (w j n v refl) ∙ length-map (range 0 n) (stats-of scratch′ (stats-at (index-of (lent .words) .capacity))) ∙ length-range 0 n in
@@ -500,7 +533,7 @@ module _ {lent left : Memory} {a : Delete} {stats stats′ : List Stats} {checke
       λ i. (e i .0, places (e i .2) (f32 0) 0 [] (p i) (o i))
 
   guarded-words : (r : Guarded) → (status, left .words, found′, place′) ≡ guarded-put r (lent .words) found place → index-of (left .words) ≡ index-kept (index-of (lent .words)) r
-      → (left .words ≡ lent .words) ⊎ ((status ≡ 0) × Right left)
+      → (left .words ≡ lent .words) ⊎ ((status ≡ 0) × Rightly left)
   unfolding guarded-put index-kept
   guarded-words (not-guarded n) e g = inl (ap (λ x. x .1) e)
   guarded-words (Applied j n v) e g = inr (ap (λ x. x .0) e, ap (λ x. x .1) e ∙ ap words-of (sym g))

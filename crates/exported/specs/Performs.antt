@@ -1,32 +1,49 @@
 -- What a run of an exported function does, said once for all of them: what `step` gives of the index that it is lent. Assumes nothing.
 use Prim.Native.Nat.{ℕ}
+use mathlib.Core.Bool.{cond}
+use mathlib.Core.List.{List, [], _∷_}
 use mathlib.Core.Logic.{_⊎_}
 use mathlib.Core.Option.{some}
 use mathlib.Core.Path.{_≡_}
-use lib.ListN.{length}
-use Rattle.slots.specs.Store.{Store}
+use lib.Dec.{eqb}
+use lib.ListN.{length, getD}
+use Rattle.slots.specs.Store.{Store, or-blank}
+use Rattle.guard.specs.Guard.{config, off, on, Report}
 use Rattle.calls.specs.Calls.{Making, create, Call, Answer, refused, created, number, alpha, version, vector, found, inserted, deleted, standing, assessed, applied, deferred}
 use Rattle.calls.specs.Outputs.{written}
-use Rattle.calls.specs.State.{State, stored}
+use Rattle.calls.specs.State.{State, Value, state, stored}
 use Rattle.calls.specs.Step.{step, refusal}
 use Rattle.calls.specs.Runs.{lent-of}
-use Rattle.index.specs.Index.{state-of}
-use Rattle.guarding.specs.Guarding.{numbers-of}
-use Rattle.words.specs.IndexWords.{index-of, words-of}
-use Rattle.words.specs.GuardWords.{status-words, report-words}
+use Rattle.words.specs.IndexWords.{alpha-of, value-words}
+use Rattle.words.specs.GuardWords.{flag, status-words}
 use Rattle.exported.specs.Runs.{Memory, Places, places, Exported-run, Exported}
 
--- the index that an app's memory holds
-abbrev pub state-in : Memory → State Store
-state-in a = state-of (index-of (a .words)) (a .slices)
+-- what an app holds by value, in the order of include/finder.h
+unfoldable pub value-held : List ℕ → Value
+value-held w =
+    record {
+      sizes = record { dim = getD w 0 0; capacity = getD w 1 0; degree = getD w 2 0; alpha = alpha-of (getD w 3 0) };
+      entry = getD w 4 0;
+      live = getD w 5 0;
+      guard = cond (eqb (getD w 6 0) 0) off (on (config (getD w 7 0) (getD w 8 0) (getD w 9 0) (getD w 10 0)) (getD w 11 0));
+    }
 
--- its words are those that it is written as
+-- the index that its memory holds
+abbrev pub state-in : Memory → State Store
+state-in a = state (value-held (a .words)) (a .slices)
+
+-- the words are those that the index is written as
 abbrev pub Right : Memory → Type 0
-Right a = a .words ≡ words-of (index-of (a .words))
+Right a = a .words ≡ value-words (value-held (a .words))
 
 -- the call that is run: what is asked, with the lengths of all that is lent
 abbrev pub call-in : Exported-run → Call
 call-in r = record { lent = lent-of (r .lent .slices) (r .before .outputs) (r .scratch); operation = r .operation }
+
+-- the numbers of a report, in the order of include/finder.h; no entry is blank
+abbrev pub numbers : Report → List ℕ
+numbers r =
+    flag (r .admitted) ∷ r .requested ∷ or-blank (r .entry) ∷ length (r .checked) ∷ r .baseline ∷ r .residual ∷ length (r .lost) ∷ r .supplemental ∷ []
 
 -- the number that is returned with an answer, and what then stands where it is written
 unfoldable pub put : Answer → Places → ℕ × Places
@@ -40,9 +57,9 @@ put (found cs) o = (0, places (length cs) (o .alpha) (o .version) (o .bytes) (o 
 put (inserted ss) o = (0, places (length ss) (o .alpha) (o .version) (o .bytes) (o .guard) (written (inserted ss) (o .outputs)))
 put (deleted ts) o = (0, places (length ts) (o .alpha) (o .version) (o .bytes) (o .guard) (written (deleted ts) (o .outputs)))
 put (standing s) o = (0, places (o .value) (o .alpha) (o .version) (o .bytes) (status-words s) (o .outputs))
-put (assessed r) o = (0, places (o .value) (o .alpha) (o .version) (o .bytes) (report-words (numbers-of r)) (written (assessed r) (o .outputs)))
-put (applied ts r) o = (0, places (length ts) (o .alpha) (o .version) (o .bytes) (report-words (numbers-of r)) (written (applied ts r) (o .outputs)))
-put (deferred r) o = (0, places 0 (o .alpha) (o .version) (o .bytes) (report-words (numbers-of r)) (written (deferred r) (o .outputs)))
+put (assessed r) o = (0, places (o .value) (o .alpha) (o .version) (o .bytes) (numbers r) (written (assessed r) (o .outputs)))
+put (applied ts r) o = (0, places (length ts) (o .alpha) (o .version) (o .bytes) (numbers r) (written (applied ts r) (o .outputs)))
+put (deferred r) o = (0, places 0 (o .alpha) (o .version) (o .bytes) (numbers r) (written (deferred r) (o .outputs)))
 
 -- all that is lent stays: words, slices, scratch, and what stands where an answer is written
 pub record Untouched (r : Exported-run) : Type 0 where

@@ -1,8 +1,9 @@
 -- Runs of the exported functions that work on an index: all of include/finder.h but `finder_scratch_words`. Each has the contract that its function is
 -- proved to meet (words/specs/Given.antt) and nothing else; what is left has a prime. Assumes nothing.
-use Prim.Native.Nat.{ℕ}
+use Prim.Native.Nat.{ℕ, _*_}
 use mathlib.Core.List.{List, [], map}
 use lib.Ieee.{Float}
+use lib.ListN.{take, drop, getD}
 use Rattle.vectors.specs.Distance.{f32}
 use Rattle.slots.specs.Sizes.{Slices}
 use Rattle.calls.specs.Calls.{Making, read-dim, read-capacity, read-degree, read-alpha, read-entry, read-live, read-mark, read-version, read-target, Search, Insert, Delete, Operation, create, read, read-vector, search, insert, delete, Assess, enable, assess, guarded-delete}
@@ -15,7 +16,7 @@ use Rattle.updating.specs.Insert.{insert-outputs}
 use Rattle.updating.specs.Delete.{stats-outputs}
 use Rattle.deletion.specs.declared.stats.DeleteStats.{DeleteStats}
 use Rattle.deletion.specs.Batch.{stats-in}
-use Rattle.words.specs.Given.{Creates-words, Reads-number, Reads-alpha, bytes-at, Reads-length, Searches-words, Inserts-words, Deletes-words, Stands-words, Enables-words, Assesses-words, Guards-words}
+use Rattle.words.specs.Given.{Creates-words, Reads-number, Reads-alpha, Reads-length, Searches-words, Inserts-words, Deletes-words, Stands-words, Enables-words, Assesses-words, Guards-words}
 use Rattle.guarding.specs.Guarding.{report-outputs}
 use Rattle.guarding.specs.Guarded.{guarded-outputs}
 
@@ -23,6 +24,10 @@ use Rattle.guarding.specs.Guarded.{guarded-outputs}
 pub record Memory : Type 0 where
   pub words : List ℕ
   pub slices : Slices
+
+-- so many bytes from a slot's place on
+abbrev pub bytes-from : Memory → ℕ → ℕ → List ℕ
+bytes-from a slot n = take n (drop (slot * getD (a .words) 0 0) (a .slices .vectors))
 
 -- where an answer is written: `*value` or `*found`; the `*value` of `finder_alpha`; that of `finder_slot_version`; a vector's bytes, which are read where
 -- they lie; the words of the guard's status or of a report's numbers; the output lists
@@ -103,7 +108,7 @@ pub data Exported : Exported-run → Type 0 where
   finder-alpha : {lent : Memory} {value value′ : Float} {status : ℕ} → Reads-alpha (lent .words) (lent .slices) value value′ status
       → Exported (looking (read read-alpha) lent [] [] (in-alpha value) (in-alpha value′) status)
   finder-vector : {lent : Memory} {slot n : ℕ} → Reads-length (lent .words) (lent .slices) slot n
-      → Exported (looking (read-vector slot) lent [] [] nowhere (places 0 (f32 0) 0 (bytes-at (lent .words) (lent .slices) slot n) [] no-outputs) n)
+      → Exported (looking (read-vector slot) lent [] [] nowhere (places 0 (f32 0) 0 (bytes-from lent slot n) [] no-outputs) n)
   finder-search : {lent : Memory} {a : Search} {slots slots′ : List ℕ} {dists dists′ : List Float} {scratch scratch′ : List ℕ} {found found′ status : ℕ}
       → Searches-words (lent .words) (lent .slices) a (search-outputs slots dists) scratch (search-outputs slots′ dists′) scratch′ found found′ status
       → Exported (looking (search a) lent scratch scratch′ (places found (f32 0) 0 [] [] (search-outputs slots dists)) (places found′ (f32 0) 0 [] [] (search-outputs slots′ dists′)) status)
