@@ -51,7 +51,7 @@ enter-requires : tie.Need-enter-requires
 enter-requires c κs =
     let p = (start₃ c) .pre in
     let g = met-goes (p .1) (p .2) (c .before .before .before .before .wide .ensures) (c .before .before .if1 .left) in
-    (g .listed, g .passed, dist-small (c .before .query-distance .ensures))
+    (g .listed, g .passed)
 
 returns-2 : tie.Need-returns-2
 returns-2 c =
