@@ -1,11 +1,11 @@
 // The distance of two vectors, of two slots, and of a query and a slot.
 use vectors::vector;
 ghost use mathlib.Core.Path.{_≡_};
-ghost use Prim.Native.Nat.{_+_, _*_, _≤_};
+ghost use Prim.Native.Nat.{_+_, _*_, _-_, min, _≤_};
 ghost use lib.ListN.{length};
 ghost use Rattle.vectors.specs.Distance.{squared-difference, distance};
 ghost use Rattle.vectors.specs.Space.{slot-distance, query-distance, space, Measured};
-ghost use Rattle.distances.specs.contracts.Sums.{Summed};
+ghost use Rattle.distances.specs.contracts.Sums.{Summed, First};
 
 // The squared difference of two bytes.
 fn squared_difference(x: u8, y: u8) -> u32
@@ -61,15 +61,15 @@ fn sixty_four(a: &[u8], b: &[u8], i: usize) -> u32
         + four(a, b, i + 60)
 }
 
-// The sum of the squared differences of two vectors of one length.
-pub fn distance(a: &[u8], b: &[u8]) -> u32
-    requires { ⌜ (length (now a) ≡ length (now b)) × (length (now a) ≤ 256) ⌝ }
-    ensures { λ r. ⌜ Measured (distance (now (a .entry)) (now (b .entry))) r ⌝ }
+// The sum of the squared differences from place `from` up to `to`.
+fn sum(a: &[u8], b: &[u8], from: usize, to: usize) -> u32
+    requires { ⌜ (from ≤ to) × (to ≤ length (now a)) × (to ≤ length (now b)) × (to ≤ 256) ⌝ }
+    ensures { λ r. ⌜ Summed (now (a .entry)) (now (b .entry)) from (to - from) r ⌝ }
 {
     let mut sum: u32 = 0;
-    let mut i: usize = 0;
-    while i < a.len() {
-        let left = a.len() - i;
+    let mut i = from;
+    while i < to {
+        let left = to - i;
         if 64 <= left {
             sum += sixty_four(a, b, i);
             i += 64;
@@ -87,6 +87,14 @@ pub fn distance(a: &[u8], b: &[u8]) -> u32
     sum
 }
 
+// The sum of the squared differences of two vectors of one length.
+pub fn distance(a: &[u8], b: &[u8]) -> u32
+    requires { ⌜ (length (now a) ≡ length (now b)) × (length (now a) ≤ 256) ⌝ }
+    ensures { λ r. ⌜ Measured (distance (now (a .entry)) (now (b .entry))) r ⌝ }
+{
+    sum(a, b, 0, a.len())
+}
+
 // The distance of the vectors of two slots.
 pub fn slot_distance(dim: usize, vectors: &[u8], s: usize, t: usize) -> u32
     requires { ⌜ (s * dim + dim ≤ length (now vectors)) × (t * dim + dim ≤ length (now vectors)) × (dim ≤ 256) ⌝ }
@@ -101,4 +109,28 @@ pub fn query_distance(dim: usize, vectors: &[u8], query: &[u8], s: usize) -> u32
     ensures { λ r. ⌜ Measured (query-distance (space dim (now (vectors .entry))) (now (query .entry)) s) r ⌝ }
 {
     distance(query, vector(dim, vectors, s))
+}
+
+// How many values of a vector are measured first: those of one line of memory, or all of fewer.
+fn first_part(dim: usize) -> usize
+    ensures { λ r. ⌜ r ≡ min 64 dim ⌝ }
+{
+    if dim < 64 { dim } else { 64 }
+}
+
+// The distance of a query and the vector of a slot, as far as their first values go. What is read begins the vector's way from memory.
+pub fn first_distance(dim: usize, vectors: &[u8], query: &[u8], s: usize) -> u32
+    requires { ⌜ (s * dim + dim ≤ length (now vectors)) × (length (now query) ≡ dim) × (dim ≤ 256) ⌝ }
+    ensures { λ r. ⌜ First dim (now (vectors .entry)) (now (query .entry)) s r ⌝ }
+{
+    sum(query, vector(dim, vectors, s), 0, first_part(dim))
+}
+
+// The distance of a query and the vector of a slot, by that of their first values.
+pub fn whole_distance(dim: usize, vectors: &[u8], query: &[u8], s: usize, first: u32) -> u32
+    requires { ⌜ (s * dim + dim ≤ length (now vectors)) × (length (now query) ≡ dim) × (dim ≤ 256) ⌝ }
+    requires { ⌜ First dim (now vectors) (now query) s first ⌝ }
+    ensures { λ r. ⌜ Measured (query-distance (space dim (now (vectors .entry))) (now (query .entry)) s) r ⌝ }
+{
+    first + sum(query, vector(dim, vectors, s), first_part(dim), dim)
 }

@@ -8,10 +8,10 @@ use borrow.Author.Tests.{lt-ltb, le-ltb, le-leb, lt-leb}
 use lib.Dec.{leb}
 use lib.ListN.{take}
 use Rattle.lists.specs.Lists.{All, Ordered}
-use Rattle.lists.proofs.All.{all-append, all-init}
+use Rattle.lists.proofs.All.{all-append}
 use Rattle.lists.proofs.Ordered.{pairwise-init}
 use Rattle.candidates.specs.Candidates.{Candidate, before}
-use Rattle.candidates.specs.contracts.Words.{pair, cand, cands, Small, Inserted}
+use Rattle.candidates.specs.contracts.Words.{pair, cand, cands, Inserted}
 use Rattle.candidates.proofs.Words.{cands-length, cands-take, cands-snoc, cands-init, cands-last, outside-none, outside-wide}
 use Rattle.walk.specs.Walk.{worst, enter, ends}
 use Rattle.slots.specs.Scratch.{marks-at}
@@ -86,15 +86,15 @@ ends-full {beam} w {n} {i} {a} {b} h k p q =
     rw (cands-length w 0 n, le-leb beam n h, r, t)
 
 -- ---- the first that is not expanded
-pub scan-more : (w : List ℕ) (i : ℕ) {t s : ℕ} → t ≡ cand w (0 + 2 * i) .id → s ≡ t → mark w s ≡ 2 → All (λ c. mark w (c .id) ≡ 2) (cands w 0 i)
+pub scan-more : (w : List ℕ) (i : ℕ) {t s m : ℕ} → t ≡ cand w (0 + 2 * i) .id → s ≡ t → m ≡ mark w s → m ≡ 2 → All (λ c. mark w (c .id) ≡ 2) (cands w 0 i)
     → All (λ c. mark w (c .id) ≡ 2) (cands w 0 (i + 1))
-scan-more w i e q h f = rw (cands-snoc w 0 i) (all-append _ (cands w 0 i) _ f (rw (q, e) at h, tt))
+scan-more w i e q p h f = rw (cands-snoc w 0 i) (all-append _ (cands w 0 i) _ f (rw (q, e) at (sym p ∙ h), tt))
 
-pub scan-found : (w : List ℕ) (i : ℕ) {n t s : ℕ} → i < n → t ≡ cand w (0 + 2 * i) .id → s ≡ t → (mark w s ≡ 2 → ⊥) → All (λ c. mark w (c .id) ≡ 2) (cands w 0 i)
+pub scan-found : (w : List ℕ) (i : ℕ) {n t s m : ℕ} → i < n → t ≡ cand w (0 + 2 * i) .id → s ≡ t → m ≡ mark w s → (m ≡ 2 → ⊥) → All (λ c. mark w (c .id) ≡ 2) (cands w 0 i)
     → Unexpanded w n i
-scan-found w i k e q h f =
+scan-found w i k e q p h f =
     let z : 0 + 2 * i ≡ 2 * i = omega arith in
-    record { within = omega arith; done = f; stops = λ _. rw z at (rw (q, e) at h) }
+    record { within = omega arith; done = f; stops = λ _. rw z at (rw (p, q, e) at h) }
 
 pub scan-none : {w : List ℕ} {n i : ℕ} → n ≤ i → i ≤ n → All (λ c. mark w (c .id) ≡ 2) (cands w 0 i) → Unexpanded w n i
 scan-none h k f = record { within = k; done = f; stops = λ l. absurd (omega arith) }

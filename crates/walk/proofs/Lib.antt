@@ -7,6 +7,7 @@ pub mod Cases
 pub mod Marks
 pub mod Entering
 pub mod Walking
+pub mod Gathering
 pub mod Seen
 pub mod Same
 pub mod Without

@@ -11,7 +11,17 @@ use Rattle.candidates.specs.Candidates.{Candidate}
 use Rattle.candidates.specs.contracts.Words.{pair, cands, put, Outside}
 use Rattle.candidates.proofs.Words.{cands-none, cands-kept, put-cand, put-length, put-outside, outside-none, outside-wide, outside-then, outside-set}
 use Rattle.slots.specs.Scratch.{list-words, marks-at, work-at}
-use Rattle.walk.specs.contracts.Scratch.{mark, marks-of, mark-all, Cleared, LeftOut, Begun}
+use Rattle.walk.specs.contracts.Scratch.{mark-word, mark, put-mark, marks-of, mark-all, Cleared, LeftOut, Begun}
+
+-- a mark is written
+pub put-mark-length : (w : List ℕ) (s v : ℕ) → length (put-mark w s v) ≡ length w
+put-mark-length w s v = length-set w (mark-word s) v
+
+pub mark-same : (w : List ℕ) (s v : ℕ) → mark-word s < length w → mark (put-mark w s v) s ≡ v
+mark-same w s v h = getD-set-same w (mark-word s) v 0 h
+
+pub mark-other : (w : List ℕ) (s t v : ℕ) → (t ≡ s → ⊥) → mark (put-mark w s v) t ≡ mark w t
+mark-other w s t v n = getD-set-other w (mark-word s) (mark-word t) v 0 (λ q. n (omega arith))
 
 module _ (capacity : ℕ) (w : List ℕ) (h : work-at capacity ≤ length w) where
   pub marks-length : length (marks-of capacity w) ≡ capacity
@@ -25,19 +35,22 @@ module _ (capacity : ℕ) (w : List ℕ) (h : work-at capacity ≤ length w) whe
   marks-by ms e f =
       ext-getD 0 _ _ (marks-length ∙ sym e) (λ i k. let j : i < capacity = omega (arith, marks-length) in mark-at i j ∙ f i j)
 
-pub marks-set : (capacity : ℕ) (w : List ℕ) (s v : ℕ) → s < capacity → marks-of capacity (set w (marks-at + s) v) ≡ set (marks-of capacity w) s v
+pub marks-set : (capacity : ℕ) (w : List ℕ) (s v : ℕ) → s < capacity → marks-of capacity (put-mark w s v) ≡ set (marks-of capacity w) s v
 marks-set capacity w s v k = rw (drop-set-add marks-at w s v, take-set-lt capacity (drop marks-at w) s v k)
 
 -- where only the list changed, and where only marks did
+pub mark-kept : (w w′ : List ℕ) → Outside 0 list-words w w′ → (s : ℕ) → mark w′ s ≡ mark w s
+mark-kept w w′ f s = f (mark-word s) (λ q. omega arith)
+
 pub marks-kept : (capacity : ℕ) (w w′ : List ℕ) → work-at capacity ≤ length w → length w′ ≡ length w → Outside 0 list-words w w′ → marks-of capacity w′ ≡ marks-of capacity w
 marks-kept capacity w w′ h e f =
     marks-by capacity w′ (omega arith) (marks-of capacity w) (marks-length capacity w h)
-    (λ s k. f (marks-at + s) (λ q. omega arith) ∙ sym (mark-at capacity w h s k))
+    (λ s k. mark-kept w w′ f s ∙ sym (mark-at capacity w h s k))
 
 pub list-kept : (capacity n : ℕ) (w w′ : List ℕ) → n ≤ 1024 → Outside marks-at capacity w w′ → cands w′ 0 n ≡ cands w 0 n
 list-kept capacity n w w′ h f = cands-kept marks-at capacity w w′ f 0 n (λ q. absurd (omega arith))
 
-pub outside-mark : (capacity : ℕ) (w w′ : List ℕ) (s v : ℕ) → s < capacity → Outside marks-at capacity w w′ → Outside marks-at capacity w (set w′ (marks-at + s) v)
+pub outside-mark : (capacity : ℕ) (w w′ : List ℕ) (s v : ℕ) → s < capacity → Outside marks-at capacity w w′ → Outside marks-at capacity w (put-mark w′ s v)
 outside-mark capacity w w′ s v h f = outside-set marks-at capacity w w′ (marks-at + s) v f (omega arith) (omega arith)
 
 -- ---- clearing: the marks below s are 0
@@ -50,13 +63,13 @@ pub clearing-none : (capacity : ℕ) (w : List ℕ) → Clearing capacity w w 0
 clearing-none capacity w = record { zero = λ t h. absurd (omega arith); size = refl; same = outside-none marks-at capacity w }
 
 module _ {capacity : ℕ} {w₀ w : List ℕ} {s : ℕ} (room : work-at capacity ≤ length w₀) (f : Clearing capacity w₀ w s) where
-  pub clearing-more : s < capacity → Clearing capacity w₀ (set w (marks-at + s) 0) (s + 1)
+  pub clearing-more : s < capacity → Clearing capacity w₀ (put-mark w s 0) (s + 1)
   clearing-more h =
-      record { zero = λ t k. go t k (decLt t s); size = length-set w (marks-at + s) 0 ∙ f .size; same = outside-mark capacity w₀ w s 0 h (f .same) }
+      record { zero = λ t k. go t k (decLt t s); size = put-mark-length w s 0 ∙ f .size; same = outside-mark capacity w₀ w s 0 h (f .same) }
     where
-      go : (t : ℕ) → t < s + 1 → Dec (t < s) → mark (set w (marks-at + s) 0) t ≡ 0
-      go t k (yes l) = getD-set-other w (marks-at + s) (marks-at + t) 0 0 (λ e. absurd (omega arith)) ∙ f .zero t l
-      go t k (no l) = let e : t ≡ s = omega arith in rw e (getD-set-same w (marks-at + s) 0 0 (omega (arith, f .size)))
+      go : (t : ℕ) → t < s + 1 → Dec (t < s) → mark (put-mark w s 0) t ≡ 0
+      go t k (yes l) = mark-other w s t 0 (λ e. omega arith) ∙ f .zero t l
+      go t k (no l) = let e : t ≡ s = omega arith in rw e (mark-same w s 0 (omega (arith, f .size)))
 
   pub clearing-done : capacity ≤ s → Cleared capacity w₀ w
   clearing-done h =
@@ -81,11 +94,11 @@ module _ {capacity : ℕ} {ids w₀ w : List ℕ} {i : ℕ} (f : Leaving capacit
     rest : mark-all (set (marks-of capacity w) s 1) (drop (i + 1) ids) ≡ mark-all (marks-of capacity w₀) ids
     rest = rw (e, add-one i) (rw (drop-cons ids i 0 h) at (f .goes))
 
-    pub leaving-slot : s < capacity → Leaving capacity ids w₀ (set w (marks-at + s) 1) (i + 1)
+    pub leaving-slot : s < capacity → Leaving capacity ids w₀ (put-mark w s 1) (i + 1)
     leaving-slot k =
         record {
           goes = rw (marks-set capacity w s 1 k) rest;
-          size = length-set w (marks-at + s) 1 ∙ f .size;
+          size = put-mark-length w s 1 ∙ f .size;
           same = outside-mark capacity w₀ w s 1 k (f .same);
         }
 
@@ -100,25 +113,25 @@ module _ {capacity : ℕ} {ids w₀ w : List ℕ} {i : ℕ} (f : Leaving capacit
 
 -- ---- the walk begins
 module _ {capacity : ℕ} (d start : ℕ) {ids w v u : List ℕ} (room : work-at capacity ≤ length w) (h : start < capacity) (f : Cleared capacity w v) (g : LeftOut capacity ids v u) where
-  long : length (set u (marks-at + start) 1) ≡ length w
-  long = length-set u (marks-at + start) 1 ∙ g .size ∙ f .size
+  long : length (put-mark u start 1) ≡ length w
+  long = put-mark-length u start 1 ∙ g .size ∙ f .size
 
-  first : cands (put (set u (marks-at + start) 1) 0 d start) 0 1 ≡ pair d start ∷ []
+  first : cands (put (put-mark u start 1) 0 d start) 0 1 ≡ pair d start ∷ []
   unfolding cands
-  first = ap (λ (c : Candidate). c ∷ []) (put-cand (set u (marks-at + start) 1) 0 d start (omega (arith, long)))
+  first = ap (λ (c : Candidate). c ∷ []) (put-cand (put-mark u start 1) 0 d start (omega (arith, long)))
 
-  all-marks : marks-of capacity (put (set u (marks-at + start) 1) 0 d start) ≡ set (mark-all (replicate capacity 0) ids) start 1
+  all-marks : marks-of capacity (put (put-mark u start 1) 0 d start) ≡ set (mark-all (replicate capacity 0) ids) start 1
   all-marks =
-      marks-kept capacity (set u (marks-at + start) 1) (put (set u (marks-at + start) 1) 0 d start) (omega (arith, long)) (put-length (set u (marks-at + start) 1) 0 d start)
-      (outside-wide 0 2 0 marks-at (set u (marks-at + start) 1) (put (set u (marks-at + start) 1) 0 d start) (put-outside (set u (marks-at + start) 1) 0 d start) (omega arith) (omega arith))
+      marks-kept capacity (put-mark u start 1) (put (put-mark u start 1) 0 d start) (omega (arith, long)) (put-length (put-mark u start 1) 0 d start)
+      (outside-wide 0 2 0 marks-at (put-mark u start 1) (put (put-mark u start 1) 0 d start) (put-outside (put-mark u start 1) 0 d start) (omega arith) (omega arith))
       ∙ marks-set capacity u start 1 h ∙ rw (g .marks, f .marks)
 
-  is-met : mark (put (set u (marks-at + start) 1) 0 d start) start ≡ 1
-  is-met = put-outside (set u (marks-at + start) 1) 0 d start (marks-at + start) (λ z. omega arith) ∙ getD-set-same u (marks-at + start) 1 0 (omega (arith, g .size, f .size))
+  is-met : mark (put (put-mark u start 1) 0 d start) start ≡ 1
+  is-met = put-outside (put-mark u start 1) 0 d start (marks-at + start) (λ z. omega arith) ∙ mark-same u start 1 (omega (arith, g .size, f .size))
 
-  pub begun-first : d ≤ 16777216 → Begun capacity ids d start w (put (set u (marks-at + start) 1) 0 d start)
+  pub begun-first : d ≤ 16777216 → Begun capacity ids d start w (put (put-mark u start 1) 0 d start)
   begun-first small =
-      let size : length (put (set u (marks-at + start) 1) 0 d start) ≡ length w = put-length (set u (marks-at + start) 1) 0 d start ∙ long in
+      let size : length (put (put-mark u start 1) 0 d start) ≡ length w = put-length (put-mark u start 1) 0 d start ∙ long in
       record {
         holds = rw (first, all-marks);
         goes = λ beam some most. record {
@@ -127,14 +140,14 @@ module _ {capacity : ℕ} (d start : ℕ) {ids w v u : List ℕ} (room : work-at
           inside = rw first (h, tt);
           met = rw first ((λ z. omega (arith, is-met)), tt);
           passed = omega arith;
-          done = rw (cands-none (put (set u (marks-at + start) 1) 0 d start) 0 0 refl) tt;
+          done = rw (cands-none (put (put-mark u start 1) 0 d start) 0 0 refl) tt;
         };
         size = size;
-        same = outside-then 0 (work-at capacity) w (set u (marks-at + start) 1) (put (set u (marks-at + start) 1) 0 d start)
-            (outside-wide marks-at capacity 0 (work-at capacity) w (set u (marks-at + start) 1) (outside-mark capacity w u start 1 h (outside-then marks-at capacity w v u (f .same) (g .same))) (omega arith) (omega arith))
-            (outside-wide 0 2 0 (work-at capacity) (set u (marks-at + start) 1) (put (set u (marks-at + start) 1) 0 d start) (put-outside (set u (marks-at + start) 1) 0 d start) (omega arith) (omega arith));
+        same = outside-then 0 (work-at capacity) w (put-mark u start 1) (put (put-mark u start 1) 0 d start)
+            (outside-wide marks-at capacity 0 (work-at capacity) w (put-mark u start 1) (outside-mark capacity w u start 1 h (outside-then marks-at capacity w v u (f .same) (g .same))) (omega arith) (omega arith))
+            (outside-wide 0 2 0 (work-at capacity) (put-mark u start 1) (put (put-mark u start 1) 0 d start) (put-outside (put-mark u start 1) 0 d start) (omega arith) (omega arith));
       }
 
-pub begun : {capacity d start s : ℕ} {ids w v u w′ : List ℕ} → work-at capacity ≤ length w → start < capacity → d ≤ 16777216
-    → Cleared capacity w v → LeftOut capacity ids v u → s ≡ start → w′ ≡ put (set u (marks-at + s) 1) 0 d start → Begun capacity ids d start w w′
-begun room h small f g q e = rw (e, q) (begun-first _ _ room h f g small)
+pub begun : {capacity d start s : ℕ} {ids w v u u′ w′ : List ℕ} → work-at capacity ≤ length w → start < capacity → d ≤ 16777216
+    → Cleared capacity w v → LeftOut capacity ids v u → s ≡ start → u′ ≡ put-mark u s 1 → w′ ≡ put u′ 0 d start → Begun capacity ids d start w w′
+begun room h small f g q m e = rw (e, m, q) (begun-first _ _ room h f g small)

@@ -7,50 +7,49 @@ use native.Mathlib.Decide.{decLt}
 use native.Mathlib.Omega.{arith}
 use borrow.Author.Tests.{eqb-true, eqb-false, eq-eqb, ne-eqb}
 use lib.Dec.{eqb}
-use lib.ListN.{length, getD, set, length-set}
-use lib.Seq.{getD-set-same, getD-set-other}
+use lib.ListN.{length, getD, set}
 use Rattle.lists.specs.Lists.{All, foldl}
 use Rattle.lists.proofs.All.{all-map, all-both, all-take}
 use Rattle.candidates.specs.Candidates.{Candidate, before}
 use Rattle.candidates.specs.contracts.Words.{pair, cand, cands, Outside}
 use Rattle.candidates.proofs.Words.{cands-none, cands-length, cands-take, cands-split, cands-cons, cands-each, outside-none, outside-wide, outside-then}
 use Rattle.walk.specs.Walk.{State, unexpanded, enter, ends, meet, expand, turn, turns}
-use Rattle.walk.specs.contracts.Scratch.{mark, marks-of, state-of, Walkable, Scannable, Entered, Unexpanded, Next, Stepped}
+use Rattle.walk.specs.contracts.Scratch.{mark-word, mark, put-mark, marks-of, state-of, Walkable, Scannable, Entered, Unexpanded, Next, Stepped}
 use Rattle.walk.proofs.Ordered.{all-enter, enter-ordered, enter-short, expanded}
 use Rattle.slots.specs.Scratch.{marks-at, work-at}
-use Rattle.walk.proofs.Marks.{mark-at, marks-set, marks-kept, list-kept, outside-mark}
+use Rattle.walk.proofs.Marks.{put-mark-length, mark-same, mark-other, mark-kept, mark-at, marks-set, list-kept, outside-mark}
 
 -- what holds of the first n holds of the first k
 pub all-front : (P : Candidate → Type 0) (w : List ℕ) (n k : ℕ) → k ≤ n → All P (cands w 0 n) → All P (cands w 0 k)
 all-front P w n k h f = rw (cands-take w 0 n k h) at (all-take P k (cands w 0 n) f)
 
 -- ---- a slot is marked
-module _ (w : List ℕ) (s v t : ℕ) (P : ℕ → Type 0) (h : marks-at + s < length w) where
-  mark-cases : (t ≡ s → P v) → P (mark w t) → P (mark (set w (marks-at + s) v) t)
+module _ (w : List ℕ) (s v t : ℕ) (P : ℕ → Type 0) (h : mark-word s < length w) where
+  pub mark-cases : (t ≡ s → P v) → P (mark w t) → P (mark (put-mark w s v) t)
   mark-cases f g = go (eqb t s) refl
     where
-      go : (b : Bool) → eqb t s ≡ b → P (mark (set w (marks-at + s) v) t)
-      go true e = let q = eqb-true t s e in rw (q, getD-set-same w (marks-at + s) v 0 h) (f q)
-      go false e = rw (getD-set-other w (marks-at + s) (marks-at + t) v 0 (λ q. eqb-false t s e (omega arith))) g
+      go : (b : Bool) → eqb t s ≡ b → P (mark (put-mark w s v) t)
+      go true e = let q = eqb-true t s e in rw (q, mark-same w s v h) (f q)
+      go false e = rw (mark-other w s t v (eqb-false t s e)) g
 
 module _ {capacity beam : ℕ} {w : List ℕ} {n next : ℕ} (f : Walkable capacity beam w n next) (s v : ℕ) (h : s < capacity) where
   at-most : n ≤ 1024
   at-most = omega (arith, f .listed)
 
-  marked-list : (k : ℕ) → k ≤ n → cands (set w (marks-at + s) v) 0 k ≡ cands w 0 k
-  marked-list k l = list-kept capacity k w (set w (marks-at + s) v) (omega (arith, at-most)) (outside-mark capacity w w s v h (outside-none marks-at capacity w))
+  pub marked-list : (k : ℕ) → k ≤ n → cands (put-mark w s v) 0 k ≡ cands w 0 k
+  marked-list k l = list-kept capacity k w (put-mark w s v) (omega (arith, at-most)) (outside-mark capacity w w s v h (outside-none marks-at capacity w))
 
-  pub marked-state : state-of capacity (set w (marks-at + s) v) n ≡ record { list = cands w 0 n; marks = set (marks-of capacity w) s v }
+  pub marked-state : state-of capacity (put-mark w s v) n ≡ record { list = cands w 0 n; marks = set (marks-of capacity w) s v }
   marked-state = rw (marked-list n (omega arith), marks-set capacity w s v h)
 
-  pub marked-goes : 1 ≤ v → (mark w s ≡ 2 → v ≡ 2) → Walkable capacity beam (set w (marks-at + s) v) n next
+  pub marked-goes : 1 ≤ v → (mark w s ≡ 2 → v ≡ 2) → Walkable capacity beam (put-mark w s v) n next
   marked-goes o z =
-      let k : marks-at + s < length w = omega (arith, f .room) in
+      let k : mark-word s < length w = omega (arith, f .room) in
       let e = marked-list n (omega arith) in
       record {
-        room = rw (length-set w (marks-at + s) v) (f .room);
+        room = rw (put-mark-length w s v) (f .room);
         listed = record {
-          long = rw (length-set w (marks-at + s) v) (f .listed .long);
+          long = rw (put-mark-length w s v) (f .listed .long);
           some = f .listed .some;
           most = f .listed .most;
           few = f .listed .few;
@@ -63,15 +62,14 @@ module _ {capacity beam : ℕ} {w : List ℕ} {n next : ℕ} (f : Walkable capac
         done = rw (marked-list next (f .passed)) (all-map _ _ (λ c m. mark-cases w s v (c .id) (λ x. x ≡ 2) k (λ q. z (rw q at m)) m) (cands w 0 next) (f .done));
       }
 
--- ---- a slot is met
--- x enters: its slot is inside and met, and not in the list
+-- ---- x enters: its slot is inside and met, and not in the list
 pub entered-goes : {capacity beam : ℕ} {w : List ℕ} {n next d t : ℕ} {w′ : List ℕ} {n′ next′ : ℕ} → Walkable capacity beam w n next → t < capacity
     → d ≤ 16777216 → (mark w t ≡ 0 → ⊥) → All (λ c. c .id ≡ t → ⊥) (cands w 0 n) → Entered beam w n next (pair d t) w′ n′ next′ → Walkable capacity beam w′ n′ next′
 entered-goes {capacity} {beam} {w} {n} {next} {d} {t} {w′} {n′} {next′} f h small m a g =
     let l = f .listed in
     let short : length (enter beam (cands w 0 n) (pair d t)) ≤ beam = enter-short beam (cands w 0 n) (pair d t) (l .some) (rw (cands-length w 0 n) (l .few)) in
     let long : length (enter beam (cands w 0 n) (pair d t)) ≡ n′ = rw (g .list) at (cands-length w′ 0 n′) in
-    let keeps : (s : ℕ) → mark w′ s ≡ mark w s = λ s. g .same (marks-at + s) (λ q. omega arith) in
+    let keeps : (s : ℕ) → mark w′ s ≡ mark w s = mark-kept w w′ (g .same) in
     record {
       room = omega (arith, f .room, g .size);
       listed = record {
@@ -88,41 +86,7 @@ entered-goes {capacity} {beam} {w} {n} {next} {d} {t} {w′} {n′} {next′} f 
       done = rw (g .front) (all-map (λ c. mark w (c .id) ≡ 2) (λ c. mark w′ (c .id) ≡ 2) (λ c k. keeps (c .id) ∙ k) (cands w 0 next′) (all-front _ w next next′ (g .passed) (f .done)));
     }
 
-pub met-goes : {capacity beam : ℕ} {w : List ℕ} {n next t s : ℕ} → Walkable capacity beam w n next → t < capacity → s ≡ t → mark w s ≡ 0
-    → Walkable capacity beam (set w (marks-at + s) 1) n next
-met-goes {s = s} f h q z = marked-goes f s 1 (omega arith) (omega arith) (λ y. absurd (omega arith))
-
-module _ {capacity beam : ℕ} (dist : ℕ → ℕ) (near : ℕ → List ℕ) {w : List ℕ} {n next t s : ℕ} (f : Walkable capacity beam w n next) (h : t < capacity) (q : s ≡ t) where
-  pub met-old : (mark w s ≡ 0 → ⊥) → Stepped capacity beam w (meet beam dist near (state-of capacity w n) t) w n next
-  unfolding meet
-  met-old z =
-      let e : eqb (getD (marks-of capacity w) t 0) 0 ≡ false = ne-eqb _ _ (λ y. z (rw q (sym (mark-at capacity w (f .room) t h) ∙ y))) in
-      record { holds = rw e; goes = f; size = refl; same = outside-none 0 (work-at capacity) w }
-
-  module _ (z : mark w s ≡ 0) where
-    pub met-new : {d n′ next′ : ℕ} {w′ : List ℕ} → d ≡ dist s → d ≤ 16777216 → Entered beam (set w (marks-at + s) 1) n next (pair d t) w′ n′ next′
-        → Stepped capacity beam w (meet beam dist near (state-of capacity w n) t) w′ n′ next′
-    unfolding meet
-    met-new {d} {n′} {next′} {w′} p small g =
-        let k : s < capacity = omega arith in
-        let e : eqb (getD (marks-of capacity w) t 0) 0 ≡ true = eq-eqb _ _ (mark-at capacity w (f .room) t h ∙ rw q at z) in
-        let list : cands (set w (marks-at + s) 1) 0 n ≡ cands w 0 n = marked-list f s 1 k n (omega arith) in
-        let own : d ≡ dist t = rw q at p in
-        let one : mark (set w (marks-at + s) 1) t ≡ 1 = rw (← q) (getD-set-same w (marks-at + s) 1 0 (omega (arith, f .room))) in
-        let long : length (set w (marks-at + s) 1) ≡ length w = length-set w (marks-at + s) 1 in
-        let marks : marks-of capacity w′ ≡ set (marks-of capacity w) t 1 =
-        marks-kept capacity (set w (marks-at + s) 1) w′ (omega (arith, f .room)) (g .size) (g .same) ∙ marks-set capacity w s 1 k ∙ ap (λ (x : ℕ). set (marks-of capacity w) x 1) q in
-        record {
-          holds = rw (e, g .list, list, marks, own);
-          goes = entered-goes (met-goes f h q z) h small (λ y. omega arith)
-              (rw list (all-map _ _ (λ c m i. m (rw (i, ← q) z)) (cands w 0 n) (f .met))) g;
-          size = g .size ∙ long;
-          same = outside-then 0 (work-at capacity) w (set w (marks-at + s) 1) w′
-              (outside-wide marks-at capacity 0 (work-at capacity) w (set w (marks-at + s) 1) (outside-mark capacity w w s 1 k (outside-none marks-at capacity w)) (omega arith) (omega arith))
-              (outside-wide 0 marks-at 0 (work-at capacity) (set w (marks-at + s) 1) w′ (g .same) (omega arith) (omega arith));
-        }
-
--- ---- the neighbours of a slot are met, ts to come
+-- ---- slots are met, ts to come
 pub record Meeting (capacity beam : ℕ) (dist : ℕ → ℕ) (near : ℕ → List ℕ) (w₀ : List ℕ) (to : State) (ts w : List ℕ) (n next : ℕ) : Type 0 where
   pub meets : foldl (meet beam dist near) (state-of capacity w n) ts ≡ to
   pub goes : Walkable capacity beam w n next
@@ -134,24 +98,17 @@ pub meeting-none : {capacity beam : ℕ} (dist : ℕ → ℕ) (near : ℕ → Li
 meeting-none {capacity} {beam} dist near {w} {n} f e =
     record { meets = ap (foldl (meet beam dist near) (state-of capacity w n)) (sym e); goes = f; size = refl; same = outside-none 0 (work-at capacity) w }
 
--- rows have no part in it
-meet-any : (beam : ℕ) (dist : ℕ → ℕ) (near near′ : ℕ → List ℕ) (st : State) (t : ℕ) → meet beam dist near st t ≡ meet beam dist near′ st t
-unfolding meet
-meet-any beam dist near near′ st t = refl
-
 module _ {capacity beam : ℕ} {dist : ℕ → ℕ} {near : ℕ → List ℕ} {w₀ : List ℕ} {to : State} {ts w : List ℕ} {n next : ℕ} (m : Meeting capacity beam dist near w₀ to ts w n next) where
-  pub meeting-live : {t : ℕ} {us w′ : List ℕ} {n′ next′ : ℕ} → ts ≡ t ∷ us
-      → Stepped capacity beam w (meet beam dist (λ _. []) (state-of capacity w n) t) w′ n′ next′ → Meeting capacity beam dist near w₀ to us w′ n′ next′
-  meeting-live {t} {us} {w′} e g =
+  -- with the state st, in which they have entered, us are to come
+  pub meeting-part : {st : State} {us w′ w″ : List ℕ} {n′ next′ : ℕ} → foldl (meet beam dist near) st us ≡ foldl (meet beam dist near) (state-of capacity w n) ts
+      → Outside 0 (work-at capacity) w w′ → length w′ ≡ length w → Stepped capacity beam w′ st w″ n′ next′ → Meeting capacity beam dist near w₀ to us w″ n′ next′
+  meeting-part {us = us} {w′} {w″} e o l g =
       record {
-        meets = rw (g .holds, meet-any beam dist (λ _. []) near (state-of capacity w n) t) (rw e at (m .meets));
+        meets = ap (λ (x : State). foldl (meet beam dist near) x us) (g .holds) ∙ e ∙ m .meets;
         goes = g .goes;
-        size = g .size ∙ m .size;
-        same = outside-then 0 (work-at capacity) w₀ w w′ (m .same) (g .same);
+        size = g .size ∙ l ∙ m .size;
+        same = outside-then 0 (work-at capacity) w₀ w w″ (m .same) (outside-then 0 (work-at capacity) w w′ w″ o (g .same));
       }
-
-  pub meeting-dead : {us : List ℕ} → ts ≡ us → Meeting capacity beam dist near w₀ to us w n next
-  meeting-dead e = rw e at m
 
   pub meeting-done : ts ≡ [] → Stepped capacity beam w₀ to w n next
   meeting-done e = record { holds = rw e at (m .meets); goes = m .goes; size = m .size; same = m .same }
@@ -161,25 +118,25 @@ module _ {capacity beam : ℕ} {w : List ℕ} {n next s t : ℕ} (f : Walkable c
   pub expands-inside : s < capacity
   expands-inside = rw (q, p) (cands-each (λ c. c .id < capacity) w 0 n (f .inside) next h)
 
-  pub expands-goes : Walkable capacity beam (set w (marks-at + s) 2) n next
-  expands-goes = marked-goes f s 2 expands-inside (omega arith) (λ _. refl)
+  module _ {v : List ℕ} (m : v ≡ put-mark w s 2) where
+    pub expands-goes : Walkable capacity beam v n next
+    expands-goes = rw m (marked-goes f s 2 expands-inside (omega arith) (λ _. refl))
 
-  pub expanded-by : (dist : ℕ → ℕ) (near : ℕ → List ℕ) {w′ : List ℕ} {n′ next′ : ℕ}
-      → Stepped capacity beam (set w (marks-at + s) 2) (foldl (meet beam dist near) (state-of capacity (set w (marks-at + s) 2) n) (near s)) w′ n′ next′
-      → Stepped capacity beam w (expand beam dist near (state-of capacity w n) (cand w (2 * next))) w′ n′ next′
-  unfolding expand
-  expanded-by dist near {w′} g =
-      let z : 0 + 2 * next ≡ 2 * next = omega arith in
-      let i : s ≡ cand w (2 * next) .id = q ∙ rw z at p in
-      record {
-        holds = g .holds ∙ ap (λ (st : State). foldl (meet beam dist near) st (near s)) (marked-state f s 2 expands-inside)
-            ∙ ap (λ (x : ℕ). foldl (meet beam dist near) (record { list = cands w 0 n; marks = set (marks-of capacity w) x 2 }) (near x)) i;
-        goes = g .goes;
-        size = g .size ∙ length-set w (marks-at + s) 2;
-        same = outside-then 0 (work-at capacity) w (set w (marks-at + s) 2) w′
-            (outside-wide marks-at capacity 0 (work-at capacity) w (set w (marks-at + s) 2) (outside-mark capacity w w s 2 expands-inside (outside-none marks-at capacity w)) (omega arith) (omega arith))
-            (g .same);
-      }
+    pub expanded-by : (dist : ℕ → ℕ) (near : ℕ → List ℕ) {w′ : List ℕ} {n′ next′ : ℕ} → Stepped capacity beam v (foldl (meet beam dist near) (state-of capacity v n) (near s)) w′ n′ next′
+        → Stepped capacity beam w (expand beam dist near (state-of capacity w n) (cand w (2 * next))) w′ n′ next′
+    unfolding expand
+    expanded-by dist near {w′} g =
+        let z : 0 + 2 * next ≡ 2 * next = omega arith in
+        let i : s ≡ cand w (2 * next) .id = q ∙ rw z at p in
+        record {
+          holds = g .holds ∙ ap (λ (st : State). foldl (meet beam dist near) st (near s)) (rw m (marked-state f s 2 expands-inside))
+              ∙ ap (λ (x : ℕ). foldl (meet beam dist near) (record { list = cands w 0 n; marks = set (marks-of capacity w) x 2 }) (near x)) i;
+          goes = g .goes;
+          size = g .size ∙ rw m (put-mark-length w s 2);
+          same = outside-then 0 (work-at capacity) w v w′
+              (rw m (outside-wide marks-at capacity 0 (work-at capacity) w (put-mark w s 2) (outside-mark capacity w w s 2 expands-inside (outside-none marks-at capacity w)) (omega arith) (omega arith)))
+              (g .same);
+        }
 
 -- ---- the first that is not expanded
 unexpanded-skip : (marks : List ℕ) (xs ys : List Candidate) → All (λ c. getD marks (c .id) 0 ≡ 2) xs → unexpanded marks (xs ++ ys) ≡ unexpanded marks ys

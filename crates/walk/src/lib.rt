@@ -1,45 +1,149 @@
 // The walk over the graph, in lent words: `graph_search`, the same with some slots left out, and `search_pool`.
 mod words;
 
+use candidates::dist_at;
+use candidates::id_at;
+use distances::first_distance;
 use distances::query_distance;
+use distances::whole_distance;
 use slots::marks::is_valid;
 use slots::marks::wide;
 use slots::rows::Ref;
 use slots::rows::live_at;
-use slots::scratch::MARKS;
 use words::EXPANDED;
 use words::Held;
 use words::MET;
 ghost use mathlib.Core.Bool.{false};
 ghost use mathlib.Core.Path.{_≡_};
-ghost use Prim.Native.Nat.{max, _<_};
+ghost use mathlib.Core.List.{List};
+ghost use Prim.Native.Nat.{ℕ, _+_, _*_, max, _<_, _≤_};
 ghost use lib.ListN.{length};
 ghost use Rattle.lists.specs.Lists.{elem};
+ghost use Rattle.candidates.specs.contracts.Words.{cands};
+ghost use Rattle.slots.specs.Scratch.{work-at};
 ghost use Rattle.slots.specs.Store.{arrays};
-ghost use Rattle.walk.specs.contracts.Scratch.{near-of, near-but, meets, expands, takes-turns, Walkable, Stepped, Vectors, Lent, Ready, Found, Pool};
+ghost use Rattle.slots.specs.contracts.Rows.{RowShape};
+ghost use Rattle.walk.specs.contracts.Scratch.{near-of, near-but, mark-word, with-fresh, expands, takes-turns, Walkable, Fresh, UnmetAt, Added, Gathers, Stepped, Vectors, Lent, Ready, Found, Pool};
 
-// A neighbour is met: once, and then it may enter the list.
-fn meet(
+// How many places of a row are gathered at once, at most.
+const FRESH: usize = 64;
+
+// The reference at a place of slot `s`'s row, where it is live and leads to a slot that is not met. What is met needs no further test.
+fn unmet_at(
+    degree: usize,
+    targets: &[u32],
+    edges: &[u16],
+    versions: &[u16],
+    marks: &[u8],
+    s: usize,
+    place: usize,
+    scratch: &[u32],
+) -> Ref
+    requires { ⌜ RowShape degree (now targets) (now edges) (now versions) (now marks) ⌝ }
+    requires { ⌜ (s < length (now marks)) × (place < degree) × (work-at (length (now marks)) ≤ length (now scratch)) ⌝ }
+    ensures { λ r. ⌜ ((dim : ℕ) (vectors : List ℕ) → UnmetAt (arrays dim degree vectors (now (targets .entry)) (now (edges .entry)) (now (versions .entry)) (now (marks .entry))) s place (now (scratch .entry)) r) ⌝ }
+{
+    let t = targets[s * degree + place];
+    if words::is_unmet(scratch, marks.len(), t) {
+        return live_at(degree, targets, edges, versions, marks, s, place);
+    }
+    Ref::Dead
+}
+
+// Marks slot `id` as met and writes it behind the `n` candidates of `fresh`, at the distance of its first values.
+fn add(
+    dim: usize,
+    vectors: &[u8],
+    query: &[u8],
+    id: u32,
+    n: usize,
+    scratch: &mut [u32],
+    fresh: &mut [u32],
+)
+    requires { ⌜ (id * dim + dim ≤ length (now vectors)) × (length (now query) ≡ dim) × (dim ≤ 256) ⌝ }
+    requires { ⌜ (mark-word id < length (now scratch)) × (2 * n + 1 < length (now fresh)) ⌝ }
+    ensures { λ _. ⌜ Added dim (now (vectors .entry)) (now (query .entry)) id n (now (scratch .entry)) (now (fresh .entry)) (now (scratch .exit)) (now (fresh .exit)) ⌝ }
+{
+    let s = wide(id);
+    words::set_mark(scratch, s, MET);
+    let first = first_distance(dim, vectors, query, s);
+    candidates::put(fresh, 2 * n, first, id);
+}
+
+// Gathers the slots of slot `s`'s row that are live and not met, from place `from` up to `to`. Returns how many they are.
+fn gather(
+    dim: usize,
+    degree: usize,
+    vectors: &[u8],
+    targets: &[u32],
+    edges: &[u16],
+    versions: &[u16],
+    marks: &[u8],
+    query: &[u8],
+    s: usize,
+    from: usize,
+    to: usize,
+    scratch: &mut [u32],
+    fresh: &mut [u32],
+) -> usize
+    requires { ⌜ Lent (arrays dim degree (now vectors) (now targets) (now edges) (now versions) (now marks)) (now query) ⌝ }
+    requires { ⌜ (work-at (length (now marks)) ≤ length (now scratch)) × (length (now fresh) ≡ 128) ⌝ }
+    requires { ⌜ (s < length (now marks)) × (from ≤ to) × (to ≤ degree) × (to ≤ from + 64) ⌝ }
+    ensures { λ r. ⌜ Gathers (arrays dim degree (now (vectors .entry)) (now (targets .entry)) (now (edges .entry)) (now (versions .entry)) (now (marks .entry))) (now (query .entry)) s from to (now (scratch .entry)) (now (scratch .exit)) (now (fresh .exit)) r ⌝ }
+{
+    let mut n: usize = 0;
+    let mut place = from;
+    while place < to {
+        let r = unmet_at(degree, targets, edges, versions, marks, s, place, scratch);
+        match r {
+            Ref::At(t) => {
+                add(dim, vectors, query, t, n, scratch, fresh);
+                n += 1;
+            }
+            Ref::Dead => {}
+        }
+        place += 1;
+    }
+    n
+}
+
+// The `n` candidates of `fresh` enter the list, each at its whole distance.
+fn enter_all(
     dim: usize,
     vectors: &[u8],
     query: &[u8],
     capacity: usize,
     beam: usize,
     held: Held,
-    id: u32,
+    n: usize,
+    fresh: &[u32],
     scratch: &mut [u32],
 ) -> Held
-    requires { ⌜ Vectors dim capacity (now vectors) (now query) × Walkable capacity beam (now scratch) (held .count) (held .next) × (id < capacity) ⌝ }
-    ensures { λ r. ⌜ Stepped capacity beam (now (scratch .entry)) (meets dim (now (vectors .entry)) (now (query .entry)) capacity beam (now (scratch .entry)) (held .count) id) (now (scratch .exit)) (r .count) (r .next) ⌝ }
+    requires { ⌜ Vectors dim capacity (now vectors) (now query) × Walkable capacity beam (now scratch) (held .count) (held .next) ⌝ }
+    requires { ⌜ (2 * n ≤ length (now fresh)) × Fresh dim capacity (now vectors) (now query) (now scratch) (held .count) (cands (now fresh) 0 n) ⌝ }
+    ensures { λ r. ⌜ Stepped capacity beam (now (scratch .entry)) (with-fresh dim (now (vectors .entry)) (now (query .entry)) capacity beam (now (scratch .entry)) (held .count) (cands (now (fresh .entry)) 0 n)) (now (scratch .exit)) (r .count) (r .next) ⌝ }
 {
-    let s = wide(id);
-    let at = MARKS + s;
-    if scratch[at] != 0 {
-        return held;
+    let mut now = held;
+    let mut k: usize = 0;
+    while k < n {
+        let id = id_at(fresh, 0, k);
+        let dist = whole_distance(dim, vectors, query, wide(id), dist_at(fresh, 0, k));
+        now = words::enter(scratch, beam, now, dist, id);
+        k += 1;
     }
-    scratch[at] = MET;
-    let dist = query_distance(dim, vectors, query, s);
-    words::enter(scratch, beam, held, dist, id)
+    now
+}
+
+// Where a part of a row ends that begins at `place`: at most 64 places behind.
+fn part_end(degree: usize, place: usize) -> usize
+    requires { ⌜ place < degree ⌝ }
+    ensures { λ r. ⌜ (place < r) × (r ≤ degree) × (r ≤ place + 64) ⌝ }
+{
+    if degree - place < FRESH {
+        degree
+    } else {
+        place + FRESH
+    }
 }
 
 // Expands the candidate at `held.next`: its slot is marked, and its live neighbours are met in row order.
@@ -55,25 +159,46 @@ fn expand(
     beam: usize,
     held: Held,
     scratch: &mut [u32],
+    fresh: &mut [u32],
 ) -> Held
     requires { ⌜ Lent (arrays dim degree (now vectors) (now targets) (now edges) (now versions) (now marks)) (now query) ⌝ }
-    requires { ⌜ Walkable (length (now marks)) beam (now scratch) (held .count) (held .next) × (held .next < held .count) ⌝ }
+    requires { ⌜ Walkable (length (now marks)) beam (now scratch) (held .count) (held .next) × (held .next < held .count) × (length (now fresh) ≡ 128) ⌝ }
     ensures { λ r. ⌜ Stepped (length (now (marks .entry))) beam (now (scratch .entry)) (expands (arrays dim degree (now (vectors .entry)) (now (targets .entry)) (now (edges .entry)) (now (versions .entry)) (now (marks .entry))) (now (query .entry)) beam (now (scratch .entry)) (held .count) (held .next)) (now (scratch .exit)) (r .count) (r .next) ⌝ }
 {
     let i = held.next;
-    let s = wide(candidates::id_at(scratch, 0, i));
-    scratch[MARKS + s] = EXPANDED;
+    let s = wide(id_at(scratch, 0, i));
+    words::set_mark(scratch, s, EXPANDED);
     let mut now = held;
     let mut place: usize = 0;
     while place < degree {
-        let r = live_at(degree, targets, edges, versions, marks, s, place);
-        match r {
-            Ref::At(t) => {
-                now = meet(dim, vectors, query, marks.len(), beam, now, t, scratch);
-            }
-            Ref::Dead => {}
-        }
-        place += 1;
+        let to = part_end(degree, place);
+        let n = gather(
+            dim,
+            degree,
+            vectors,
+            targets,
+            edges,
+            versions,
+            marks,
+            query,
+            s,
+            place,
+            to,
+            scratch,
+            fresh,
+        );
+        now = enter_all(
+            dim,
+            vectors,
+            query,
+            marks.len(),
+            beam,
+            now,
+            n,
+            fresh,
+            scratch,
+        );
+        place = to;
     }
     now
 }
@@ -90,9 +215,10 @@ fn take_turns(
     query: &[u8],
     beam: usize,
     scratch: &mut [u32],
+    fresh: &mut [u32],
 ) -> usize
     requires { ⌜ Lent (arrays dim degree (now vectors) (now targets) (now edges) (now versions) (now marks)) (now query) ⌝ }
-    requires { ⌜ Walkable (length (now marks)) beam (now scratch) 1 0 ⌝ }
+    requires { ⌜ Walkable (length (now marks)) beam (now scratch) 1 0 × (length (now fresh) ≡ 128) ⌝ }
     ensures { λ r. ⌜ Stepped (length (now (marks .entry))) beam (now (scratch .entry)) (takes-turns (arrays dim degree (now (vectors .entry)) (now (targets .entry)) (now (edges .entry)) (now (versions .entry)) (now (marks .entry))) (now (query .entry)) beam (now (scratch .entry)) 1) (now (scratch .exit)) r 0 ⌝ }
 {
     let mut held = Held { count: 1, next: 0 };
@@ -114,6 +240,7 @@ fn take_turns(
             beam,
             held,
             scratch,
+            fresh,
         );
     }
     held.count
@@ -148,6 +275,7 @@ pub fn residual_search(
     let width = at_least_one(beam);
     let dist = query_distance(dim, vectors, query, wide(start));
     words::begin(scratch, marks.len(), ids, dist, start);
+    let mut fresh = [0u32; 128];
     take_turns(
         dim,
         degree,
@@ -159,6 +287,7 @@ pub fn residual_search(
         query,
         width,
         scratch,
+        &mut fresh,
     )
 }
 

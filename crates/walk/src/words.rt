@@ -12,7 +12,8 @@ ghost use lib.ListN.{length};
 ghost use Rattle.candidates.specs.contracts.Words.{pair, cand, cands};
 ghost use Rattle.walk.specs.Walk as Walk;
 ghost use Rattle.slots.specs.Scratch.{work-at};
-ghost use Rattle.walk.specs.contracts.Scratch.{Listed, Scannable, Entered, Unexpanded, Next, Cleared, LeftOut, Begun};
+ghost use Rattle.walk.specs.contracts.Scratch as Scratch;
+ghost use Rattle.walk.specs.contracts.Scratch.{mark-word, put-mark, unmet, Listed, Scannable, Entered, Unexpanded, Next, Cleared, LeftOut, Begun};
 
 pub const MET: u32 = 1;
 
@@ -22,6 +23,34 @@ pub const EXPANDED: u32 = 2;
 pub struct Held {
     pub count: usize,
     pub next: usize,
+}
+
+// The mark of slot `s`.
+fn mark(scratch: &[u32], s: usize) -> u32
+    requires { ⌜ mark-word s < length (now scratch) ⌝ }
+    ensures { λ r. ⌜ r ≡ Scratch.mark (now (scratch .entry)) s ⌝ }
+{
+    scratch[MARKS + s]
+}
+
+// Marks slot `s`.
+pub fn set_mark(scratch: &mut [u32], s: usize, v: u32)
+    requires { ⌜ mark-word s < length (now scratch) ⌝ }
+    ensures { λ _. ⌜ now (scratch .exit) ≡ put-mark (now (scratch .entry)) s v ⌝ }
+{
+    scratch[MARKS + s] = v;
+}
+
+// Whether slot `id` is inside and not met.
+pub fn is_unmet(scratch: &[u32], capacity: usize, id: u32) -> bool
+    requires { ⌜ work-at capacity ≤ length (now scratch) ⌝ }
+    ensures { λ r. ⌜ r ≡ unmet capacity (now (scratch .entry)) id ⌝ }
+{
+    let s = wide(id);
+    if s < capacity {
+        return mark(scratch, s) == 0;
+    }
+    false
 }
 
 // The lesser of two numbers.
@@ -52,7 +81,7 @@ fn leave_out(scratch: &mut [u32], capacity: usize, ids: &[u32])
     while i < ids.len() {
         let s = wide(ids[i]);
         if s < capacity {
-            scratch[MARKS + s] = MET;
+            set_mark(scratch, s, MET);
         }
         i += 1;
     }
@@ -65,7 +94,7 @@ pub fn begin(scratch: &mut [u32], capacity: usize, ids: &[u32], dist: u32, start
 {
     clear(scratch, capacity);
     leave_out(scratch, capacity, ids);
-    scratch[MARKS + wide(start)] = MET;
+    set_mark(scratch, wide(start), MET);
     put(scratch, 0, dist, start);
 }
 
@@ -77,7 +106,7 @@ fn unexpanded(scratch: &[u32], n: usize, from: usize) -> usize
     let mut i = from;
     while i < n {
         let s = wide(id_at(scratch, 0, i));
-        if scratch[MARKS + s] != EXPANDED {
+        if mark(scratch, s) != EXPANDED {
             return i;
         }
         i += 1;

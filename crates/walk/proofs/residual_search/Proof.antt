@@ -1,3 +1,4 @@
+use mathlib.Core.Path.{refl}
 use Rattle.walk.proofs.Seen.{dist-ready}
 use Rattle.walk.proofs.Found.{begun-goes, found-by}
 use borrow.Author.Needs.{needs}
@@ -11,25 +12,25 @@ start c = c .before .before .before .before .before .before .before .before .bef
 abbrev start₁ : tie.After-wide → tie.Start
 start₁ c = start (c .before)
 
-abbrev at-least-one₂ : tie.After-take-turns-arg → tie.After-at-least-one
-at-least-one₂ c = c .before .before .before .before .before .before .before
+abbrev at-least-one₂ : tie.After-fresh → tie.After-at-least-one
+at-least-one₂ c = c .before .before .before .before .before .before .before .before
 
-abbrev start₂ : tie.After-take-turns-arg → tie.Start
+abbrev start₂ : tie.After-fresh → tie.Start
 start₂ c = start (at-least-one₂ c)
 
-abbrev begin₃ : tie.After-slice-known3 → tie.After-begin
-begin₃ c = c .before .before .before .before .before .before
+abbrev begin₃ : tie.After-fresh2 → tie.After-begin
+begin₃ c = c .before .before .before .before .before .before .before .before
 
-abbrev query-distance₃ : tie.After-slice-known3 → tie.After-query-distance
+abbrev query-distance₃ : tie.After-fresh2 → tie.After-query-distance
 query-distance₃ c = begin₃ c .before .before
 
-abbrev wide₃ : tie.After-slice-known3 → tie.After-wide
+abbrev wide₃ : tie.After-fresh2 → tie.After-wide
 wide₃ c = query-distance₃ c .before
 
-abbrev at-least-one₃ : tie.After-slice-known3 → tie.After-at-least-one
+abbrev at-least-one₃ : tie.After-fresh2 → tie.After-at-least-one
 at-least-one₃ c = wide₃ c .before
 
-abbrev start₃ : tie.After-slice-known3 → tie.Start
+abbrev start₃ : tie.After-fresh2 → tie.Start
 start₃ c = start (at-least-one₃ c)
 
 at-least-one-requires : tie.Need-at-least-one-requires
@@ -44,8 +45,11 @@ query-distance-requires c κs = let p = (start₁ c) .pre .0 in dist-ready (p .l
 begin-requires : tie.Need-begin-requires
 begin-requires c κs = search needs
 
+slice-aggregate-take-turns : tie.Need-slice-aggregate-take-turns
+slice-aggregate-take-turns c = search needs
+
 take-turns-requires : tie.Need-take-turns-requires
-take-turns-requires c κs = let p = (start₂ c) .pre .0 in (p .lent, begun-goes p ((at-least-one₂ c) .at-least-one .ensures) (c .before .before .before .begin .ensures))
+take-turns-requires c κs = let p = (start₂ c) .pre .0 in (p .lent, (begun-goes p ((at-least-one₂ c) .at-least-one .ensures) (c .before .before .before .before .begin .ensures), refl))
 
 same-length : tie.Need-same-length
 same-length c = search needs
@@ -53,7 +57,7 @@ same-length c = search needs
 returns : tie.Need-returns
 returns c =
     let p = (start₃ c) .pre in
-    found-by _ (p .0) (p .1) ((at-least-one₃ c) .at-least-one .ensures) ((wide₃ c) .wide .ensures) ((query-distance₃ c) .query-distance .ensures .equals) ((begin₃ c) .begin .ensures) (c .before .before .take-turns .ensures)
+    found-by _ (p .0) (p .1) ((at-least-one₃ c) .at-least-one .ensures) ((wide₃ c) .wide .ensures) ((query-distance₃ c) .query-distance .ensures .equals) ((begin₃ c) .begin .ensures) (c .before .before .before .take-turns .ensures)
 
 pub residual-search-spec : {M : Type 1} → statement M
 residual-search-spec =
@@ -63,6 +67,7 @@ residual-search-spec =
     wide-requires
     query-distance-requires
     begin-requires
+    slice-aggregate-take-turns
     take-turns-requires
     same-length
     returns)

@@ -1,16 +1,20 @@
 -- The walk in lent words: what its functions ask of the words, and what they leave in them. The regions are those of `slots` (Scratch): the list, and a
 -- mark for each slot. Assumes nothing.
 use Prim.Native.Nat.{ℕ, _+_, _*_, max, _≤_, _<_}
-use mathlib.Core.Bool.{true, false, not}
+use mathlib.Core.Bool.{Bool, true, false, not, _&&_}
 use mathlib.Core.List.{List, [], _∷_}
 use mathlib.Core.Path.{_≡_}
 use lib.ListN.{length, take, drop, getD, set, replicate}
-use Rattle.lists.specs.Lists.{All, Ordered, filter, elem, foldl}
+use lib.Dec.{eqb, ltb}
+use Rattle.lists.specs.Lists.{All, Ordered, Pairwise, filter, elem, foldl}
 use Rattle.vectors.specs.Space.{query-distance, space}
-use Rattle.candidates.specs.Candidates.{Candidate, before}
-use Rattle.candidates.specs.contracts.Words.{pair, cand, cands, Small, Outside}
+use Rattle.distances.specs.contracts.Sums.{First}
+use Rattle.candidates.specs.Candidates.{Candidate, before, scored, ids}
+use Rattle.candidates.specs.contracts.Words.{pair, cand, cands, put, Small, Outside}
 use Rattle.slots.specs.Store.{Arrays, Store, is-valid, refs-of, store-view}
-use Rattle.slots.specs.contracts.Rows.{RowShape}
+use Rattle.slots.specs.contracts.Rows.{RowShape, ref-at, live-from}
+use Rattle.slots.specs.declared.rows.Ref.{Ref}
+use Rattle.slots.specs.declared.rows.Ref.the-variants.{At, Dead}
 use Rattle.walk.specs.Walk.{State, enter, ends, graph-search, search-pool}
 use Rattle.slots.specs.Scratch.{list-words, marks-at, work-at}
 use Rattle.walk.specs.Walk as Walk
@@ -24,9 +28,20 @@ unfoldable pub near-but : List ℕ → Arrays → ℕ → List ℕ
 near-but ids a s = filter (λ t. not (elem t ids)) (near-of a s)
 
 -- ---- the words
--- the mark of slot s
+-- the word that has the mark of slot s, and the mark
+abbrev pub mark-word : ℕ → ℕ
+mark-word s = marks-at + s
+
 abbrev pub mark : List ℕ → ℕ → ℕ
-mark w s = getD w (marks-at + s) 0
+mark w s = getD w (mark-word s) 0
+
+-- the words with the mark v for slot s
+abbrev pub put-mark : List ℕ → ℕ → ℕ → List ℕ
+put-mark w s v = set w (mark-word s) v
+
+-- whether slot s is inside and not met
+abbrev pub unmet : ℕ → List ℕ → ℕ → Bool
+unmet capacity w s = ltb s capacity && eqb (mark w s) 0
 
 -- the marks of all slots
 abbrev pub marks-of : ℕ → List ℕ → List ℕ
@@ -40,9 +55,14 @@ state-of capacity w n = record { list = cands w 0 n; marks = marks-of capacity w
 abbrev pub mark-all : List ℕ → List ℕ → List ℕ
 mark-all marks ids = foldl (λ m s. set m s 1) marks ids
 
--- what the definition makes of the state in the words: slot t is met, the candidate at place i is expanded, and all turns are taken
-abbrev pub meets : ℕ → List ℕ → List ℕ → ℕ → ℕ → List ℕ → ℕ → ℕ → State
-meets dim vectors query capacity beam w n t = Walk.meet beam (query-distance (space dim vectors) query) (λ _. []) (state-of capacity w n) t
+-- the state when the candidates xs have entered too, each at its own distance
+abbrev pub with-fresh : ℕ → List ℕ → List ℕ → ℕ → ℕ → List ℕ → ℕ → List Candidate → State
+with-fresh dim vectors query capacity beam w n xs =
+    record { list = foldl (enter beam) (cands w 0 n) (scored (query-distance (space dim vectors) query) (ids xs)); marks = marks-of capacity w }
+
+-- what the definition makes of the state in the words: slots are met, the candidate at place i is expanded, and all turns are taken
+abbrev pub meets : Arrays → List ℕ → ℕ → State → List ℕ → State
+meets a query beam st ts = foldl (Walk.meet beam (query-distance (space (a .dim) (a .vectors)) query) (near-of a)) st ts
 
 abbrev pub expands : Arrays → List ℕ → ℕ → List ℕ → ℕ → ℕ → State
 expands a query beam w n i = Walk.expand beam (query-distance (space (a .dim) (a .vectors)) query) (near-of a) (state-of (length (a .marks)) w n) (cand w (2 * i))
@@ -76,11 +96,45 @@ pub record Walkable (capacity beam : ℕ) (w : List ℕ) (n next : ℕ) : Type 0
 pub record Scannable (w : List ℕ) (n next : ℕ) : Type 0 where
   pub long : list-words ≤ length w
   pub most : n ≤ 1024
-  pub inside : All (λ c. marks-at + c .id < length w) (cands w 0 n)
+  pub inside : All (λ c. mark-word (c .id) < length w) (cands w 0 n)
   pub passed : next ≤ n
   pub done : All (λ c. mark w (c .id) ≡ 2) (cands w 0 next)
 
+-- fresh candidates xs, at the distances of their first values: their slots are inside and met, in the list of n is none of them, and each is there once
+pub record Fresh (dim capacity : ℕ) (vectors query w : List ℕ) (n : ℕ) (xs : List Candidate) : Type 0 where
+  pub inside : All (λ x. x .id < capacity) xs
+  pub met : All (λ x. mark w (x .id) ≡ 0 → ⊥) xs
+  pub apart : All (λ x. All (λ c. c .id ≡ x .id → ⊥) (cands w 0 n)) xs
+  pub once : Pairwise (λ x y. x .id ≡ y .id → ⊥) xs
+  pub first : All (λ x. First dim vectors query (x .id) (x .dist)) xs
+
 -- ---- what the functions leave
+-- the reference at a place of slot s's row, where it is live and leads to a slot that is not met
+pub record UnmetAt (a : Arrays) (s place : ℕ) (w : List ℕ) (r : Ref) : Type 0 where
+  pub found : (t : ℕ) → r ≡ At t → (At t ≡ ref-at a s place) × (mark w t ≡ 0)
+  pub none : r ≡ Dead → (t : ℕ) → At t ≡ ref-at a s place → mark w t ≡ 0 → ⊥
+
+-- slot id is met, and behind n candidates of f at the distance of its first values
+pub record Added (dim : ℕ) (vectors query : List ℕ) (id n : ℕ) (w f w′ f′ : List ℕ) : Type 0 where
+  pub dist : ℕ
+  pub first : First dim vectors query id dist
+  pub marks : w′ ≡ put-mark w id 1
+  pub list : f′ ≡ put f (2 * n) dist id
+
+-- of the slots ts those that were not met are the candidates xs, and are met; the slots us are still to be met
+pub record Gathered (a : Arrays) (query : List ℕ) (beam : ℕ) (w : List ℕ) (n next : ℕ) (ts us w′ : List ℕ) (xs : List Candidate) : Type 0 where
+  pub holds : meets a query beam (with-fresh (a .dim) (a .vectors) query (length (a .marks)) beam w′ n xs) us ≡ meets a query beam (state-of (length (a .marks)) w n) ts
+  pub goes : Walkable (length (a .marks)) beam w′ n next
+  pub fresh : Fresh (a .dim) (length (a .marks)) (a .vectors) query w′ n xs
+  pub same : Outside 0 (work-at (length (a .marks))) w w′
+
+-- so it is with the live targets of slot s's row, whatever the list: k of them are in f
+pub record Gathers (a : Arrays) (query : List ℕ) (s from to : ℕ) (w w′ f : List ℕ) (k : ℕ) : Type 0 where
+  pub few : from + k ≤ to
+  pub size : length w′ ≡ length w
+  pub each : (beam n next : ℕ) → Walkable (length (a .marks)) beam w n next
+      → Gathered a query beam w n next (live-from a s from) (live-from a s to) w′ (cands f 0 k)
+
 -- x enters the n candidates of w: n′ are there then; those of the first `next` that are still the first are the first next′
 pub record Entered (beam : ℕ) (w : List ℕ) (n next : ℕ) (x : Candidate) (w′ : List ℕ) (n′ next′ : ℕ) : Type 0 where
   pub list : cands w′ 0 n′ ≡ enter beam (cands w 0 n) x

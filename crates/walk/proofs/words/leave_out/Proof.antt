@@ -15,9 +15,6 @@ abbrev μ-loop : tie.MeasureT-loop
 μ-loop scratch₀ capacity ids i₀ scratch i = length ids - i
 
 -- places before the needs below, each named by what was done last there
-abbrev start₁ : tie.Then1 Inv-loop μ-loop → tie.Start Inv-loop μ-loop
-start₁ c = c .before .before .before .before .before .before .before
-
 abbrev start₂ : tie.Joined1 Inv-loop μ-loop → tie.Start Inv-loop μ-loop
 start₂ c = c .before .before .before .before .before .before .before
 
@@ -33,14 +30,8 @@ shared-slice-read-wide c = omega arith
 wide-requires : tie.Need-wide-requires Inv-loop μ-loop
 wide-requires c κs = search needs
 
-add-scratch : tie.Need-add-scratch Inv-loop μ-loop
-add-scratch c = omega arith
-
-mul-scratch : tie.Need-mul-scratch Inv-loop μ-loop
-mul-scratch c = omega (arith, (start₁ c) .good)
-
-slice-write-scratch : tie.Need-slice-write-scratch Inv-loop μ-loop
-slice-write-scratch c = omega (arith, c .before .before .before .before .loop .inv .1 .size)
+set-mark-requires : tie.Need-set-mark-requires Inv-loop μ-loop
+set-mark-requires c κs = omega (arith, c .before .if1 .taken, c .before .before .before .before .before .loop .inv .1 .size, c .before .before .before .before .before .before .before .before .pre)
 
 add-i : tie.Need-add-i Inv-loop μ-loop
 add-i c = omega arith
@@ -53,7 +44,7 @@ loop-again c =
     let l = c .before .before .before .before .loop .inv .1 in
     let h = c .before .before .before .loop-test .taken in
     ⊎-elim
-    (λ w. (omega arith, rw (w .1) (leaving-slot l h (c .before .wide .ensures) (w .0 .taken))))
+    (λ w. (omega arith, rw (w .5, w .2 .ensures) (leaving-slot l h (c .before .wide .ensures) (w .0 .taken))))
     (λ w. (omega arith, rw (w .1) (leaving-other l h (c .before .wide .ensures) ((start₂ c) .pre) (w .0 .left))))
     (c .if1 .came)
 
@@ -73,9 +64,7 @@ leave-out-spec =
     mul-wide
     shared-slice-read-wide
     wide-requires
-    add-scratch
-    mul-scratch
-    slice-write-scratch
+    set-mark-requires
     add-i
     loop-less
     loop-again

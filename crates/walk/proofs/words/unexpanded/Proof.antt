@@ -1,5 +1,5 @@
 -- The slots of the candidates before `i` are expanded.
-use Prim.Native.Nat.{_-_, _≤_, _+_, _<_}
+use Prim.Native.Nat.{_-_, _≤_, _<_}
 use mathlib.Core.Path.{_≡_}
 use lib.ListN.{length}
 use native.Mathlib.Omega.{arith}
@@ -7,10 +7,9 @@ use borrow.Author.Needs.{needs}
 use Rattle.lists.specs.Lists.{All}
 use Rattle.candidates.specs.contracts.Words.{cands}
 use Rattle.candidates.proofs.Words.{cands-each}
-use Rattle.walk.specs.contracts.Scratch.{mark}
+use Rattle.walk.specs.contracts.Scratch.{mark-word, mark}
 use Rattle.walk.proofs.Entering.{scan-more, scan-found, scan-none}
 use Rattle.walk.proofs.words.unexpanded.Statement.{statement}
-use Rattle.slots.specs.Scratch.{marks-at}
 use Rattle.walk.proofs.words.unexpanded.Tie as tie
 
 abbrev Inv-loop : tie.InvT-loop
@@ -18,10 +17,6 @@ Inv-loop scratch n from i₀ i = (i ≤ n) × All (λ c. mark scratch (c .id) �
 
 abbrev μ-loop : tie.MeasureT-loop
 μ-loop scratch n from i₀ i = n - i
-
--- places before the needs below, each named by what was done last there
-abbrev start₀ : tie.After-shared-slice-known2 Inv-loop μ-loop → tie.Start Inv-loop μ-loop
-start₀ c = c .before .before .before .before .before .before
 
 loop-holds : tie.Need-loop-holds Inv-loop μ-loop
 loop-holds c = (c .before .pre .passed, c .before .pre .done)
@@ -32,17 +27,11 @@ id-at-requires c κs = omega arith
 wide-requires : tie.Need-wide-requires Inv-loop μ-loop
 wide-requires c κs = search needs
 
-add-if1 : tie.Need-add-if1 Inv-loop μ-loop
-add-if1 c = omega (arith, c .before .id-at .ensures, cands-each (λ x. marks-at + x .id < length (c .before .before .before .before .before .args .scratch .now)) _ _ _ (c .before .before .before .before .before .pre .inside) (c .before .before .before .loop .i) (c .before .before .loop-test .taken), c .before .before .before .before .before .good)
-
-mul-if1 : tie.Need-mul-if1 Inv-loop μ-loop
-mul-if1 c = omega (arith, c .before .id-at .ensures, cands-each (λ x. marks-at + x .id < length (c .before .before .before .before .before .args .scratch .now)) _ _ _ (c .before .before .before .before .before .pre .inside) (c .before .before .before .loop .i) (c .before .before .loop-test .taken), c .before .before .before .before .before .good)
-
-shared-slice-read-if1 : tie.Need-shared-slice-read-if1 Inv-loop μ-loop
-shared-slice-read-if1 c = omega (arith, c .before .before .id-at .ensures, cands-each (λ x. marks-at + x .id < length ((start₀ c) .args .scratch .now)) _ _ _ ((start₀ c) .pre .inside) (c .before .before .before .before .loop .i) (c .before .before .before .loop-test .taken))
+mark-requires : tie.Need-mark-requires Inv-loop μ-loop
+mark-requires c κs = omega (arith, c .before .id-at .ensures, c .wide .ensures, cands-each (λ x. mark-word (x .id) < length (c .before .before .before .before .before .args .scratch .now)) _ _ _ (c .before .before .before .before .before .pre .inside) (c .before .before .before .loop .i) (c .before .before .loop-test .taken))
 
 returns : tie.Need-returns Inv-loop μ-loop
-returns c = scan-found _ _ (c .before .before .before .before .loop-test .taken) (c .before .before .before .id-at .ensures) (c .before .before .wide .ensures) (c .if1 .taken) (c .before .before .before .before .before .loop .inv .1)
+returns c = scan-found _ _ (c .before .before .before .before .loop-test .taken) (c .before .before .before .id-at .ensures) (c .before .before .wide .ensures) (c .before .mark .ensures) (c .if1 .taken) (c .before .before .before .before .before .loop .inv .1)
 
 add-i : tie.Need-add-i Inv-loop μ-loop
 add-i c = omega arith
@@ -51,7 +40,7 @@ loop-less : tie.Need-loop-less Inv-loop μ-loop
 loop-less c = omega arith
 
 loop-again : tie.Need-loop-again Inv-loop μ-loop
-loop-again c = (omega arith, scan-more _ _ (c .before .before .before .id-at .ensures) (c .before .before .wide .ensures) (c .if1 .left) (c .before .before .before .before .before .loop .inv .1))
+loop-again c = (omega arith, scan-more _ _ (c .before .before .before .id-at .ensures) (c .before .before .wide .ensures) (c .before .mark .ensures) (c .if1 .left) (c .before .before .before .before .before .loop .inv .1))
 
 returns-2 : tie.Need-returns-2 Inv-loop μ-loop
 returns-2 c = scan-none (c .loop-test .left) (c .before .loop .inv .0) (c .before .loop .inv .1)
@@ -65,9 +54,7 @@ unexpanded-spec =
     loop-holds
     id-at-requires
     wide-requires
-    add-if1
-    mul-if1
-    shared-slice-read-if1
+    mark-requires
     returns
     add-i
     loop-less
