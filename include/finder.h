@@ -246,7 +246,7 @@ uint32_t finder_assess(const uint32_t words[FINDER_INDEX_WORDS], FINDER_LENT, co
     uint32_t *checked, size_t checked_len, uint32_t *lost, size_t lost_len, uint32_t *scratch, size_t scratch_len, struct finder_report *report);
 
 /*
- * Deletes as finder_delete does, if the guard admits it, which report->admitted says: 0 where the delete is put off, and then words, slices and stats stay
+ * Deletes as finder_delete does, if the guard admits it, which report->admitted says: 0 where the delete is deferred, and then words, slices and stats stay
  * and *found is 0. The report is that of finder_assess, in both cases: the landmarks looked at are written to the front of checked, those lost to the front
  * of lost, and the numbers to *report. Where no live slot is named the delete is admitted, and empties none. The scratch is overwritten.
  * Refusals, in order: 1, 2, 3 (one of the six slices, fewer places in stats than ids, or a list that is too short), 6, 7, 8, 11.

@@ -209,15 +209,95 @@ static int delete(void)
     return 0;
 }
 
+/* What a guarded delete writes beside words and slices. */
+static struct finder_report *report;
+static struct finder_stats *stats;
+static uint32_t *checked;
+static uint32_t *lost;
+static uint32_t found;
+
+/* A guarded delete with repair beam 2 and repair degree 1, for a list of so many stats. */
+static uint32_t guarded_delete(const uint32_t *ids, size_t count, size_t room)
+{
+    uint32_t size = 0;
+    finder_scratch_words(DIM, CAPACITY, DEGREE, &size);
+    uint32_t *scratch = block(size * sizeof *scratch);
+    uint32_t refused = finder_guarded_delete(words, SLICES, ids, count, 2, 1, stats, room, checked, FINDER_MAX_LANDMARKS, lost, FINDER_MAX_LANDMARKS,
+        scratch, size, &found, report);
+    free(scratch);
+    return refused;
+}
+
+/* Slot 3, without which a walk from slot 0 meets no slot 2. No error: the report is written, and words, slices and stats stay. */
+static int deferred(void)
+{
+    static const uint32_t ids[1] = { 3 };
+    CHECK(guarded_delete(ids, 1, 1) == 0 && report->admitted == 0 && found == 0);
+    CHECK(report->requested == 1 && report->entry == 0 && report->checked == 2 && report->baseline == 2 && report->residual == 1);
+    CHECK(report->lost == 1 && report->supplemental == 0);
+    CHECK(checked[0] == 2 && checked[1] == 0 && checked[2] == 77 && lost[0] == 2 && lost[1] == 77 && stats[0].outgoing_seeds == 77);
+    CHECK(words[4] == 0 && words[5] == COUNT && marks[3] != 0 && versions[3] == 0);
+    printf("deleting slot 3: deferred, landmark %u would be lost\n", (unsigned)lost[0]);
+    return 0;
+}
+
+/* Slot 2, itself a landmark. The report and the stats are written, and words and slices are those that finder_delete leaves. */
+static int applied(void)
+{
+    static const uint32_t ids[3] = { 2, 9, 2 };
+    uint32_t n = 77;
+    CHECK(guarded_delete(ids, 3, 3) == 0 && report->admitted == 1 && found == 1);
+    CHECK(report->requested == 1 && report->entry == 0 && report->checked == 2 && report->baseline == 2 && report->residual == 2);
+    CHECK(report->lost == 0 && report->supplemental == 1 && checked[0] == 0 && checked[1] == 3 && checked[2] == 77 && lost[0] == 2);
+    CHECK(stats[0].outgoing_seeds == 1 && stats[0].recovered_in_neighbors == 1 && stats[0].repair_candidates == 1 && stats[0].repair_edges_attempted == 0);
+    CHECK(stats[1].outgoing_seeds == 77);
+    CHECK(finder_live(words, SLICES, &n) == 0 && n == COUNT - 1);
+    CHECK(finder_mark(words, SLICES, 2, &n) == 0 && n == 0);
+    CHECK(finder_slot_version(words, SLICES, 2, &n) == 0 && n == 1);
+    CHECK(finder_target(words, SLICES, 3, 0, &n) == 0 && n == 0);
+    CHECK(finder_target(words, SLICES, 3, 1, &n) == 0 && n == FINDER_BLANK);
+    printf("deleting slot 2: applied, %u of %u landmarks lost\n", (unsigned)report->lost, (unsigned)report->checked);
+    return 0;
+}
+
+/* The guard of before, on the index that is left: slots 0, 3 and 2 in a chain. */
+static int guarded(void)
+{
+    static const uint32_t ids[2] = { 0, 3 };
+    struct finder_guard_status status;
+    report = block(sizeof *report);
+    stats = block(3 * sizeof *stats);
+    checked = block(FINDER_MAX_LANDMARKS * sizeof *checked);
+    lost = block(FINDER_MAX_LANDMARKS * sizeof *lost);
+    found = 77;
+    for (int i = 0; i < 3; i++)
+        stats[i].outgoing_seeds = checked[i] = lost[i] = 77;
+    CHECK(guarded_delete(ids, 2, 1) == FINDER_BAD_LENGTH);
+    words[6] = 0;
+    CHECK(guarded_delete(ids, 2, 2) == FINDER_GUARD_OFF);
+    words[6] = 1;
+    CHECK(found == 77 && stats[0].outgoing_seeds == 77 && checked[0] == 77 && lost[0] == 77 && words[5] == COUNT);
+    if (deferred() || applied())
+        return 1;
+    CHECK(finder_guard_status(words, SLICES, &status) == 0 && status.enabled == 1 && status.pool_size == 2 && status.live_landmarks == 1);
+    CHECK(guarded_delete(ids, 0, 0) == 0 && found == 0 && report->admitted == 1 && report->requested == 0 && report->entry == FINDER_BLANK);
+    CHECK(guarded_delete(ids, 2, 2) == 0 && found == 0 && report->admitted == 0 && report->requested == 2 && report->entry == FINDER_BLANK);
+    free(report);
+    free(stats);
+    free(checked);
+    free(lost);
+    return 0;
+}
+
 static int refuse(void)
 {
     uint32_t n = 77;
     CHECK(finder_scratch_words(257, CAPACITY, DEGREE, &n) == FINDER_BAD_SIZES && n == 77);
     CHECK(make(0.5f) == FINDER_BAD_ALPHA && words[0] == DIM);
-    words[5] = 2;
+    words[5] = 3;
     CHECK(finder_dim(words, SLICES, &n) == FINDER_BAD_INDEX && n == 77);
-    CHECK(finder_vector(words, SLICES, 2) == 0);
-    printf("an index with a live count of 2 and three marks: refused with %d\n", FINDER_BAD_INDEX);
+    CHECK(finder_vector(words, SLICES, 3) == 0);
+    printf("an index with a live count of 3 and two marks: refused with %d\n", FINDER_BAD_INDEX);
     words[3] = 0x7fc00000u;
     CHECK(finder_dim(words, SLICES, &n) == FINDER_BAD_ALPHA && n == 77);
     return 0;
@@ -228,7 +308,7 @@ int main(void)
     lend();
     CHECK(make(3.0f) == FINDER_BAD_ALPHA);
     CHECK(make(1.0f) == 0);
-    int wrong = read_all() || search() || guard() || insert() || delete() || refuse();
+    int wrong = read_all() || search() || guard() || insert() || delete() || guarded() || refuse();
     take_back();
     return wrong;
 }

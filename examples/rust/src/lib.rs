@@ -124,6 +124,30 @@ pub struct Report {
     pub supplemental: u32,
 }
 
+impl Report {
+    fn of(words: raw::ReportWords, mut checked: Vec<u32>, mut lost: Vec<u32>) -> Report {
+        checked.truncate(words.checked as usize);
+        lost.truncate(words.lost as usize);
+        Report {
+            admitted: words.admitted != 0,
+            requested: words.requested,
+            entry: (words.entry != BLANK).then_some(words.entry),
+            checked,
+            baseline: words.baseline,
+            residual: words.residual,
+            lost,
+            supplemental: words.supplemental,
+        }
+    }
+}
+
+/// What became of a guarded delete: the counts of each slot that it emptied and the report that admits it, or the report that does not.
+#[derive(Clone, Debug, PartialEq, Eq)]
+pub enum GuardedDeleteResult {
+    Applied { stats: Vec<DeleteStats>, report: Report },
+    Deferred(Report),
+}
+
 /// An index and its memory.
 pub struct Finder {
     words: [u32; raw::INDEX_WORDS],
@@ -430,18 +454,56 @@ impl Finder {
             self.scratch.len(),
             &mut words
         ))?;
-        checked.truncate(words.checked as usize);
-        lost.truncate(words.lost as usize);
-        Ok(Report {
-            admitted: words.admitted != 0,
-            requested: words.requested,
-            entry: (words.entry != BLANK).then_some(words.entry),
-            checked,
-            baseline: words.baseline,
-            residual: words.residual,
-            lost,
-            supplemental: words.supplemental,
-        })
+        Ok(Report::of(words, checked, lost))
+    }
+
+    /// Deletes as `delete` does, if the guard admits it; a delete that is deferred leaves the index as it is, and is no error.
+    pub fn guarded_delete(&mut self, ids: &[u32], repair_beam: u32, repair_degree: u32) -> Result<GuardedDeleteResult, Error> {
+        let mut stats = vec![raw::StatsWords::default(); ids.len()];
+        let mut checked = vec![0; raw::MAX_LANDMARKS];
+        let mut lost = vec![0; raw::MAX_LANDMARKS];
+        let mut found = 0;
+        let mut words = raw::ReportWords::default();
+        // SAFETY: each pointer is that of a whole slice with its length, and what is written is borrowed by this call alone.
+        let status = unsafe {
+            raw::finder_guarded_delete(
+                &mut self.words,
+                self.vectors.as_ptr(),
+                self.vectors.len(),
+                self.targets.as_mut_ptr(),
+                self.targets.len(),
+                self.edges.as_mut_ptr(),
+                self.edges.len(),
+                self.versions.as_mut_ptr(),
+                self.versions.len(),
+                self.marks.as_mut_ptr(),
+                self.marks.len(),
+                self.pool.as_ptr(),
+                self.pool.len(),
+                ids.as_ptr(),
+                ids.len(),
+                repair_beam,
+                repair_degree,
+                stats.as_mut_ptr(),
+                stats.len(),
+                checked.as_mut_ptr(),
+                checked.len(),
+                lost.as_mut_ptr(),
+                lost.len(),
+                self.scratch.as_mut_ptr(),
+                self.scratch.len(),
+                &mut found,
+                &mut words,
+            )
+        };
+        Error::of(status)?;
+        let report = Report::of(words, checked, lost);
+        if !report.admitted {
+            return Ok(GuardedDeleteResult::Deferred(report));
+        }
+        stats.truncate(found as usize);
+        let stats = stats.into_iter().map(DeleteStats::of).collect();
+        Ok(GuardedDeleteResult::Applied { stats, report })
     }
 }
 
@@ -528,6 +590,29 @@ mod tests {
         let one = |count, marks| Finder::create(1, 4, 2, 1.0, 0, count, &[0][..marks], &[BLANK, BLANK][..2 * marks]).unwrap();
         assert_eq!(one(0, 0).enable_guard(2, 1, 4, 4), Err(Error::NoLive));
         assert_eq!(one(1, 1).enable_guard(2, 1, 4, 4), Err(Error::NoLandmark));
+    }
+
+    #[test]
+    fn guarded_deletes() {
+        let mut f = shelf();
+        assert_eq!(f.guarded_delete(&[1], 2, 1), Err(Error::GuardOff));
+        f.enable_guard(2, 0, 4, 4).unwrap();
+        assert_eq!(f.guarded_delete(&[1], 2, 17), Err(Error::Limit));
+        assert_eq!(f.guarded_delete(&[0; 257], 2, 1), Err(Error::Limit));
+        let lost =
+            Report { admitted: false, requested: 1, entry: Some(0), checked: vec![2, 0], baseline: 2, residual: 1, lost: vec![2], supplemental: 0 };
+        assert_eq!(f.guarded_delete(&[1, 1, 9], 2, 1), Ok(GuardedDeleteResult::Deferred(lost)));
+        assert_eq!((f.live(), f.entry(), f.mark(1), f.slot_version(1)), (Ok(3), Ok(1), Ok(true), Ok(0)));
+        let report = Report { admitted: true, requested: 1, entry: Some(1), checked: vec![0], baseline: 1, residual: 1, lost: vec![], supplemental: 0 };
+        let counts = DeleteStats { outgoing_seeds: 1, recovered_in_neighbors: 1, repair_candidates: 1, repair_edges_attempted: 0 };
+        assert_eq!(f.guarded_delete(&[2, 9, 2], 2, 1), Ok(GuardedDeleteResult::Applied { stats: vec![counts], report }));
+        assert_eq!((f.live(), f.entry(), f.mark(2), f.slot_version(2)), (Ok(2), Ok(1), Ok(false), Ok(1)));
+        assert_eq!((f.target(1, 0), f.target(1, 1)), (Ok(Some(0)), Ok(None)));
+        assert_eq!(f.guard_status().map(|s| (s.pool_size, s.live_landmarks)), Ok((2, 1)));
+        let none = |admitted, requested| Report { admitted, requested, entry: None, checked: vec![], baseline: 0, residual: 0, lost: vec![], supplemental: 0 };
+        assert_eq!(f.guarded_delete(&[2], 2, 1), Ok(GuardedDeleteResult::Applied { stats: vec![], report: none(true, 0) }));
+        assert_eq!(f.guarded_delete(&[0, 1], 2, 1), Ok(GuardedDeleteResult::Deferred(none(false, 2))));
+        assert_eq!(f.live(), Ok(2));
     }
 
     #[test]

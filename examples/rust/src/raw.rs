@@ -139,6 +139,36 @@ extern "C" {
         scratch_len: usize,
         status: *mut GuardStatusWords,
     ) -> u32;
+
+    pub fn finder_guarded_delete(
+        words: *mut IndexWords,
+        vectors: *const u8,
+        vectors_len: usize,
+        targets: *mut u32,
+        targets_len: usize,
+        edges: *mut u16,
+        edges_len: usize,
+        versions: *mut u16,
+        versions_len: usize,
+        marks: *mut u8,
+        marks_len: usize,
+        pool: *const u32,
+        pool_len: usize,
+        ids: *const u32,
+        ids_len: usize,
+        repair_beam: u32,
+        repair_degree: u32,
+        stats: *mut StatsWords,
+        stats_len: usize,
+        checked: *mut u32,
+        checked_len: usize,
+        lost: *mut u32,
+        lost_len: usize,
+        scratch: *mut u32,
+        scratch_len: usize,
+        found: *mut u32,
+        report: *mut ReportWords,
+    ) -> u32;
 }
 
 // Declares functions that take an index and its six slices first, and then what is named.
