@@ -2,8 +2,9 @@
 """Prints README's two reading tables, or with --check fails where README has other ones.
 
 The first has the definitions that the theorems for the three demands rest on. It begins with their statements and the `ensures` lines of the functions for
-C, and follows each name through the imports; so it is closed, and a definition reached in a file of no row fails. It does not follow the contracts that
-`Exported` takes as premises (USED_UP). The second has all other files of definitions. Lines without blank ones, comments and imports.
+C, and follows each name through the imports; so it is closed, and a definition reached in a file of no row fails. It does not follow a function's contract
+where the function's constructor of `Exported` has it as premise; a constructor that has another one, or belongs to no function, fails. The second table has
+all other files of definitions. Lines without blank ones, comments and imports.
 """
 import glob
 import os
@@ -19,10 +20,6 @@ STATEMENTS = [
     ("walk/specs/GreedySearch", "paper"), ("prune/specs/RobustPrune", "paper"),
     ("exported/specs/History", "Exported-history"),
 ]
-USED_UP = {
-    "Creates-words", "Reads-number", "Reads-alpha", "Reads-length", "Searches-words", "Inserts-words", "Deletes-words", "Enables-words", "Stands-words",
-    "Assesses-words", "Guards-words",
-}
 ROWS = [
     ("an index: sizes and limits, what it shows, how it is stored, the plain index", "slots/specs/Sizes slots/specs/View slots/specs/Ops slots/specs/Store slots/specs/Plain"),
     ("every call: arguments, when it is turned back, what it does and writes", "calls/specs/Calls calls/specs/State calls/specs/Refusals calls/specs/Step calls/specs/Outputs slots/specs/Scratch"),
@@ -101,16 +98,31 @@ class File:
                 yield self.aliases[found.group(1)], found.group(2)
 
 
-def promises():
-    """What the `ensures` lines of the functions for C name"""
+def functions():
+    """The functions for C: the name, what the `ensures` line says, and the names that it may use"""
     for path in glob.glob(CRATES + "/finder/src/*.rt"):
         with open(path) as text:
             source = text.read()
         file = File(os.devnull)
         for line in re.findall(r"^ghost use (.*);$", source, re.M):
             file.use(line)
-        for line in re.findall(r"#\[no_mangle\].*?ensures (\{.*?\})\n", source, re.S):
-            yield from file.follow(Definition([line]).words)
+        for name, promise in re.findall(r'#\[no_mangle\]\npub extern "C" fn (\w+)\(.*?ensures \{ λ r\. ⌜ (.*?) ⌝ \}\n', source, re.S):
+            yield name.replace("_", "-"), promise, file
+
+
+def used_up(exported):
+    """The contracts that the constructors of `Exported` have as premises, each that of its function"""
+    premises = dict(re.findall(r"^  (finder-[\w-]+) : (.*?)(?=^  finder-|\Z)", "\n".join(exported.lines), re.S | re.M))
+    contracts = set()
+    for name, promise, file in functions():
+        contract = promise.split()[0]
+        if name in premises:
+            if contract not in premises.pop(name).split():
+                sys.exit("%s has no premise %s" % (name, contract))
+            contracts.add(contract)
+    if premises:
+        sys.exit("no function: %s" % ", ".join(premises))
+    return contracts
 
 
 def declared(file, name):
@@ -126,10 +138,13 @@ def declared(file, name):
 def main():
     paths = glob.glob(CRATES + "/*/specs/**/*.antt", recursive=True)
     files = {os.path.relpath(p, CRATES)[:-5]: File(p) for p in paths if not p.endswith(("/Lib.antt", "/contracts.antt"))}
-    todo, seen, needed, structs = STATEMENTS + list(promises()), set(), {}, {}
+    skipped = used_up(files["exported/specs/Runs"].named["Exported"])
+    todo, seen, needed, structs = list(STATEMENTS), set(), {}, {}
+    for name, promise, file in functions():
+        todo += file.follow(Definition([promise]).words)
     while todo:
         file, name = todo.pop()
-        if (file, name) in seen or name in USED_UP:
+        if (file, name) in seen or name in skipped:
             continue
         seen.add((file, name))
         if "/declared/" in file:
