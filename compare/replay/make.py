@@ -45,7 +45,7 @@ class Oracle:
     def call(self, *words):
         if words[0] == "make":
             self.calls = []
-        self.calls.append(" ".join(str(w) for w in words))
+        self.calls.append(joined(*words))
 
     def answers(self, lines):
         """The output for these lines after the calls; for `dump` alone that is several lines."""
@@ -62,6 +62,23 @@ class Oracle:
 
 def numbers(text):
     return [] if text == "." else [int(x) for x in text.split(",")]
+
+
+def joined(*words):
+    return " ".join(str(w) for w in words)
+
+
+def stats_of(words):
+    """How many records the Rust's answer has, and their numbers."""
+    count, *records = words[words.index("stats") + 1:]
+    return [count] + [x for record in records for x in record.split(",")]
+
+
+def report_of(words):
+    """The eight numbers of the Rust's report, the landmarks checked and those lost."""
+    admitted, requested, entry, checked, baseline, residual, lost, supplemental = words[2:17:2]
+    checked, lost = numbers(checked), numbers(lost)
+    return [admitted, requested, BLANK if entry == "-" else entry, len(checked), baseline, residual, len(lost), supplemental] + checked + lost
 
 
 class Slot:
@@ -99,6 +116,10 @@ def alpha_bad(alpha):
     return not ONE <= alpha <= 2 * ONE
 
 
+def settings_over(settings):
+    return any(n > most for n, most in zip(settings, (64, 16, 65536, 1024)))
+
+
 def exact(dim, capacity, degree):
     rows = capacity * degree
     return [capacity * dim, rows, rows, capacity, capacity, POOL]
@@ -124,6 +145,10 @@ class Book:
 
     def __init__(self):
         self.sizes, self.alpha, self.entry, self.live, self.marked, self.lent = [0, 0, 0], 0, 0, 0, 0, [0] * 9
+        self.guard = None  # or its four settings and the length of its pool
+
+    def guard_fault(self):
+        return self.guard is not None and (0 in self.guard[:4] or settings_over(self.guard) or self.guard[4] > POOL)
 
     def refusal(self, wrong_length=False):
         if sizes_bad(*self.sizes):
@@ -132,7 +157,7 @@ class Book:
             return 2
         if self.lent[:6] != exact(*self.sizes) or wrong_length:
             return 3
-        if self.live != self.marked or self.entry >= self.sizes[1]:
+        if self.live != self.marked or self.entry >= self.sizes[1] or self.guard_fault():
             return 6
         return 0
 
@@ -161,6 +186,26 @@ class Book:
         if beam > 256 or degree > 16 or ids > 256:
             return 7
         return self.short_scratch()
+
+    def enable_refusal(self, settings):
+        if refused := self.refusal():
+            return refused
+        if settings_over(settings):
+            return 7
+        return self.short_scratch() or {0: 12, 1: 13}.get(self.live, 0)
+
+    def report_refusal(self, over, few_stats=False):
+        if refused := self.refusal(few_stats or self.lent[6] < 64 or self.lent[7] < 64):
+            return refused
+        if over:
+            return 7
+        return self.short_scratch() or (11 if self.guard is None else 0)
+
+    def assess_refusal(self, ids):
+        return self.report_refusal(ids > 256)
+
+    def guarded_refusal(self, beam, degree, ids):
+        return self.report_refusal(beam > 256 or degree > 16 or ids > 256, self.lent[6] < ids)
 
     def short_scratch(self):
         return 8 if self.lent[8] < scratch_words(self.sizes[1]) else 0
@@ -197,7 +242,7 @@ class List:
 
     def printed(self):
         """What `replay` must print."""
-        counts = [(kind, self.agreed[kind]) for kind in ("make", "read", "vector", "search", "words", "insert", "delete")]
+        counts = [(kind, self.agreed[kind]) for kind in ("make", "read", "vector", "search", "words", "insert", "delete", "enable", "status", "assess", "guarded")]
         counts += [("lines", self.lines), ("differences", len(self.wrong))]
         return ["differs %d" % n for n in self.wrong] + ["%s %d" % c for c in counts]
 
@@ -219,7 +264,7 @@ class List:
         self.put("make", *sizes, alpha, entry, count, refused)
         if not refused:
             b = self.book
-            b.sizes, b.alpha, b.entry, b.live, b.marked = list(sizes), alpha, entry, count, count
+            b.sizes, b.alpha, b.entry, b.live, b.marked, b.guard = list(sizes), alpha, entry, count, count, None
         return refused
 
     def set(self, field, value):
@@ -230,8 +275,12 @@ class List:
             b.alpha = value
         elif field == 4:
             b.entry = value
-        else:
+        elif field == 5:
             b.live = value
+        elif field == 6:
+            b.guard = None
+        elif b.guard:
+            b.guard[field - 7] = value
         self.put("set", field, value)
 
     def store(self, array, place, value):
@@ -275,21 +324,62 @@ class List:
         b.live, b.marked = b.live + len(vectors), b.marked + len(vectors)
         self.put("insert", beam, 0, *slots)
 
-    def delete(self, beam, degree, ids):
-        """Deletes these ids, on the Rust too where it is not refused."""
-        b = self.book
+    def name(self, ids):
+        """The ids of the call that comes next, whose line alone is made wrong."""
         change, self.change, self.rows = self.change, None, ids
         self.put("rows", len(ids), *[(i + 1) % 2**32 for i in ids])
         self.change = change
-        if refused := b.delete_refusal(beam, degree, len(ids)):
-            return self.put("delete", beam, degree, refused)
-        asked = " ".join(str(w) for w in ["delete", beam, degree] + ids)
-        answer, *head = self.oracle.answers([asked, "shelf"])
+
+    def emptied(self, asked):
+        """The Rust's answer to a call that empties slots, which is then performed."""
+        answer, head = self.oracle.answers([asked, "shelf"])[:2]
         self.oracle.call(asked)
-        stats = [x for record in answer.split()[2:] for x in record.split(",")]
-        entry, live = [int(x) for x in head[0].split()[1::2]]
-        b.entry, b.live, b.marked = entry, live, live
-        self.put("delete", beam, degree, 0, answer.split()[1], *stats)
+        entry, live = [int(x) for x in head.split()[1::2]]
+        self.book.entry, self.book.live, self.book.marked = entry, live, live
+        return answer.split()
+
+    def delete(self, beam, degree, ids):
+        """Deletes these ids, on the Rust too where it is not refused."""
+        self.name(ids)
+        if refused := self.book.delete_refusal(beam, degree, len(ids)):
+            return self.put("delete", beam, degree, refused)
+        answer = self.emptied(joined("delete", beam, degree, *ids))
+        self.put("delete", beam, degree, 0, *stats_of(answer))
+
+    def enable(self, *settings):
+        """Enables the guard, on the Rust too where it is not refused."""
+        if refused := self.book.enable_refusal(settings):
+            return self.put("enable", *settings, refused)
+        asked = joined("enable", *settings)
+        status, _, guard = [line.split() for line in self.oracle.answers([asked, "dump"])[:3]]
+        self.oracle.call(asked)
+        pool = numbers(guard[-1])
+        self.book.guard = [int(x) for x in guard[3:10:2]] + [len(pool)]
+        self.put("enable", *settings, 0, *status[2::2], *pool)
+
+    def disable(self):
+        """No call of the library: both sides' guards are turned off by hand."""
+        self.oracle.call("disable")
+        self.set(6, 0)
+
+    def status(self):
+        if refused := self.book.refusal():
+            return self.put("status", refused)
+        self.put("status", 0, *self.oracle.answers(["status"])[0].split()[2::2])
+
+    def assess(self, ids):
+        self.name(ids)
+        if refused := self.book.assess_refusal(len(ids)):
+            return self.put("assess", refused)
+        self.put("assess", 0, *report_of(self.oracle.answers([joined("assess", *ids)])[0].split()))
+
+    def guarded(self, beam, degree, ids):
+        """Deletes these ids if the guard admits it, on the Rust too where it is not refused."""
+        self.name(ids)
+        if refused := self.book.guarded_refusal(beam, degree, len(ids)):
+            return self.put("guarded", beam, degree, refused)
+        answer = self.emptied(joined("gdelete", beam, degree, *ids))
+        self.put("guarded", beam, degree, 0, *report_of(answer), *(stats_of(answer) if answer[0] == "applied" else []))
 
     def begin(self, sizes, alpha, entry, vectors, rows):
         """Makes an index of these vectors and rows, on the Rust too."""
@@ -380,6 +470,11 @@ class History:
     def insert_just(self, n, beam, reads):
         self.compared(lambda: self.out.insert(beam, [x for _ in range(n) for x in self.vector()]), reads)
 
+    def fill(self):
+        """Inserts, a few vectors at a time, until no slot is free: walks find more in such an index than in one that is made."""
+        while (free := self.sizes[1] - self.out.book.live) > 0:
+            self.out.insert(16, [x for _ in range(min(3, free)) for x in self.vector()])
+
     def compared(self, call, reads):
         before = self.oracle.dump()
         call()
@@ -392,6 +487,10 @@ class History:
     def delete(self, ids, reads=2):
         """Deletes, and readings of some slots whose rows that changed."""
         self.compared(lambda: self.out.delete(self.random.below(8), self.random.below(4), ids), reads)
+
+    def guarded(self, ids, reads=2):
+        """The same under the guard, which may defer it."""
+        self.compared(lambda: self.out.guarded(self.random.below(8), self.random.below(4), ids), reads)
 
     def some(self, n):
         return [self.random.below(self.sizes[1]) for _ in range(n)]
@@ -502,6 +601,66 @@ def largest(out):
             out.put_edge(out.random.below(8), degree - 1, slot, 0)
         out.put_edge(65535, 0, 7, 0)
         h.shown(30, 2, 12, (1, 4, 40, 200))
+
+
+def guarded_shelf(out):
+    """Document 01's small shelf under the guard: deleting slot 1 would lose slot 2, deleting slot 2 is admitted, deleting all that is left is not."""
+    out.begin([1, 4, 2], ONE, 1, [[0], [3], [10]], [[1, BLANK], [0, 2], [1, BLANK]])
+    out.status()
+    out.assess([1])
+    out.guarded(2, 1, [1])
+    out.enable(2, 0, 4, 4)
+    out.status()
+    out.assess([1, 1, 9])
+    for ids in ([1, 1, 9], [2, 9, 2], [2], [0, 1], []):
+        out.guarded(2, 1, ids)
+        out.status()
+        dump = out.oracle.dump()
+        out.read(4, 0, 0, dump.entry)
+        for slot in range(4):
+            out.read_slot(dump, slot)
+
+
+def guards(out):
+    """Settings of 0 and up; a guard that is on enabled anew; pools whose landmarks are deleted; ids that repeat, are dead or outside."""
+    r = out.random
+    for dim, capacity, degree, values, given in ((1, 5, 1, 4, 5), (1, 14, 2, 40, 1), (2, 40, 3, 6, 40), (2, 40, 3, 256, 1), (3, 90, 6, 256, 1)):
+        h = History(out, dim, capacity, degree, r.pick([ONE, ONE * 5 // 4]), values)
+        h.make(given)
+        h.fill()
+        for _ in range(5):
+            if out.book.live > 1:
+                out.enable(r.pick([0, 1, 3, 6, 9]), r.pick([0, 1, 2, 4]), r.pick([0, 1, capacity // 3, capacity, 65536]), r.pick([0, 3, 6, 12, 24, 64]))
+            for ids in ([], [out.book.entry], h.some(1), h.some(3) + [capacity, BLANK]):
+                out.assess(ids)
+                h.guarded(ids, 1)
+            h.guarded(h.some(capacity // 4), 1)
+            out.status()
+            h.insert(capacity // 3, 0)
+            h.delete(h.some(2), 0)
+            out.status()
+            out.assess(h.some(2))
+            h.guarded(h.some(2) * 2)
+        h.shown(4, 1)
+        out.assess(list(range(capacity)))
+        h.guarded(list(range(capacity)), 0)
+
+
+def wide_guards(out):
+    """The largest settings: a pool of 1,024 and 64 landmarks checked; and capacity 65,536, with a sample that is too small and one that is not."""
+    h = History(out, 1, 1100, 2, ONE, 256)
+    h.make(1040)
+    out.enable(64, 16, 65536, 1024)
+    h.guarded(h.some(1), 0)
+    out.enable(64, 1, 1, 24)
+    for n in (2, 256):
+        h.guarded(h.some(n), 0)
+    h = History(out, 2, 65536, 2, ONE, 9)
+    h.make(90)
+    for sample in (4, 32768, 65536):
+        out.enable(5, 4, sample, 12)
+        out.assess(h.some(1) + [7, 8])
+        h.guarded(h.some(1) + [out.random.below(90) for _ in range(3)], 1)
 
 
 def refused_makings(out):
@@ -681,6 +840,62 @@ def refused_deletes(out):
         out.read(5, 0, 0, book.live)
 
 
+def refused_guards(out):
+    """The guard's calls on an index that was altered, that is lent too much or too little, whose guard is off, and with arguments over their limits."""
+    h = History(out, 2, 9, 2, ONE, 5)
+    h.make(7)
+    out.enable(2, 2, 9, 4)
+    h.shown(2, 1)
+    book = out.book
+
+    def attempts():
+        out.status()
+        out.enable(65, 2, 9, 4)
+        out.assess([1])
+        out.guarded(257, 1, [1, 2])
+
+    settings = ((7, (0, 65)), (8, (0, 17)), (9, (0, 65537)), (10, (0, 1025)), (11, (1025, BLANK)))
+    for field, values in ((0, (0, 257, 3)), (1, (0, 65537, 10)), (2, (0, 65, 3)), (3, (0, NAN)), (4, (9, BLANK)), (5, (6, 8))) + settings:
+        kept = (book.sizes + [book.alpha, book.entry, book.live, 0] + book.guard)[field]
+        for value in values:
+            out.set(field, value)
+            attempts()
+            out.read(5, 0, 0, book.live)
+        out.set(field, kept)
+        attempts()
+    fit = exact(*book.sizes) + [64, 64, scratch_words(book.sizes[1])]
+    for i in range(9):
+        out.lend(*[n - (j == i) for j, n in enumerate(fit)])
+        attempts()
+        out.enable(64, 16, 65536, 1024)
+        out.assess([])
+        out.guarded(256, 16, [20] * 64)
+    out.lend(*fit)
+    out.guarded(1, 1, [20] * 65)
+    out.lend_for(book.sizes)
+    for over in ((65, 1, 1, 1), (1, 17, 1, 1), (1, 1, 65537, 1), (1, 1, 1, 1025), (BLANK,) * 4, (0, 0, 0, 0), (64, 16, 65536, 1024)):
+        out.enable(*over)
+        out.status()
+    for beam, degree, ids in ((257, 16, []), (256, 17, []), (256, 16, [9] * 257), (256, 16, [9] * 256), (0, 0, [3, 3])):
+        out.guarded(beam, degree, ids)
+        out.assess(ids)
+        out.read(5, 0, 0, book.live)
+    out.disable()
+    attempts()
+    for lent in ([63, 64, 0], [64, 63, 0], [64, 64, 0], [64, 64, scratch_words(9)]):
+        out.lend(*exact(*book.sizes), *lent)
+        out.assess([1])
+        out.guarded(256, 16, [1])
+        out.status()
+    for count in (0, 1, 2):
+        h.make(count)
+        for words in (0, scratch_words(9)):
+            out.lend_for(book.sizes, words=words)
+            out.enable(1, 1, 9, 1025)
+            out.enable(1, 1, 9, 1)
+            out.status()
+
+
 def size_answers(out):
     for sizes in ([1, 1, 1], [256, 65536, 64], [3, 100, 7], [0, 1, 1], [257, 1, 1], [1, 0, 1], [1, 65537, 1], [1, 1, 0], [1, 1, 65], [BLANK] * 3):
         refused = sizes_bad(*sizes)
@@ -769,6 +984,9 @@ def wrong_answers(out):
     out.search(5, 1025, vector)
     wrong_inserts(out)
     wrong_deletes(out)
+    wrong_enables(out)
+    wrong_statuses(out)
+    wrong_reports(out)
     for what, words in (("no word", ["", "1"]), ("another word", ["reads", "5"]), ("no number", ["read", "x"]), ("a field that is not there", ["set", "0"])):
         out.spoil(what, lambda w, words=words: words)
         out.put("read", 5, 0, 0, 0, book.live)
@@ -815,11 +1033,99 @@ def wrong_deletes(out):
         out.delete(257, 2, ids)
 
 
+NUMBERS = ("admitted", "requested", "entry", "checked", "baseline", "residual", "lost", "supplemental")
+
+
+def wrong_refusals(out, what, place, carried, call):
+    """A refused call's line, whose refusal stands at this place, made wrong; `carried` is what would follow a 0 there."""
+    changes = (("refused, not carried out", lambda w: w[:place] + ["0"] + carried), ("refused with another number", other(place)), ("refused, a number more", lambda w: w + ["0"]))
+    for how, change in changes:
+        out.spoil("%s, %s" % (what, how), change)
+        call()
+
+
+def carried_out(place, number):
+    """Changes of a line that is carried out, its 0 at this place, into one that is refused: alone, and with its answer."""
+    return [("carried out, not refused", lambda w: w[:place] + [str(number)]), ("carried out, not refused, with its answer", other(place, number))]
+
+
+def wrong_enables(out):
+    h = History(out, 2, 30, 3, ONE, 9)
+    h.make(24)
+    at = 6  # the first number of the status; the pool begins five after
+    wrong = [("number %d of the status" % i, other(at + i)) for i in range(5)]
+    wrong += [("first landmark", other(at + 5)), ("last landmark", other(-1)), ("landmarks exchanged", exchanged(at + 5, at + 6)), ("a number more", lambda w: w + ["0"])]
+    wrong += [("a number missing", lambda w: w[:-1]), ("a smaller pool", lambda w: w[:at + 1] + [str(int(w[at + 1]) - 1)] + w[at + 2:-1]), ("no pool", lambda w: w[:at + 5])]
+    for k, (what, change) in enumerate(wrong + carried_out(5, 12)):
+        out.spoil("enable, " + what, change)
+        out.enable(1 + k % 5, 2, 30, 3 + k)
+        out.status()
+    wrong_refusals(out, "enable", 5, ["0"] * 5, lambda: out.enable(65, 2, 30, 3))
+
+
+def wrong_statuses(out):
+    """On the index and the guard of before."""
+    wrong = [("number %d" % i, other(2 + i)) for i in range(5)] + [("a number more", lambda w: w + ["0"]), ("a number missing", lambda w: w[:-1])]
+    for what, change in wrong + carried_out(1, 6):
+        out.spoil("status, " + what, change)
+        out.status()
+    live = out.book.live
+    out.set(5, live + 1)
+    wrong_refusals(out, "status", 1, ["0"] * 5, out.status)
+    out.set(5, live)
+
+
+def drawn(h, asked, wanted):
+    """Ids, drawn until the Rust's answer is as wanted."""
+    for _ in range(2000):
+        ids = h.some(1 + h.random.below(6))
+        if wanted(h.oracle.answers([joined(asked, *ids)])[0].split()):
+            return ids
+    sys.exit("no such answer of the Rust to " + asked)
+
+
+def wrong_reports(out):
+    """Assessments, guarded deletes that are deferred, and such that are applied."""
+    h = History(out, 1, 40, 2, ONE, 256)
+    h.make(1)
+    h.fill()
+    out.enable(8, 3, 40, 6)
+
+    def two_lost(answer):
+        report = report_of(answer)
+        return report[6] == 2 and report[3] > 2
+
+    def report_wrong(at):
+        wrong = [("number " + name, other(at + i)) for i, name in enumerate(NUMBERS)] + [("first checked", other(at + 8))]
+        return wrong + [("checked exchanged", exchanged(at + 8, at + 9)), ("a number more", lambda w: w + ["0"]), ("a number missing", lambda w: w[:-1])]
+
+    lists_wrong = [("last checked", other(-3)), ("first lost", other(-2)), ("last lost", other(-1)), ("lost exchanged", exchanged(-2, -1))]
+    for what, change in report_wrong(2) + lists_wrong + carried_out(1, 11):
+        out.spoil("assess, " + what, change)
+        out.assess(drawn(h, "assess", two_lost))
+    wrong_refusals(out, "assess", 1, ["0"] * 8, lambda: out.assess([0] * 257))
+    applied_not = [("applied, not deferred", lambda w: w + ["0"]), ("applied with a record, not deferred", lambda w: w + ["1"] + ["0"] * 4)]
+    for what, change in report_wrong(4) + lists_wrong + applied_not + carried_out(3, 11):
+        out.spoil("guarded, deferred, " + what, change)
+        out.guarded(8, 2, drawn(h, "gdelete 8 2", two_lost))
+        out.read(5, 0, 0, out.book.live)
+    applied = report_wrong(4) + [("last checked", other(-10)), ("count of records", other(-9))]
+    applied += [("count %d of the first record" % i, other(-8 + i)) for i in range(4)] + [("last count", other(-1)), ("records exchanged", lambda w: w[:-8] + w[-4:] + w[-8:-4])]
+    applied += [("deferred, not applied", lambda w: w[:-9]), ("one record fewer", lambda w: w[:-9] + ["1"] + w[-8:-4]), ("one record more", lambda w: w[:-9] + ["3"] + w[-8:] + ["0"] * 4)]
+    for what, change in applied + carried_out(3, 11):
+        ids = drawn(h, "gdelete 8 2", lambda answer: answer[0] == "applied" and len(set(answer[19:])) == 2 == int(answer[18]))
+        out.spoil("guarded, applied, " + what, change)
+        out.guarded(8, 2, ids)
+        out.read(5, 0, 0, out.book.live)
+        h.fill()
+    wrong_refusals(out, "guarded", 3, ["0"] * 8, lambda: out.guarded(257, 2, [0]))
+
+
 def main():
     oracle = Oracle(sys.argv[1])
     out = List(oracle, Random(SEED))
     out.note("made by compare/replay/make.py, seed %d" % SEED)
-    parts = (size_answers, refused_makings, refused_calls, refused_inserts, refused_deletes, small_shelf, small, medium, chunks, deletes, dead_entries, wide, many, largest, wrong_answers)
+    parts = (size_answers, refused_makings, refused_calls, refused_inserts, refused_deletes, small_shelf, small, medium, chunks, deletes, dead_entries, wide, many, largest, refused_guards, guarded_shelf, guards, wide_guards, wrong_answers)
     for part in parts:
         out.note(part.__name__)
         part(out)

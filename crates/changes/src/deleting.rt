@@ -1,5 +1,4 @@
 // Lines `delete`.
-use super::same::same_words;
 use deletion::stats_place;
 use lines::kinds::DELETE;
 use lines::prepare::GIVEN_ROWS;
@@ -11,6 +10,7 @@ use text::Number;
 use text::after;
 use text::ends;
 use text::first;
+use text::same_words;
 use updating::Deleted;
 
 // How many words the stats of n slots have.
@@ -18,13 +18,11 @@ fn stats_words(n: u32) -> usize {
     n as usize * 4
 }
 
-// Whether a delete that emptied n slots was carried out as stored.
-fn same_emptied(line: &[u8], refusal: Number, n: u32, capacity: u32, scratch: &[u32]) -> bool {
-    let count = after(line, refusal);
+// Whether the rest of a line has the number n of the slots that a delete emptied and their stats, which it left in the scratch.
+pub fn same_emptied(line: &[u8], before: Number, n: u32, capacity: u32, scratch: &[u32]) -> bool {
+    let count = after(line, before);
     let at = least(stats_place(capacity), scratch.len());
-    refusal.value == 0
-        && n == count.value
-        && same_words(line, count, stats_words(n), &scratch[at..])
+    n == count.value && same_words(line, count, stats_words(n), &scratch[at..])
 }
 
 // The step after a delete: the index without what was deleted, or the former one where it was refused.
@@ -40,7 +38,8 @@ fn after_delete(
         Deleted::Refused(r) => new.good = r == refusal.value && ends(line, refusal),
         Deleted::Done(index, n) => {
             new.index = index;
-            new.good = same_emptied(line, refusal, n, index.capacity, scratch);
+            new.good = refusal.value == 0
+                && same_emptied(line, refusal, n, index.capacity, scratch);
         }
     }
     new

@@ -1,5 +1,4 @@
 // Lines `insert`.
-use super::same::same_words;
 use lines::kinds::INSERT;
 use lines::prepare::GIVEN;
 use lines::prepare::Step;
@@ -10,6 +9,7 @@ use text::Number;
 use text::after;
 use text::ends;
 use text::first;
+use text::same_words;
 use updating::Inserted;
 
 // Whether an insert of n vectors was carried out as stored.

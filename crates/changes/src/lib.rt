@@ -2,8 +2,8 @@
 mod deleting;
 mod inserting;
 mod making;
-mod same;
 
 pub use deleting::delete;
+pub use deleting::same_emptied;
 pub use inserting::insert;
 pub use making::make;

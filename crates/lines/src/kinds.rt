@@ -23,12 +23,20 @@ pub const INSERT: usize = 10;
 
 pub const DELETE: usize = 11;
 
-pub const NOTE: usize = 12;
+pub const ENABLE: usize = 12;
 
-pub const MALFORMED: usize = 13;
+pub const STATUS: usize = 13;
 
-pub const DIFFERENCES: usize = 14;
+pub const ASSESS: usize = 14;
 
-pub const LINES: usize = 15;
+pub const GUARDED: usize = 15;
 
-pub const KINDS: usize = 16;
+pub const NOTE: usize = 16;
+
+pub const MALFORMED: usize = 17;
+
+pub const DIFFERENCES: usize = 18;
+
+pub const LINES: usize = 19;
+
+pub const KINDS: usize = 20;

@@ -6,7 +6,9 @@ use super::kinds::ROWS;
 use super::kinds::SET;
 use super::kinds::STORE;
 use super::words::Word;
+use index::Guard;
 use index::Index;
+use index::Settings;
 use text::Number;
 use text::after;
 use text::ends;
@@ -164,6 +166,43 @@ pub fn alpha_of(n: u32) -> f32 {
     std::num::nearest_u32_to_f32(n) / 16777216.0
 }
 
+// Alters one setting of the guard, or the length of its pool.
+fn altered_settings(settings: Settings, field: u32, value: u32) -> Settings {
+    let mut new = settings;
+    match field {
+        7 => new.count = value,
+        8 => new.multiplier = value,
+        9 => new.sample = value,
+        10 => new.beam = value,
+        _ => new.pool = value,
+    }
+    new
+}
+
+// Alters the guard: field 6 turns it off, and the others change nothing where it is off.
+fn altered_guard(guard: Guard, field: u32, value: u32) -> Guard {
+    let Guard::On(settings) = guard else {
+        return Guard::Off;
+    };
+    if field == 6 {
+        return Guard::Off;
+    }
+    Guard::On(altered_settings(settings, field, value))
+}
+
+// An index with another guard.
+fn with_guard(index: Index, guard: Guard) -> Index {
+    Index {
+        dim: index.dim,
+        capacity: index.capacity,
+        degree: index.degree,
+        alpha: index.alpha,
+        entry: index.entry,
+        live: index.live,
+        guard,
+    }
+}
+
 // Alters one field of the index.
 fn altered(index: Index, field: u32, value: u32) -> Index {
     let mut new = index;
@@ -173,7 +212,11 @@ fn altered(index: Index, field: u32, value: u32) -> Index {
         2 => new.degree = value,
         3 => new.alpha = alpha_of(value),
         4 => new.entry = value,
-        _ => new.live = value,
+        5 => new.live = value,
+        _ => {
+            let guard = index.guard;
+            return with_guard(index, altered_guard(guard, field, value));
+        }
     }
     new
 }
@@ -186,7 +229,7 @@ fn set(line: &[u8], end: usize, step: Step) -> Step {
     Step {
         index: altered(step.index, field.value, value.value),
         lent,
-        good: ends(line, value) && field.value <= 5,
+        good: ends(line, value) && field.value <= 11,
     }
 }
 

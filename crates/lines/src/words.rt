@@ -1,6 +1,9 @@
 // The word that a line begins with.
+use super::kinds::ASSESS;
 use super::kinds::DELETE;
+use super::kinds::ENABLE;
 use super::kinds::GIVE;
+use super::kinds::GUARDED;
 use super::kinds::INSERT;
 use super::kinds::LEND;
 use super::kinds::MAKE;
@@ -10,6 +13,7 @@ use super::kinds::READ;
 use super::kinds::ROWS;
 use super::kinds::SEARCH;
 use super::kinds::SET;
+use super::kinds::STATUS;
 use super::kinds::STORE;
 use super::kinds::VECTOR;
 use super::kinds::WORDS;
@@ -64,6 +68,35 @@ fn preparing(line: &[u8]) -> Word {
     }
 }
 
+// The word of a line of the guard.
+fn guarding(line: &[u8]) -> Word {
+    if begins(line, b"enable ") {
+        return Word {
+            kind: ENABLE,
+            end: 6,
+        };
+    }
+    if begins(line, b"status ") {
+        return Word {
+            kind: STATUS,
+            end: 6,
+        };
+    }
+    if begins(line, b"assess ") {
+        return Word {
+            kind: ASSESS,
+            end: 6,
+        };
+    }
+    if begins(line, b"guarded ") {
+        return Word {
+            kind: GUARDED,
+            end: 7,
+        };
+    }
+    preparing(line)
+}
+
 // The word of a line that makes or changes an index.
 fn changing(line: &[u8]) -> Word {
     if begins(line, b"make ") {
@@ -81,7 +114,7 @@ fn changing(line: &[u8]) -> Word {
             end: 6,
         };
     }
-    preparing(line)
+    guarding(line)
 }
 
 // The word of any line.

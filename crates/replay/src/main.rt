@@ -6,8 +6,11 @@ mod compare;
 
 use index::Guard;
 use index::Index;
+use lines::kinds::ASSESS;
 use lines::kinds::DELETE;
 use lines::kinds::DIFFERENCES;
+use lines::kinds::ENABLE;
+use lines::kinds::GUARDED;
 use lines::kinds::INSERT;
 use lines::kinds::KINDS;
 use lines::kinds::LINES;
@@ -15,6 +18,7 @@ use lines::kinds::MAKE;
 use lines::kinds::NOTE;
 use lines::kinds::READ;
 use lines::kinds::SEARCH;
+use lines::kinds::STATUS;
 use lines::kinds::VECTOR;
 use lines::kinds::WORDS;
 use lines::prepare::Lent;
@@ -25,7 +29,7 @@ ghost use lib.ListN.{length};
 
 // How many lines there were of each kind.
 struct Counts {
-    of: [u64; 16],
+    of: [u64; 20],
 }
 
 // Prints one count with its name.
@@ -80,8 +84,8 @@ fn nothing() -> Step {
     }
 }
 
-// Performs a line: each function passes on a step whose line is not its own.
-fn perform(
+// Performs a line that prepares a call.
+fn prepare(
     line: &[u8],
     word: Word,
     step: Step,
@@ -92,16 +96,31 @@ fn perform(
     edges: &mut [u16; 131072],
     versions: &mut [u16; 65536],
     marks: &mut [u8; 65536],
-    pool: &mut [u32; 1024],
-    scratch: &mut [u32; 235520],
 ) -> Step {
     let mut new = lines::prepare::set_or_lend(line, word, step);
     new = lines::prepare::give(line, word, new, given, rows);
-    new = lines::prepare::store(line, word, new, vectors, targets, edges, versions, marks);
-    new = changes::make(
+    lines::prepare::store(line, word, new, vectors, targets, edges, versions, marks)
+}
+
+// Performs a line that makes or changes an index.
+fn change(
+    line: &[u8],
+    word: Word,
+    step: Step,
+    given: &[u8; 262144],
+    rows: &[u32; 131072],
+    vectors: &mut [u8; 262144],
+    targets: &mut [u32; 131072],
+    edges: &mut [u16; 131072],
+    versions: &mut [u16; 65536],
+    marks: &mut [u8; 65536],
+    pool: &mut [u32; 1024],
+    scratch: &mut [u32; 235520],
+) -> Step {
+    let mut new = changes::make(
         line,
         word,
-        new,
+        step,
         given,
         rows,
         vectors,
@@ -124,7 +143,63 @@ fn perform(
         pool,
         scratch,
     );
-    new = changes::delete(
+    changes::delete(
+        line,
+        word,
+        new,
+        rows,
+        vectors,
+        targets,
+        edges,
+        versions,
+        marks,
+        pool,
+        scratch,
+    )
+}
+
+// Performs a line: each function passes on a step whose line is not its own.
+fn perform(
+    line: &[u8],
+    word: Word,
+    step: Step,
+    given: &mut [u8; 262144],
+    rows: &mut [u32; 131072],
+    vectors: &mut [u8; 262144],
+    targets: &mut [u32; 131072],
+    edges: &mut [u16; 131072],
+    versions: &mut [u16; 65536],
+    marks: &mut [u8; 65536],
+    pool: &mut [u32; 1024],
+    scratch: &mut [u32; 235520],
+) -> Step {
+    let mut new = prepare(
+        line,
+        word,
+        step,
+        given,
+        rows,
+        vectors,
+        targets,
+        edges,
+        versions,
+        marks,
+    );
+    new = change(
+        line,
+        word,
+        new,
+        given,
+        rows,
+        vectors,
+        targets,
+        edges,
+        versions,
+        marks,
+        pool,
+        scratch,
+    );
+    new = guards::perform(
         line,
         word,
         new,
@@ -167,7 +242,7 @@ fn replay(
 ) -> Counts
     requires { ⌜ n ≤ length (now list) ⌝ }
 {
-    let mut counts = Counts { of: [0; 16] };
+    let mut counts = Counts { of: [0; 20] };
     let mut step = nothing();
     let mut at: usize = 0;
     while at < n {
@@ -203,6 +278,10 @@ fn report(counts: Counts) {
     print_count(b"words ", counts.of[WORDS]);
     print_count(b"insert ", counts.of[INSERT]);
     print_count(b"delete ", counts.of[DELETE]);
+    print_count(b"enable ", counts.of[ENABLE]);
+    print_count(b"status ", counts.of[STATUS]);
+    print_count(b"assess ", counts.of[ASSESS]);
+    print_count(b"guarded ", counts.of[GUARDED]);
     print_count(b"lines ", counts.of[LINES]);
     print_count(b"differences ", counts.of[DIFFERENCES]);
 }
@@ -236,12 +315,12 @@ fn replay_list(list: &[u8], n: usize)
 }
 
 // Reads the list, as far as the lent memory holds it, and performs it.
-fn replay_input(list: &mut [u8; 425984]) {
+fn replay_input(list: &mut [u8; 524288]) {
     let n = io::read_full(0, list);
     replay_list(list, n);
 }
 
 fn main() {
-    let mut list = [0u8; 425984];
+    let mut list = [0u8; 524288];
     replay_input(&mut list);
 }

@@ -1,4 +1,4 @@
-// Lines of a text, and the numbers in them.
+// Lines of a text, and the numbers in them, also compared with words.
 ghost use mathlib.Core.Bool.{true, false};
 ghost use mathlib.Core.Path.{_≡_};
 ghost use Prim.Native.Nat.{_≤_, _<_};
@@ -112,4 +112,31 @@ pub fn ends(line: &[u8], last: Number) -> bool {
         return last.next == line.len();
     }
     false
+}
+
+// Whether a word is the stored one.
+fn same_word(words: &[u32], i: usize, word: u32) -> bool {
+    if i < words.len() {
+        return words[i] == word;
+    }
+    false
+}
+
+// The last of the n numbers after another one; it is not good unless they are the first n of these words.
+pub fn same_part(line: &[u8], before: Number, n: usize, words: &[u32]) -> Number {
+    let mut last = before;
+    let mut i: usize = 0;
+    while i < n {
+        last = after(line, last);
+        if !same_word(words, i, last.value) {
+            return nowhere();
+        }
+        i += 1;
+    }
+    last
+}
+
+// Whether the rest of a line has the first n of these words, and no more.
+pub fn same_words(line: &[u8], before: Number, n: usize, words: &[u32]) -> bool {
+    ends(line, same_part(line, before, n, words))
 }

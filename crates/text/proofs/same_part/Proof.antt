@@ -1,7 +1,7 @@
 use Prim.Native.Nat.{_≤_, _-_}
 use borrow.Author.Needs.{needs}
-use Rattle.changes.proofs.same.same_words.Statement.{statement}
-use Rattle.changes.proofs.same.same_words.Tie as tie
+use Rattle.text.proofs.same_part.Statement.{statement}
+use Rattle.text.proofs.same_part.Tie as tie
 
 abbrev Inv-loop : tie.InvT-loop
 Inv-loop line n words last₀ i₀ last i = i ≤ n
@@ -18,6 +18,9 @@ after-requires c κs = tt
 same-word-requires : tie.Need-same-word-requires Inv-loop μ-loop
 same-word-requires c κs = tt
 
+nowhere-requires : tie.Need-nowhere-requires Inv-loop μ-loop
+nowhere-requires c κs = tt
+
 returns : tie.Need-returns Inv-loop μ-loop
 returns c = tt
 
@@ -30,14 +33,11 @@ loop-less c = search needs
 loop-again : tie.Need-loop-again Inv-loop μ-loop
 loop-again c = search needs
 
-ends-requires : tie.Need-ends-requires Inv-loop μ-loop
-ends-requires c κs = tt
-
 returns-2 : tie.Need-returns-2 Inv-loop μ-loop
 returns-2 c = tt
 
-pub same-words-spec : {M : Type 1} → statement M
-same-words-spec =
+pub same-part-spec : {M : Type 1} → statement M
+same-part-spec =
     tie.close
     (tie.spec
     Inv-loop
@@ -45,9 +45,9 @@ same-words-spec =
     loop-holds
     after-requires
     same-word-requires
+    nowhere-requires
     returns
     add-i
     loop-less
     loop-again
-    ends-requires
     returns-2)
