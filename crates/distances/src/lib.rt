@@ -1,11 +1,12 @@
 // The distance of two vectors, of two slots, and of a query and a slot.
 use vectors::vector;
 ghost use mathlib.Core.Path.{_≡_};
-ghost use Prim.Native.Nat.{_+_, _*_, _-_, min, _≤_};
+ghost use Prim.Native.Nat.{_+_, _*_, _-_, min, _<_, _≤_};
 ghost use lib.ListN.{length};
 ghost use Rattle.vectors.specs.Distance.{squared-difference, distance};
 ghost use Rattle.vectors.specs.Space.{slot-distance, query-distance, space, Measured};
 ghost use Rattle.distances.specs.contracts.Sums.{Summed, First};
+ghost use Rattle.distances.specs.contracts.Kept.{Kept};
 
 // The squared difference of two bytes.
 fn squared_difference(x: u8, y: u8) -> u32
@@ -101,6 +102,36 @@ pub fn slot_distance(dim: usize, vectors: &[u8], s: usize, t: usize) -> u32
     ensures { λ r. ⌜ Measured (slot-distance (space dim (now (vectors .entry))) s t) r ⌝ }
 {
     distance(vector(dim, vectors, s), vector(dim, vectors, t))
+}
+
+// The words of a table of kept distances: two for each of 8,192 entries.
+pub const KEPT_WORDS: usize = 16384;
+
+// The entry of a table at which the distance of two slots is kept.
+fn kept_at(x: u32, y: u32) -> usize
+    requires { ⌜ (x < 65536) × (y < 65536) ⌝ }
+    ensures { λ r. ⌜ r < 8192 ⌝ }
+{
+    ((x * 31 + y) % 8192) as usize
+}
+
+// The distance of the vectors of two slots: where the table `kept` has it, it is read there, else it is worked out and kept. A shorter table is not used.
+pub fn kept_distance(dim: usize, vectors: &[u8], kept: &mut [u32], x: u32, y: u32) -> u32
+    requires { ⌜ (x * dim + dim ≤ length (now vectors)) × (y * dim + dim ≤ length (now vectors)) × (dim ≤ 256) × (x < 65536) × (y < 65536) × Kept dim (now vectors) (now kept) ⌝ }
+    ensures { λ r. ⌜ Measured (slot-distance (space dim (now (vectors .entry))) x y) r × Kept dim (now (vectors .entry)) (now (kept .exit)) ⌝ }
+{
+    if kept.len() < KEPT_WORDS {
+        return slot_distance(dim, vectors, x as usize, y as usize);
+    }
+    let i = kept_at(x, y);
+    let pair = x * 65536 + y;
+    if kept[2 * i] == pair {
+        return kept[2 * i + 1];
+    }
+    let dist = slot_distance(dim, vectors, x as usize, y as usize);
+    kept[2 * i] = pair;
+    kept[2 * i + 1] = dist;
+    dist
 }
 
 // The distance of a query and the vector of a slot.

@@ -1,5 +1,5 @@
 -- The whole selection: what is selected from, the passes over it, and what is left. Assumes nothing.
-use Prim.Native.Nat.{ℕ, zero, suc, _+_, _*_, _≤_}
+use Prim.Native.Nat.{ℕ, zero, suc, _+_, _*_, _≤_, _<_}
 use mathlib.Core.Path.{_≡_, refl, ap, sym, _∙_}
 use mathlib.Core.Logic.{inl, inr, ⊎-elim}
 use mathlib.Core.Bool.{true}
@@ -73,6 +73,9 @@ module _ {degree dim : ℕ} {vectors marks w : List ℕ} {a n to : ℕ} (q : Rea
         small = left-so (All (λ c. c .dist ≤ 16777216)) f (all-of-given (λ c. c .dist ≤ 16777216) live source (cands w a n) (q .small));
         stored = left-so (All (λ c. c .id * dim + dim ≤ length vectors)) f
             (all-map (λ c. live (c .id) ≡ true) (λ c. c .id * dim + dim ≤ length vectors) (λ c e. fits-in dim (length marks) (c .id) (length vectors) (live-inside marks (c .id) e) (q .bytes))
+            (considered live source (cands w a n)) (considered-live live source (cands w a n)));
+        numbered = left-so (All (λ c. c .id < 65536)) f
+            (all-map (λ c. live (c .id) ≡ true) (λ c. c .id < 65536) (λ c e. omega (arith, live-inside marks (c .id) e, q .few))
             (considered live source (cands w a n)) (considered-live live source (cands w a n)));
       }
 

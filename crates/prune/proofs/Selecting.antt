@@ -210,7 +210,7 @@ module _ {degree : ℕ} {alpha : Float} {d : ℕ → ℕ → ℕ} {a n to : ℕ}
         → Given dim vectors w a (length factors) × (i < length factors) × (to + 2 * m + 1 < length w)
     passing-given {dim} {vectors} q h l r =
         let s : cands w a (length factors) ≡ cands w₀ a n = ap (λ (z : ℕ). cands w a z) (f .sizes) ∙ apart-kept p w₀ w u in (
-          record { short = q .short; inside = omega (arith, f .sizes, f .size, g .size, q .inside); small = rw s (q .small); stored = rw s (q .stored) },
+          record { short = q .short; inside = omega (arith, f .sizes, f .size, g .size, q .inside); small = rw s (q .small); stored = rw s (q .stored); numbered = rw s (q .numbered) },
           omega (arith, f .sizes),
           omega (arith, f .room, f .size, g .size),
         )

@@ -9,7 +9,7 @@ use lib.ListN.{length, getD, set, length-set}
 use lib.Seq.{set-getD}
 use lib.Ieee.{Float, nan, lt}
 use Rattle.lists.specs.Lists.{foldl, range}
-use Rattle.vectors.specs.Space.{slot-distance, space, Measured}
+use Rattle.vectors.specs.Space.{Measured}
 use Rattle.candidates.specs.Candidates.{Candidate}
 use Rattle.candidates.specs.Quotient.{largest, fmax, quotient}
 use Rattle.candidates.specs.contracts.Words.{cand, cands}
@@ -24,10 +24,9 @@ pub raised-over : (alpha : Float) (own pair : ℕ) (f : Float) → lt alpha f �
 unfolding raised-factor
 raised-over alpha own pair f e = rw e
 
-pub raised-to : (alpha : Float) (own dim : ℕ) (vectors : List ℕ) {x y w z pair : ℕ} (f : Float) {r q : Float} → lt alpha f ≡ false → w ≡ x → z ≡ y
-    → Measured (slot-distance (space dim vectors) w z) pair → q ≡ quotient own pair → r ≡ fmax f q → r ≡ raised-factor alpha own (slot-distance (space dim vectors) x y) f
+pub raised-to : (alpha : Float) (own : ℕ) {d pair : ℕ} (f : Float) {r q : Float} → lt alpha f ≡ false → Measured d pair → q ≡ quotient own pair → r ≡ fmax f q → r ≡ raised-factor alpha own d f
 unfolding raised-factor
-raised-to alpha own dim vectors {x} {y} {w} {z} {pair} f {r} {q} e u v n g h = rw (e, ← u, ← v, ← n .equals, ← g) h
+raised-to alpha own {d} {pair} f {r} {q} e n g h = rw (e, ← n .equals, ← g) h
 
 -- ---- all of those after the one taken
 pub other-default : {A : Type 0} (l : List A) (i : ℕ) (d e : A) → i < length l → getD l i d ≡ getD l i e
@@ -81,3 +80,6 @@ module _ {dim : ℕ} {vectors w : List ℕ} {a n : ℕ} (g : Given dim vectors w
 
   pub given-stored : {s : ℕ} → s ≡ cand w (a + 2 * k) .id → s * dim + dim ≤ length vectors
   given-stored e = rw e (cands-each (λ c. c .id * dim + dim ≤ length vectors) w a n (g .stored) k h)
+
+  pub given-numbered : {s : ℕ} → s ≡ cand w (a + 2 * k) .id → s < 65536
+  given-numbered e = rw e (cands-each (λ c. c .id < 65536) w a n (g .numbered) k h)

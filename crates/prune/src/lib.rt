@@ -1,9 +1,9 @@
 // Selections: which of a list of candidates become the neighbours of a slot.
-use slots::marks::wide;
 ghost use mathlib.Core.Path.{_≡_};
 ghost use Prim.Native.Nat.{_+_, _*_, _<_, _≤_};
 ghost use lib.ListN.{length};
 ghost use Rattle.vectors.specs.Space.{slot-distance, space};
+ghost use Rattle.distances.specs.contracts.Kept.{Kept};
 ghost use Rattle.candidates.specs.Quotient.{fmax, fmin};
 ghost use Rattle.candidates.specs.contracts.Words.{cands, Left};
 ghost use Rattle.slots.specs.Store.{is-valid};
@@ -32,14 +32,23 @@ fn following(t: f32, alpha: f32) -> f32
 }
 
 // The factor `f` of slot `x`, whose candidate has the distance `own`, once slot `y` is taken.
-fn raised(f: f32, alpha: f32, own: u32, dim: usize, vectors: &[u8], x: u32, y: u32) -> f32
-    requires { ⌜ (own ≤ 16777216) × (x * dim + dim ≤ length (now vectors)) × (y * dim + dim ≤ length (now vectors)) × (dim ≤ 256) ⌝ }
-    ensures { λ r. ⌜ r ≡ raised-factor alpha own (slot-distance (space dim (now (vectors .entry))) x y) f ⌝ }
+fn raised(
+    f: f32,
+    alpha: f32,
+    own: u32,
+    dim: usize,
+    vectors: &[u8],
+    kept: &mut [u32],
+    x: u32,
+    y: u32,
+) -> f32
+    requires { ⌜ (own ≤ 16777216) × (x * dim + dim ≤ length (now vectors)) × (y * dim + dim ≤ length (now vectors)) × (dim ≤ 256) × (x < 65536) × (y < 65536) × Kept dim (now vectors) (now kept) ⌝ }
+    ensures { λ r. ⌜ (r ≡ raised-factor alpha own (slot-distance (space dim (now (vectors .entry))) x y) f) × Kept dim (now (vectors .entry)) (now (kept .exit)) ⌝ }
 {
     if f > alpha {
         return f;
     }
-    let pair = distances::slot_distance(dim, vectors, wide(x), wide(y));
+    let pair = distances::kept_distance(dim, vectors, kept, x, y);
     larger(f, candidates::quotient(own, pair))
 }
 
@@ -48,13 +57,14 @@ fn settle(
     alpha: f32,
     dim: usize,
     vectors: &[u8],
+    kept: &mut [u32],
     factors: &mut [f32],
     words: &[u32],
     a: usize,
     i: usize,
 )
-    requires { ⌜ Given dim (now vectors) (now words) a (length (now factors)) × (i < length (now factors)) ⌝ }
-    ensures { λ _. ⌜ now (factors .exit) ≡ settled alpha (slot-distance (space dim (now (vectors .entry)))) (cands (now (words .entry)) a (length (now (factors .entry)))) i (now (factors .entry)) ⌝ }
+    requires { ⌜ Given dim (now vectors) (now words) a (length (now factors)) × (i < length (now factors)) × Kept dim (now vectors) (now kept) ⌝ }
+    ensures { λ _. ⌜ (now (factors .exit) ≡ settled alpha (slot-distance (space dim (now (vectors .entry)))) (cands (now (words .entry)) a (length (now (factors .entry)))) i (now (factors .entry))) × Kept dim (now (vectors .entry)) (now (kept .exit)) ⌝ }
 {
     let n = factors.len();
     let y = candidates::id_at(words, a, i);
@@ -63,7 +73,7 @@ fn settle(
     while j < n {
         let own = candidates::dist_at(words, a, j);
         let x = candidates::id_at(words, a, j);
-        factors[j] = raised(factors[j], alpha, own, dim, vectors, x, y);
+        factors[j] = raised(factors[j], alpha, own, dim, vectors, kept, x, y);
         j += 1;
     }
 }
@@ -73,6 +83,7 @@ fn consider(
     alpha: f32,
     dim: usize,
     vectors: &[u8],
+    kept: &mut [u32],
     factors: &mut [f32],
     words: &mut [u32],
     a: usize,
@@ -81,14 +92,14 @@ fn consider(
     m: usize,
     threshold: f32,
 ) -> usize
-    requires { ⌜ Given dim (now vectors) (now words) a (length (now factors)) × (i < length (now factors)) × (to + 2 * m + 1 < length (now words)) ⌝ }
+    requires { ⌜ Given dim (now vectors) (now words) a (length (now factors)) × (i < length (now factors)) × (to + 2 * m + 1 < length (now words)) × Kept dim (now vectors) (now kept) ⌝ }
     ensures { λ r. ⌜ Considered alpha (slot-distance (space dim (now (vectors .entry)))) (cands (now (words .entry)) a (length (now (factors .entry)))) threshold i
-        (now (factors .entry)) (now (words .entry)) to m (now (factors .exit)) (now (words .exit)) r ⌝ }
+        (now (factors .entry)) (now (words .entry)) to m (now (factors .exit)) (now (words .exit)) r × Kept dim (now (vectors .entry)) (now (kept .exit)) ⌝ }
 {
     if factors[i] > threshold {
         return m;
     }
-    settle(alpha, dim, vectors, factors, words, a, i);
+    settle(alpha, dim, vectors, kept, factors, words, a, i);
     let dist = candidates::dist_at(words, a, i);
     let id = candidates::id_at(words, a, i);
     candidates::put(words, to + 2 * m, dist, id);
@@ -101,13 +112,14 @@ fn select(
     alpha: f32,
     dim: usize,
     vectors: &[u8],
+    kept: &mut [u32],
     factors: &mut [f32],
     words: &mut [u32],
     a: usize,
     to: usize,
 ) -> usize
-    requires { ⌜ Given dim (now vectors) (now words) a (length (now factors)) × Room degree (now words) a (length (now factors)) to ⌝ }
-    ensures { λ r. ⌜ Selected degree alpha (slot-distance (space dim (now (vectors .entry)))) (now (factors .entry)) (now (words .entry)) a (length (now (factors .entry))) to r (now (words .exit)) ⌝ }
+    requires { ⌜ Given dim (now vectors) (now words) a (length (now factors)) × Room degree (now words) a (length (now factors)) to × Kept dim (now vectors) (now kept) ⌝ }
+    ensures { λ r. ⌜ Selected degree alpha (slot-distance (space dim (now (vectors .entry)))) (now (factors .entry)) (now (words .entry)) a (length (now (factors .entry))) to r (now (words .exit)) × Kept dim (now (vectors .entry)) (now (kept .exit)) ⌝ }
 {
     let n = factors.len();
     let mut m: usize = 0;
@@ -119,7 +131,7 @@ fn select(
             if m == degree {
                 break 'passes;
             }
-            m = consider(alpha, dim, vectors, factors, words, a, i, to, m, threshold);
+            m = consider(alpha, dim, vectors, kept, factors, words, a, i, to, m, threshold);
             i += 1;
         }
         if threshold >= alpha {
@@ -137,16 +149,17 @@ fn pick(
     alpha: f32,
     dim: usize,
     vectors: &[u8],
+    kept: &mut [u32],
     words: &mut [u32],
     a: usize,
     n: usize,
     to: usize,
 ) -> usize
-    requires { ⌜ Given dim (now vectors) (now words) a n × Room degree (now words) a n to × (n ≤ 750) ⌝ }
-    ensures { λ r. ⌜ Picked degree alpha (slot-distance (space dim (now (vectors .entry)))) (now (words .entry)) a n to r (now (words .exit)) ⌝ }
+    requires { ⌜ Given dim (now vectors) (now words) a n × Room degree (now words) a n to × (n ≤ 750) × Kept dim (now vectors) (now kept) ⌝ }
+    ensures { λ r. ⌜ Picked degree alpha (slot-distance (space dim (now (vectors .entry)))) (now (words .entry)) a n to r (now (words .exit)) × Kept dim (now (vectors .entry)) (now (kept .exit)) ⌝ }
 {
     let mut factors = [0.0f32; 750];
-    select(degree, alpha, dim, vectors, &mut factors[..n], words, a, to)
+    select(degree, alpha, dim, vectors, kept, &mut factors[..n], words, a, to)
 }
 
 // What is selected from: no source, no dead slot, by distance, each slot's first, 750 at most. Returns how many are left.
@@ -159,12 +172,14 @@ fn prepare(marks: &[u8], source: u32, words: &mut [u32], a: usize, n: usize) -> 
     candidates::keep_first(words, a, k, 750)
 }
 
-// Selects the neighbours of slot `source` from the `n` candidates at `a`, which it rearranges. Returns how many they are; they lie at `to`.
+// Selects the neighbours of slot `source` from the `n` candidates at `a`, which it rearranges. Returns how many they are; they lie at `to`. Distances
+// that the table `kept` has are read there.
 pub fn prune_scored(
     degree: usize,
     alpha: f32,
     dim: usize,
     vectors: &[u8],
+    kept: &mut [u32],
     marks: &[u8],
     source: u32,
     scratch: &mut [u32],
@@ -172,9 +187,9 @@ pub fn prune_scored(
     n: usize,
     to: usize,
 ) -> usize
-    requires { ⌜ Ready degree dim (now vectors) (now marks) (now scratch) a n to ⌝ }
-    ensures { λ r. ⌜ Pruned degree alpha (is-valid (now (marks .entry))) (slot-distance (space dim (now (vectors .entry)))) source (now (scratch .entry)) a n to r (now (scratch .exit)) ⌝ }
+    requires { ⌜ Ready degree dim (now vectors) (now marks) (now scratch) a n to × Kept dim (now vectors) (now kept) ⌝ }
+    ensures { λ r. ⌜ Pruned degree alpha (is-valid (now (marks .entry))) (slot-distance (space dim (now (vectors .entry)))) source (now (scratch .entry)) a n to r (now (scratch .exit)) × Kept dim (now (vectors .entry)) (now (kept .exit)) ⌝ }
 {
     let m = prepare(marks, source, scratch, a, n);
-    pick(degree, alpha, dim, vectors, scratch, a, m, to)
+    pick(degree, alpha, dim, vectors, kept, scratch, a, m, to)
 }

@@ -1,21 +1,7 @@
--- Either nothing changes, or the candidate is taken and written behind those taken before.
 use Rattle.prune.proofs.Selecting.{considered-over, considered-taken}
 use borrow.Author.Needs.{needs}
 use Rattle.prune.proofs.consider.Statement.{statement}
 use Rattle.prune.proofs.consider.Tie as tie
-
--- places before the needs below, each named by what was done last there
-abbrev dist-at₀ : tie.After-slice-known5 → tie.After-dist-at
-dist-at₀ c = c .before .before .before .before .before .before
-
-abbrev settle₀ : tie.After-slice-known5 → tie.After-settle
-settle₀ c = dist-at₀ c .before .before .before .before
-
-abbrev else1₀ : tie.After-slice-known5 → tie.Else1
-else1₀ c = settle₀ c .before .before .before
-
-abbrev start₀ : tie.After-slice-known5 → tie.Start
-start₀ c = else1₀ c .before .before .before .before .before
 
 mul-if1 : tie.Need-mul-if1
 mul-if1 c = search needs
@@ -24,7 +10,7 @@ slice-read-if1 : tie.Need-slice-read-if1
 slice-read-if1 c = search needs
 
 returns : tie.Need-returns
-returns c = considered-over _ _ _ _ _ _ _ _ _ (c .if1 .taken)
+returns c = (considered-over _ _ _ _ _ _ _ _ _ (c .if1 .taken), c .before .before .before .before .before .before .pre .3)
 
 settle-requires : tie.Need-settle-requires
 settle-requires c κs = search needs
@@ -53,8 +39,11 @@ same-length c = search needs
 same-length-2 : tie.Need-same-length-2
 same-length-2 c = search needs
 
+same-length-3 : tie.Need-same-length-3
+same-length-3 c = search needs
+
 returns-2 : tie.Need-returns-2
-returns-2 c = rw (c .before .before .put .ensures) (considered-taken _ _ _ _ _ _ _ _ _ _ ((else1₀ c) .if1 .left) ((start₀ c) .pre .1) ((start₀ c) .pre .2) ((settle₀ c) .settle .kept .1 .1 .1 .0) ((settle₀ c) .settle .ensures) ((dist-at₀ c) .dist-at .ensures) (c .before .before .before .before .id-at .ensures))
+returns-2 c = (rw (c .before .before .put .ensures) (considered-taken _ _ _ _ _ _ _ _ _ _ (c .before .before .before .before .before .before .before .before .before .before .before .before .before .before .before .before .if1 .left) (c .before .before .before .before .before .before .before .before .before .before .before .before .before .before .before .before .before .before .before .before .before .before .pre .1) (c .before .before .before .before .before .before .before .before .before .before .before .before .before .before .before .before .before .before .before .before .before .before .pre .2) (c .before .before .before .before .before .before .before .before .before .factors .given) (c .before .before .before .before .before .before .before .before .before .before .before .before .settle .ensures .0) (c .before .before .before .before .before .before .dist-at .ensures) (c .before .before .before .before .id-at .ensures)), c .before .before .before .before .before .before .before .before .before .before .before .before .settle .ensures .1)
 
 pub consider-spec : {M : Type 1} → statement M
 consider-spec =
@@ -72,4 +61,5 @@ consider-spec =
     add-result
     same-length
     same-length-2
+    same-length-3
     returns-2)

@@ -1,66 +1,32 @@
--- What is left of the candidates and of the thresholds, from here on, gives what all of them give from the start.
 use Prim.Native.Nat.{_-_}
-use mathlib.Core.Path.{refl}
+use mathlib.Core.Path.{refl, _∙_}
 use borrow.Author.Needs.{needs}
 use Rattle.vectors.specs.Space.{slot-distance, space}
+use Rattle.distances.proofs.Kept.{Since, since-start, since-then}
 use Rattle.prune.proofs.Selecting.{first-threshold, Scanning, scanning-none, scanning-more, Passing, passing-none, passing-more, passing-full, passing-last, passing-done, passing-given}
 use Rattle.prune.proofs.select.Statement.{statement}
 use Rattle.prune.proofs.select.Tie as tie
 
 abbrev Inv-loop : tie.InvT-loop
-Inv-loop degree alpha dim vectors factors₀ words₀ a to n m₀ threshold pass i₀ factors words m i =
-    Scanning degree alpha (slot-distance (space dim vectors)) a n to threshold pass factors₀ words₀ m₀ factors words m i
+Inv-loop degree alpha dim vectors kept₀ factors₀ words₀ a to n m₀ threshold pass i₀ kept factors words m i = Scanning degree alpha (slot-distance (space dim vectors)) a n to threshold pass factors₀ words₀ m₀ factors words m i × Since dim vectors kept₀ kept
 
 abbrev μ-loop : tie.MeasureT-loop
-μ-loop degree alpha dim vectors factors₀ words₀ a to n m₀ threshold pass i₀ factors words m i = n - i
+μ-loop degree alpha dim vectors kept₀ factors₀ words₀ a to n m₀ threshold pass i₀ kept factors words m i = n - i
 
 abbrev Inv-passes : tie.InvT-passes
-Inv-passes degree alpha dim vectors factors₀ words₀ a to n m₀ threshold₀ pass₀ factors words m threshold pass =
-    Passing degree alpha (slot-distance (space dim vectors)) a n to factors₀ words₀ factors words m threshold pass
+Inv-passes degree alpha dim vectors kept₀ factors₀ words₀ a to n m₀ threshold₀ pass₀ kept factors words m threshold pass = Passing degree alpha (slot-distance (space dim vectors)) a n to factors₀ words₀ factors words m threshold pass × Since dim vectors kept₀ kept
 
 abbrev μ-passes : tie.MeasureT-passes
-μ-passes degree alpha dim vectors factors₀ words₀ a to n m₀ threshold₀ pass₀ factors words m threshold pass =
-    5 - pass
-
--- places before the needs below, each named by what was done last there
-abbrev start : tie.At-passes Inv-loop μ-loop Inv-passes μ-passes → tie.Start Inv-loop μ-loop Inv-passes μ-passes
-start c = c .before .before .before .before
-
-abbrev at-passes₁ : tie.After-consider-arg2 Inv-loop μ-loop Inv-passes μ-passes → tie.At-passes Inv-loop μ-loop Inv-passes μ-passes
-at-passes₁ c = c .before .before .before .before .before .before
-
-abbrev start₁ : tie.After-consider-arg2 Inv-loop μ-loop Inv-passes μ-passes → tie.Start Inv-loop μ-loop Inv-passes μ-passes
-start₁ c = start (at-passes₁ c)
-
-abbrev else1₂ : tie.After-slice-known4 Inv-loop μ-loop Inv-passes μ-passes → tie.Else1 Inv-loop μ-loop Inv-passes μ-passes
-else1₂ c = c .before .before .before .before .before .before .before
-
-abbrev in-loop₂ : tie.After-slice-known4 Inv-loop μ-loop Inv-passes μ-passes → tie.In-loop Inv-loop μ-loop Inv-passes μ-passes
-in-loop₂ c = else1₂ c .before
-
-abbrev at-loop₂ : tie.After-slice-known4 Inv-loop μ-loop Inv-passes μ-passes → tie.At-loop Inv-loop μ-loop Inv-passes μ-passes
-at-loop₂ c = in-loop₂ c .before
-
-abbrev start₂ : tie.After-slice-known4 Inv-loop μ-loop Inv-passes μ-passes → tie.Start Inv-loop μ-loop Inv-passes μ-passes
-start₂ c = start (c .before .before .before .before .before .before .before .before .before .before .before)
-
-abbrev start₃ : tie.After-following Inv-loop μ-loop Inv-passes μ-passes → tie.Start Inv-loop μ-loop Inv-passes μ-passes
-start₃ c = start (c .before .before .before .before .before)
-
-abbrev start₄ : tie.Then1 Inv-loop μ-loop Inv-passes μ-passes → tie.Start Inv-loop μ-loop Inv-passes μ-passes
-start₄ c = start (c .before .before .before .before)
-
-abbrev start₅ : tie.Then2 Inv-loop μ-loop Inv-passes μ-passes → tie.Start Inv-loop μ-loop Inv-passes μ-passes
-start₅ c = start (c .before .before .before .before)
+μ-passes degree alpha dim vectors kept₀ factors₀ words₀ a to n m₀ threshold₀ pass₀ kept factors words m threshold pass = 5 - pass
 
 passes-holds : tie.Need-passes-holds Inv-loop μ-loop Inv-passes μ-passes
-passes-holds c = passing-none _ _ _ _ _ _ _ _ _ first-threshold refl
+passes-holds c = (passing-none _ _ _ _ _ _ _ _ _ first-threshold refl, since-start (c .before .before .before .before .pre .2))
 
 loop-holds : tie.Need-loop-holds Inv-loop μ-loop Inv-passes μ-passes
-loop-holds c = let g = c .before .passes .inv in scanning-none _ _ _ _ _ _ _ _ _ _ _ (c .passes-test .taken) (g .room) (g .sizes)
+loop-holds c = let g = c .before .passes .inv in (scanning-none _ _ _ _ _ _ _ _ _ _ _ (c .passes-test .taken) (g .0 .room) (g .0 .sizes), since-start (g .1 .table))
 
 consider-requires : tie.Need-consider-requires Inv-loop μ-loop Inv-passes μ-passes
-consider-requires c κs = let q = (start₁ c) .pre in passing-given ((at-passes₁ c) .passes .inv) (q .1) (c .before .before .before .before .loop .inv) (q .0) (c .before .before .before .loop-test .taken) (c .before .before .if1 .left) (q .1 .inside)
+consider-requires c κs = let q = c .before .before .before .before .before .before .before .before .before .before .before .before .pre in let g = c .before .before .before .before .before .loop .inv in let h = passing-given (c .before .before .before .before .before .before .before .passes .inv .0) (q .1) (g .0) (q .0) (c .before .before .before .before .loop-test .taken) (c .before .before .before .if1 .left) (q .1 .inside) in (h .0, h .1, h .2, g .1 .table)
 
 add-i : tie.Need-add-i Inv-loop μ-loop Inv-passes μ-passes
 add-i c = search needs
@@ -69,7 +35,7 @@ loop-less : tie.Need-loop-less Inv-loop μ-loop Inv-passes μ-passes
 loop-less c = search needs
 
 loop-again : tie.Need-loop-again Inv-loop μ-loop Inv-passes μ-passes
-loop-again c = scanning-more ((at-loop₂ c) .loop .inv) ((start₂ c) .pre .1) ((in-loop₂ c) .loop-test .taken) ((else1₂ c) .if1 .left) (c .before .before .before .before .consider .ensures)
+loop-again c = let e = c .before .before .before .before .before .before .consider .ensures in (scanning-more (c .before .before .before .before .before .before .before .before .before .before .before .before .loop .inv .0) (c .before .before .before .before .before .before .before .before .before .before .before .before .before .before .before .before .before .before .before .pre .1) (c .before .before .before .before .before .before .before .before .before .before .before .loop-test .taken) (c .before .before .before .before .before .before .before .before .before .before .if1 .left) (e .0), since-then (c .before .before .before .before .before .before .before .before .before .before .before .before .loop .inv .1) (e .1) (c .before .before .before .before .before .kept .given))
 
 following-requires : tie.Need-following-requires Inv-loop μ-loop Inv-passes μ-passes
 following-requires c κs = search needs
@@ -81,25 +47,22 @@ passes-less : tie.Need-passes-less Inv-loop μ-loop Inv-passes μ-passes
 passes-less c = search needs
 
 passes-again : tie.Need-passes-again Inv-loop μ-loop Inv-passes μ-passes
-passes-again c = passing-more (c .before .before .before .before .before .passes .inv) ((start₃ c) .pre .1) (c .before .before .before .loop .inv) (c .before .before .before .before .passes-test .taken) (c .before .before .loop-test .left) (c .before .if2 .left) (c .following .ensures)
+passes-again c = let g = c .before .before .before .loop .inv in (passing-more (c .before .before .before .before .before .passes .inv .0) (c .before .before .before .before .before .before .before .before .before .before .pre .1) (g .0) (c .before .before .before .before .passes-test .taken) (c .before .before .loop-test .left) (c .before .if2 .left) (c .following .ensures), since-then (c .before .before .before .before .before .passes .inv .1) (g .1 .table) (g .1 .long))
 
 same-length : tie.Need-same-length Inv-loop μ-loop Inv-passes μ-passes
-same-length c = search needs
+same-length c = c .before .passes .inv .1 .long
 
 same-length-2 : tie.Need-same-length-2 Inv-loop μ-loop Inv-passes μ-passes
 same-length-2 c = search needs
 
-returns : tie.Need-returns Inv-loop μ-loop Inv-passes μ-passes
-returns c = passing-done (c .before .passes .inv) (c .passes-test .left)
-
 same-length-3 : tie.Need-same-length-3 Inv-loop μ-loop Inv-passes μ-passes
 same-length-3 c = search needs
 
-same-length-4 : tie.Need-same-length-4 Inv-loop μ-loop Inv-passes μ-passes
-same-length-4 c = search needs
+returns : tie.Need-returns Inv-loop μ-loop Inv-passes μ-passes
+returns c = (passing-done (c .before .passes .inv .0) (c .passes-test .left), c .before .passes .inv .1 .table)
 
-returns-2 : tie.Need-returns-2 Inv-loop μ-loop Inv-passes μ-passes
-returns-2 c = passing-full (c .before .before .before .before .passes .inv) ((start₄ c) .pre .1) (c .before .before .loop .inv) (c .if1 .taken)
+same-length-4 : tie.Need-same-length-4 Inv-loop μ-loop Inv-passes μ-passes
+same-length-4 c = c .before .before .loop .inv .1 .long ∙ c .before .before .before .before .passes .inv .1 .long
 
 same-length-5 : tie.Need-same-length-5 Inv-loop μ-loop Inv-passes μ-passes
 same-length-5 c = search needs
@@ -107,8 +70,20 @@ same-length-5 c = search needs
 same-length-6 : tie.Need-same-length-6 Inv-loop μ-loop Inv-passes μ-passes
 same-length-6 c = search needs
 
+returns-2 : tie.Need-returns-2 Inv-loop μ-loop Inv-passes μ-passes
+returns-2 c = (passing-full (c .before .before .before .before .passes .inv .0) (c .before .before .before .before .before .before .before .before .before .pre .1) (c .before .before .loop .inv .0) (c .if1 .taken), c .before .before .loop .inv .1 .table)
+
+same-length-7 : tie.Need-same-length-7 Inv-loop μ-loop Inv-passes μ-passes
+same-length-7 c = c .before .before .loop .inv .1 .long ∙ c .before .before .before .before .passes .inv .1 .long
+
+same-length-8 : tie.Need-same-length-8 Inv-loop μ-loop Inv-passes μ-passes
+same-length-8 c = search needs
+
+same-length-9 : tie.Need-same-length-9 Inv-loop μ-loop Inv-passes μ-passes
+same-length-9 c = search needs
+
 returns-3 : tie.Need-returns-3 Inv-loop μ-loop Inv-passes μ-passes
-returns-3 c = passing-last (c .before .before .before .before .passes .inv) ((start₅ c) .pre .1) (c .before .before .loop .inv) (c .before .loop-test .left) (c .if2 .taken)
+returns-3 c = (passing-last (c .before .before .before .before .passes .inv .0) (c .before .before .before .before .before .before .before .before .before .pre .1) (c .before .before .loop .inv .0) (c .before .loop-test .left) (c .if2 .taken), c .before .before .loop .inv .1 .table)
 
 pub select-spec : {M : Type 1} → statement M
 select-spec =
@@ -130,10 +105,13 @@ select-spec =
     passes-again
     same-length
     same-length-2
-    returns
     same-length-3
+    returns
     same-length-4
-    returns-2
     same-length-5
     same-length-6
+    returns-2
+    same-length-7
+    same-length-8
+    same-length-9
     returns-3)

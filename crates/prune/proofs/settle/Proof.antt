@@ -1,4 +1,3 @@
--- The factors from `j` on are still to be raised: raising them gives what raising all after `i` gives.
 use Rattle.candidates.specs.Quotient.{largest}
 use Prim.Native.Nat.{_-_, _+_, _*_}
 use native.Mathlib.Omega.{arith}
@@ -6,37 +5,19 @@ use lib.ListN.{length-set}
 use borrow.Author.Needs.{needs}
 use Rattle.candidates.specs.contracts.Words.{cand}
 use Rattle.vectors.specs.Space.{slot-distance, space}
-use Rattle.prune.proofs.Settling.{Raising, raising-none, raising-more, raising-done, given-small, given-stored}
+use Rattle.distances.proofs.Kept.{Since, since-start, since-then}
+use Rattle.prune.proofs.Settling.{Raising, raising-none, raising-more, raising-done, given-small, given-stored, given-numbered}
 use Rattle.prune.proofs.settle.Statement.{statement}
 use Rattle.prune.proofs.settle.Tie as tie
 
 abbrev Inv-loop : tie.InvT-loop
-Inv-loop alpha dim vectors factors₀ words a i n y j₀ factors j = Raising alpha (slot-distance (space dim vectors)) words a n (cand words (a + 2 * i)) factors₀ j₀ factors j
+Inv-loop alpha dim vectors kept₀ factors₀ words a i n y j₀ kept factors j = Raising alpha (slot-distance (space dim vectors)) words a n (cand words (a + 2 * i)) factors₀ j₀ factors j × Since dim vectors kept₀ kept
 
 abbrev μ-loop : tie.MeasureT-loop
-μ-loop alpha dim vectors factors₀ words a i n y j₀ factors j = n - j
-
--- places before the needs below, each named by what was done last there
-abbrev start : tie.After-id-at Inv-loop μ-loop → tie.Start Inv-loop μ-loop
-start c = c .before .before .before .before
-
-abbrev start₁ : tie.In-loop Inv-loop μ-loop → tie.Start Inv-loop μ-loop
-start₁ c = start (c .before .before)
-
-abbrev start₂ : tie.After-dist-at Inv-loop μ-loop → tie.Start Inv-loop μ-loop
-start₂ c = start (c .before .before .before)
-
-abbrev start₃ : tie.After-slice-known2 Inv-loop μ-loop → tie.Start Inv-loop μ-loop
-start₃ c = start (c .before .before .before .before .before)
-
-abbrev id-at₄ : tie.After-raised Inv-loop μ-loop → tie.After-id-at Inv-loop μ-loop
-id-at₄ c = c .before .before .before .before .before .before
-
-abbrev start₅ : tie.After-loop Inv-loop μ-loop → tie.Start Inv-loop μ-loop
-start₅ c = start (c .before .before)
+μ-loop alpha dim vectors kept₀ factors₀ words a i n y j₀ kept factors j = n - j
 
 id-at-requires : tie.Need-id-at-requires Inv-loop μ-loop
-id-at-requires c κs = omega (arith, c .before .before .before .pre .0 .inside, c .before .before .before .pre .1)
+id-at-requires c κs = omega (arith, c .before .before .before .before .pre .0 .inside, c .before .before .before .before .pre .1)
 
 mul-factors : tie.Need-mul-factors Inv-loop μ-loop
 mul-factors c = search needs
@@ -48,13 +29,13 @@ add-j : tie.Need-add-j Inv-loop μ-loop
 add-j c = search needs
 
 loop-holds : tie.Need-loop-holds Inv-loop μ-loop
-loop-holds c = raising-none _ _ _ _ _ _ _ _ (omega arith) (simp length-set)
+loop-holds c = (raising-none _ _ _ _ _ _ _ _ (omega arith) (simp length-set), since-start (c .before .before .before .before .before .pre .2))
 
 dist-at-requires : tie.Need-dist-at-requires Inv-loop μ-loop
-dist-at-requires c κs = omega (arith, (start₁ c) .pre .0 .inside)
+dist-at-requires c κs = omega (arith, c .before .before .before .before .before .before .before .pre .0 .inside)
 
 id-at-requires-2 : tie.Need-id-at-requires-2 Inv-loop μ-loop
-id-at-requires-2 c κs = omega (arith, (start₂ c) .pre .0 .inside)
+id-at-requires-2 c κs = omega (arith, c .before .before .before .before .before .before .before .before .pre .0 .inside)
 
 mul-raised : tie.Need-mul-raised Inv-loop μ-loop
 mul-raised c = search needs
@@ -63,7 +44,7 @@ slice-read-raised : tie.Need-slice-read-raised Inv-loop μ-loop
 slice-read-raised c = search needs
 
 raised-requires : tie.Need-raised-requires Inv-loop μ-loop
-raised-requires c κs = let g = (start₃ c) .pre .0 in let h = c .before .before .before .loop-test .taken in (given-small g h (c .before .before .dist-at .ensures), given-stored g h (c .before .id-at2 .ensures), given-stored g ((start₃ c) .pre .1) (c .before .before .before .before .before .id-at .ensures), g .short)
+raised-requires c κs = let p = c .before .before .before .before .before .before .before .before .before .before .before .pre in let g = p .0 in let h = c .before .before .before .before .loop-test .taken in let s = c .before .before .id-at2 .ensures in let t = c .before .before .before .before .before .before .id-at .ensures in (given-small g h (c .before .before .before .dist-at .ensures), given-stored g h s, given-stored g (p .1) t, g .short, given-numbered g h s, given-numbered g (p .1) t, c .before .before .before .before .before .loop .inv .1 .table)
 
 mul-factors-2 : tie.Need-mul-factors-2 Inv-loop μ-loop
 mul-factors-2 c = search needs
@@ -78,14 +59,17 @@ loop-less : tie.Need-loop-less Inv-loop μ-loop
 loop-less c = search needs
 
 loop-again : tie.Need-loop-again Inv-loop μ-loop
-loop-again c = raising-more (c .before .before .before .before .before .loop .inv) (c .before .before .before .before .loop-test .taken) (c .before .before .before .dist-at .ensures) (c .before .before .id-at2 .ensures) ((id-at₄ c) .id-at .ensures) (c .raised .ensures)
+loop-again c = (raising-more (c .before .before .before .before .before .before .before .before .loop .inv .0) (c .before .before .before .before .before .before .before .loop-test .taken) (c .before .before .before .before .before .before .dist-at .ensures) (c .before .before .before .before .before .id-at2 .ensures) (c .before .before .before .before .before .before .before .before .before .id-at .ensures) (c .before .before .raised .ensures .0), since-then (c .before .before .before .before .before .before .before .before .loop .inv .1) (c .before .before .raised .ensures .1) (c .before .kept .given))
 
 same-length : tie.Need-same-length Inv-loop μ-loop
-same-length c = search needs
+same-length c = c .before .loop .inv .1 .long
+
+same-length-2 : tie.Need-same-length-2 Inv-loop μ-loop
+same-length-2 c = search needs
 
 returns : tie.Need-returns Inv-loop μ-loop
 unfolding largest
-returns c = raising-done ((start₅ c) .args .factors .now) ((start₅ c) .pre .1) (c .loop-test .left) (c .before .loop .inv)
+returns c = (raising-done (c .before .before .before .before .before .before .before .args .factors .now) (c .before .before .before .before .before .before .before .pre .1) (c .loop-test .left) (c .before .loop .inv .0), c .before .loop .inv .1 .table)
 
 pub settle-spec : {M : Type 1} → statement M
 settle-spec =
@@ -109,4 +93,5 @@ settle-spec =
     loop-less
     loop-again
     same-length
+    same-length-2
     returns)

@@ -1,5 +1,5 @@
 -- A selection over candidates in lent words, step by step, as the functions of the code leave it. Assumes nothing.
-use Prim.Native.Nat.{ℕ, suc, _+_, _-_, _*_, _≤_}
+use Prim.Native.Nat.{ℕ, suc, _+_, _-_, _*_, _≤_, _<_}
 use mathlib.Core.Path.{_≡_}
 use mathlib.Core.Logic.{_⊎_}
 use mathlib.Core.Bool.{Bool, cond}
@@ -28,12 +28,13 @@ abbrev pub selection : List Float → List Candidate → Selection
 selection factors selected = record { factors = factors; selected = selected }
 
 -- ---- what is asked
--- n candidates at a whose slots have vectors and whose distances an f32 holds exactly
+-- n candidates at a whose slots have vectors and numbers of 16 bits, and whose distances an f32 holds exactly
 pub record Given (dim : ℕ) (vectors w : List ℕ) (a n : ℕ) : Type 0 where
   pub short : dim ≤ 256
   pub inside : a + 2 * n ≤ length w
   pub small : Small (cands w a n)
   pub stored : All (λ c. c .id * dim + dim ≤ length vectors) (cands w a n)
+  pub numbered : All (λ c. c .id < 65536) (cands w a n)
 
 -- room for as many as the degree at `to`, apart from n candidates at a
 pub record Room (degree : ℕ) (w : List ℕ) (a n to : ℕ) : Type 0 where
@@ -43,6 +44,7 @@ pub record Room (degree : ℕ) (w : List ℕ) (a n to : ℕ) : Type 0 where
 -- what `prune_scored` asks: bytes for each slot, n candidates at a, and room for as many as the degree at `to`
 pub record Ready (degree dim : ℕ) (vectors marks w : List ℕ) (a n to : ℕ) : Type 0 where
   pub bytes : length vectors ≡ length marks * dim
+  pub few : length marks ≤ 65536
   pub short : dim ≤ 256
   pub inside : a + 2 * n ≤ length w
   pub small : Small (cands w a n)
