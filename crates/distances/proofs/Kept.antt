@@ -56,8 +56,10 @@ module _ {dim : ℕ} {vectors kept : List ℕ} (k : Kept dim vectors kept) (i : 
       go j v w l a b e false t =
           let g : j ≡ i → ⊥ = eqb-false j i t in
           let s : getD kept (2 * j) 0 ≡ pair-of v w = sym (getD-set-other kept (2 * i) (2 * j) (pair-of x y) 0 (λ (f : 2 * j ≡ 2 * i). g (omega arith))) ∙ sym (first j) ∙ e in
-          rw (getD-set-other (set kept (2 * i) (pair-of x y)) (2 * i + 1) (2 * j + 1) dist 0 (λ (f : 2 * j + 1 ≡ 2 * i + 1). g (omega arith)),
-            getD-set-other kept (2 * i) (2 * j + 1) (pair-of x y) 0 (λ (f : 2 * j + 1 ≡ 2 * i). omega arith)) (k .each j v w l a b s)
+          rw (
+            getD-set-other (set kept (2 * i) (pair-of x y)) (2 * i + 1) (2 * j + 1) dist 0 (λ (f : 2 * j + 1 ≡ 2 * i + 1). g (omega arith)),
+            getD-set-other kept (2 * i) (2 * j + 1) (pair-of x y) 0 (λ (f : 2 * j + 1 ≡ 2 * i). omega arith),
+          ) (k .each j v w l a b s)
 
 -- in a loop: what has become of the table kept₀
 pub record Since (dim : ℕ) (vectors kept₀ kept : List ℕ) : Type 0 where

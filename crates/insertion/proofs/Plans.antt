@@ -43,6 +43,7 @@ module _ {a : Arrays} {query : List ℕ} {start width : ℕ} {w : List ℕ} {at 
       let s = o .spread in
       record {
         bytes = q .lent .vectors .vectors-long;
+        few = q .lent .rows .few;
         short = q .lent .vectors .dim-most;
         inside = omega (arith, few, f .size, q .room);
         small = f .small;

@@ -53,7 +53,20 @@ fn plan_one(
         scratch,
     );
     let to = at.plans + 2 * n;
-    let r = prune::prune_scored(degree, alpha, dim, vectors, marks, id, scratch, 0, k, to);
+    let mut none = [0u32; 0];
+    let r = prune::prune_scored(
+        degree,
+        alpha,
+        dim,
+        vectors,
+        &mut none,
+        marks,
+        id,
+        scratch,
+        0,
+        k,
+        to,
+    );
     repeat(scratch, at.sources + n, r, id);
     scratch[at.ends + i] = (n + r) as u32;
     n + r

@@ -49,11 +49,13 @@ fn renew(
         at.list,
     );
     let m = take_incoming(scratch, at, n, t, k);
+    let mut none = [0u32; 0];
     write_pruned(
         dim,
         degree,
         alpha,
         vectors,
+        &mut none,
         targets,
         edges,
         versions,

@@ -131,7 +131,19 @@ fn select(
             if m == degree {
                 break 'passes;
             }
-            m = consider(alpha, dim, vectors, kept, factors, words, a, i, to, m, threshold);
+            m = consider(
+                alpha,
+                dim,
+                vectors,
+                kept,
+                factors,
+                words,
+                a,
+                i,
+                to,
+                m,
+                threshold,
+            );
             i += 1;
         }
         if threshold >= alpha {
@@ -159,7 +171,17 @@ fn pick(
     ensures { λ r. ⌜ Picked degree alpha (slot-distance (space dim (now (vectors .entry)))) (now (words .entry)) a n to r (now (words .exit)) × Kept dim (now (vectors .entry)) (now (kept .exit)) ⌝ }
 {
     let mut factors = [0.0f32; 750];
-    select(degree, alpha, dim, vectors, kept, &mut factors[..n], words, a, to)
+    select(
+        degree,
+        alpha,
+        dim,
+        vectors,
+        kept,
+        &mut factors[..n],
+        words,
+        a,
+        to,
+    )
 }
 
 // What is selected from: no source, no dead slot, by distance, each slot's first, 750 at most. Returns how many are left.

@@ -34,7 +34,7 @@ module _ {degree : ℕ} {targets edges : List ℕ} {s : ℕ} {w : List ℕ} {at 
 -- ---- a selection
 module _ {a : Arrays} (x : Together a) {s : ℕ} {w : List ℕ} {at n to : ℕ} (h : s < length (a .marks)) (o : Prunable (a .degree) w at n to) where
   pub pruned-ready : Ready (a .degree) (a .dim) (a .vectors) (a .marks) w at n to
-  pruned-ready = record { bytes = x .bytes .long; short = x .bytes .small; inside = o .inside; small = o .small; room = o .room }
+  pruned-ready = record { bytes = x .bytes .long; few = x .rows .few; short = x .bytes .small; inside = o .inside; small = o .small; room = o .room }
 
   module _ {alpha : Float} {r : ℕ} {w₁ : List ℕ} (f : Pruned (a .degree) alpha (is-valid (a .marks)) (slot-distance (space (a .dim) (a .vectors))) s w at n to r w₁) where
     pub pruned-writable : Writable (a .degree) (a .targets) (a .edges) s w₁ to r to

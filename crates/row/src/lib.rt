@@ -4,6 +4,7 @@ use slots::rows::Ref;
 use slots::rows::live_at;
 ghost use Prim.Native.Nat.{_+_, _*_, _<_, _≤_};
 ghost use lib.ListN.{length};
+ghost use Rattle.distances.specs.contracts.Kept.{Kept};
 ghost use Rattle.slots.specs.Store.{arrays};
 ghost use Rattle.row.specs.Row.{Together, LiveScored, Writable, WroteIds, Prunable, WrotePruned};
 
@@ -62,12 +63,14 @@ pub fn write_ids(
     slots::write(degree, targets, edges, versions, wide(s), &scratch[to..end]);
 }
 
-// Selects from the `n` candidates at `at`, which it rearranges, and writes the selection as the row of slot `s`. The selection lies at `to`.
+// Selects from the `n` candidates at `at`, which it rearranges, and writes the selection as the row of slot `s`. The selection lies at `to`. Distances that the
+// table `kept` has are read there.
 pub fn write_pruned(
     dim: usize,
     degree: usize,
     alpha: f32,
     vectors: &[u8],
+    kept: &mut [u32],
     targets: &mut [u32],
     edges: &mut [u16],
     versions: &[u16],
@@ -79,10 +82,22 @@ pub fn write_pruned(
     to: usize,
 )
     requires { ⌜ Together (arrays dim degree (now vectors) (now targets) (now edges) (now versions) (now marks)) ⌝ }
-    requires { ⌜ (s < length (now marks)) × Prunable degree (now scratch) at n to ⌝ }
+    requires { ⌜ (s < length (now marks)) × Prunable degree (now scratch) at n to × Kept dim (now vectors) (now kept) ⌝ }
     ensures { λ _. ⌜ WrotePruned alpha (arrays dim degree (now (vectors .entry)) (now (targets .entry)) (now (edges .entry)) (now (versions .entry)) (now (marks .entry))) s (now (scratch .entry)) at n to
-        (arrays dim degree (now (vectors .entry)) (now (targets .exit)) (now (edges .exit)) (now (versions .entry)) (now (marks .entry))) (now (scratch .exit)) ⌝ }
+        (arrays dim degree (now (vectors .entry)) (now (targets .exit)) (now (edges .exit)) (now (versions .entry)) (now (marks .entry))) (now (scratch .exit)) × Kept dim (now (vectors .entry)) (now (kept .exit)) ⌝ }
 {
-    let r = prune::prune_scored(degree, alpha, dim, vectors, marks, s, scratch, at, n, to);
+    let r = prune::prune_scored(
+        degree,
+        alpha,
+        dim,
+        vectors,
+        kept,
+        marks,
+        s,
+        scratch,
+        at,
+        n,
+        to,
+    );
     write_ids(degree, targets, edges, versions, s, scratch, to, r, to);
 }

@@ -3,27 +3,11 @@ use borrow.Author.Needs.{needs}
 use Rattle.row.proofs.write_pruned.Statement.{statement}
 use Rattle.row.proofs.write_pruned.Tie as tie
 
--- places before the needs below, each named by what was done last there
-abbrev start : tie.After-prune-scored → tie.Start
-start c = c .before .before .before .before .before .before .before .before
-
-abbrev start₁ : tie.After-write-ids-arg3 → tie.Start
-start₁ c = start (c .before .before .before .before .before)
-
-abbrev write-ids₂ : tie.After-slice-known7 → tie.After-write-ids
-write-ids₂ c = c .before .before .before .before .before .before
-
-abbrev prune-scored₂ : tie.After-slice-known7 → tie.After-prune-scored
-prune-scored₂ c = write-ids₂ c .before .before .before .before .before .before
-
-abbrev start₂ : tie.After-slice-known7 → tie.Start
-start₂ c = start (prune-scored₂ c)
-
 prune-scored-requires : tie.Need-prune-scored-requires
 prune-scored-requires c κs = search needs
 
 write-ids-requires : tie.Need-write-ids-requires
-write-ids-requires c κs = let p = (start₁ c) .pre in pruned-writable (p .0) (p .1 .0) (p .1 .1) (c .before .before .before .before .before .prune-scored .ensures)
+write-ids-requires c κs = let p = c .before .before .before .before .before .before .before .before .before .before .before .before .before .before .before .before .before .pre in pruned-writable (p .0) (p .1 .0) (p .1 .1) (c .before .before .before .before .before .before .before .prune-scored .ensures .0)
 
 same-length : tie.Need-same-length
 same-length c = search needs
@@ -34,8 +18,11 @@ same-length-2 c = search needs
 same-length-3 : tie.Need-same-length-3
 same-length-3 c = search needs
 
+same-length-4 : tie.Need-same-length-4
+same-length-4 c = search needs
+
 returns : tie.Need-returns
-returns c = let p = (start₂ c) .pre in wrote-pruned (p .0) (p .1 .0) (p .1 .1) ((prune-scored₂ c) .prune-scored .ensures) ((write-ids₂ c) .write-ids .ensures)
+returns c = let p = c .before .before .before .before .before .before .before .before .before .before .before .before .before .before .before .before .before .before .before .before .before .before .before .before .pre in (wrote-pruned (p .0) (p .1 .0) (p .1 .1) (c .before .before .before .before .before .before .before .before .before .before .before .before .before .before .prune-scored .ensures .0) (c .before .before .before .before .before .before .write-ids .ensures), c .before .before .before .before .before .before .before .before .before .before .before .before .before .before .prune-scored .ensures .1)
 
 pub write-pruned-spec : {M : Type 1} → statement M
 write-pruned-spec =
@@ -46,4 +33,5 @@ write-pruned-spec =
     same-length
     same-length-2
     same-length-3
+    same-length-4
     returns)
