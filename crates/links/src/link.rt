@@ -9,6 +9,7 @@ use slots::marks::wide;
 ghost use mathlib.Core.List.{[], _∷_};
 ghost use Prim.Native.Nat.{_+_, _*_, _<_, _≤_};
 ghost use lib.ListN.{length};
+ghost use Rattle.distances.specs.contracts.Kept.{Kept};
 ghost use Rattle.slots.specs.Store.{arrays};
 ghost use Rattle.row.specs.Row.{Together};
 ghost use Rattle.repair.proofs.Sources.{both-ways};
@@ -41,6 +42,7 @@ fn apply_link(
     degree: usize,
     alpha: f32,
     vectors: &[u8],
+    kept: &mut [u32],
     targets: &mut [u32],
     edges: &mut [u16],
     versions: &[u16],
@@ -51,9 +53,9 @@ fn apply_link(
     at: usize,
 )
     requires { ⌜ Together (arrays dim degree (now vectors) (now targets) (now edges) (now versions) (now marks)) ⌝ }
-    requires { ⌜ (source < length (now marks)) × (target < length (now marks)) × Room degree (now scratch) at ⌝ }
+    requires { ⌜ (source < length (now marks)) × (target < length (now marks)) × Room degree (now scratch) at × Kept dim (now vectors) (now kept) ⌝ }
     ensures { λ _. ⌜ Applied alpha (arrays dim degree (now (vectors .entry)) (now (targets .entry)) (now (edges .entry)) (now (versions .entry)) (now (marks .entry))) (link source target ∷ [])
-        (arrays dim degree (now (vectors .entry)) (now (targets .exit)) (now (edges .exit)) (now (versions .entry)) (now (marks .entry))) (now (scratch .entry)) at (link-words degree) (now (scratch .exit)) ⌝ }
+        (arrays dim degree (now (vectors .entry)) (now (targets .exit)) (now (edges .exit)) (now (versions .entry)) (now (marks .entry))) (now (scratch .entry)) at (link-words degree) (now (scratch .exit)) × Kept dim (now (vectors .entry)) (now (kept .exit)) ⌝ }
 {
     let n = live_scored(
         dim,
@@ -74,6 +76,7 @@ fn apply_link(
         degree,
         alpha,
         vectors,
+        kept,
         targets,
         edges,
         versions,
@@ -92,6 +95,7 @@ fn link_both(
     degree: usize,
     alpha: f32,
     vectors: &[u8],
+    kept: &mut [u32],
     targets: &mut [u32],
     edges: &mut [u16],
     versions: &[u16],
@@ -102,15 +106,16 @@ fn link_both(
     at: usize,
 )
     requires { ⌜ Together (arrays dim degree (now vectors) (now targets) (now edges) (now versions) (now marks)) ⌝ }
-    requires { ⌜ (x < length (now marks)) × (p < length (now marks)) × Room degree (now scratch) at ⌝ }
+    requires { ⌜ (x < length (now marks)) × (p < length (now marks)) × Room degree (now scratch) at × Kept dim (now vectors) (now kept) ⌝ }
     ensures { λ _. ⌜ Applied alpha (arrays dim degree (now (vectors .entry)) (now (targets .entry)) (now (edges .entry)) (now (versions .entry)) (now (marks .entry))) (both-ways x p)
-        (arrays dim degree (now (vectors .entry)) (now (targets .exit)) (now (edges .exit)) (now (versions .entry)) (now (marks .entry))) (now (scratch .entry)) at (link-words degree) (now (scratch .exit)) ⌝ }
+        (arrays dim degree (now (vectors .entry)) (now (targets .exit)) (now (edges .exit)) (now (versions .entry)) (now (marks .entry))) (now (scratch .entry)) at (link-words degree) (now (scratch .exit)) × Kept dim (now (vectors .entry)) (now (kept .exit)) ⌝ }
 {
     apply_link(
         dim,
         degree,
         alpha,
         vectors,
+        kept,
         targets,
         edges,
         versions,
@@ -125,6 +130,7 @@ fn link_both(
         degree,
         alpha,
         vectors,
+        kept,
         targets,
         edges,
         versions,
@@ -142,6 +148,7 @@ pub fn link_each(
     degree: usize,
     alpha: f32,
     vectors: &[u8],
+    kept: &mut [u32],
     targets: &mut [u32],
     edges: &mut [u16],
     versions: &[u16],
@@ -153,9 +160,9 @@ pub fn link_each(
     at: usize,
 )
     requires { ⌜ Together (arrays dim degree (now vectors) (now targets) (now edges) (now versions) (now marks)) ⌝ }
-    requires { ⌜ Ends (length (now marks)) x (now scratch) to n at × Room degree (now scratch) at ⌝ }
+    requires { ⌜ Ends (length (now marks)) x (now scratch) to n at × Room degree (now scratch) at × Kept dim (now vectors) (now kept) ⌝ }
     ensures { λ _. ⌜ Applied alpha (arrays dim degree (now (vectors .entry)) (now (targets .entry)) (now (edges .entry)) (now (versions .entry)) (now (marks .entry))) (links-at x (now (scratch .entry)) to n)
-        (arrays dim degree (now (vectors .entry)) (now (targets .exit)) (now (edges .exit)) (now (versions .entry)) (now (marks .entry))) (now (scratch .entry)) at (link-words degree) (now (scratch .exit)) ⌝ }
+        (arrays dim degree (now (vectors .entry)) (now (targets .exit)) (now (edges .exit)) (now (versions .entry)) (now (marks .entry))) (now (scratch .entry)) at (link-words degree) (now (scratch .exit)) × Kept dim (now (vectors .entry)) (now (kept .exit)) ⌝ }
 {
     let mut i: usize = 0;
     while i < n {
@@ -165,6 +172,7 @@ pub fn link_each(
             degree,
             alpha,
             vectors,
+            kept,
             targets,
             edges,
             versions,

@@ -6,11 +6,13 @@ use super::span::span;
 use candidates::id_at;
 use candidates::keep_valid;
 use candidates::put;
+use distances::KEPT_WORDS;
 use slots::marks::wide;
 ghost use Prim.Native.Nat.{_+_, _*_, _<_, _≤_};
 ghost use lib.ListN.{length};
 ghost use Rattle.candidates.specs.Candidates.{ids};
 ghost use Rattle.candidates.specs.contracts.Words.{cands};
+ghost use Rattle.distances.specs.contracts.Kept.{Kept};
 ghost use Rattle.slots.specs.Store.{arrays};
 ghost use Rattle.row.specs.Row.{Together};
 ghost use Rattle.repair.specs.Repair.{repair-links};
@@ -23,6 +25,7 @@ fn apply_plan(
     degree: usize,
     alpha: f32,
     vectors: &[u8],
+    kept: &mut [u32],
     targets: &mut [u32],
     edges: &mut [u16],
     versions: &[u16],
@@ -35,10 +38,10 @@ fn apply_plan(
     base: usize,
 )
     requires { ⌜ Together (arrays dim degree (now vectors) (now targets) (now edges) (now versions) (now marks)) ⌝ }
-    requires { ⌜ (entry < length (now marks)) × Plan (now marks) (now scratch) at n × (at + 2 * n ≤ base) × Area degree (now scratch) base ⌝ }
+    requires { ⌜ (entry < length (now marks)) × Plan (now marks) (now scratch) at n × (at + 2 * n ≤ base) × Area degree (now scratch) base × Kept dim (now vectors) (now kept) ⌝ }
     ensures { λ _. ⌜ Applied alpha (arrays dim degree (now (vectors .entry)) (now (targets .entry)) (now (edges .entry)) (now (versions .entry)) (now (marks .entry)))
         (repair-links (between dim (now (vectors .entry))) «repair_degree» entry (ids (cands (now (scratch .entry)) at n)))
-        (arrays dim degree (now (vectors .entry)) (now (targets .exit)) (now (edges .exit)) (now (versions .entry)) (now (marks .entry))) (now (scratch .entry)) base (plan-words degree) (now (scratch .exit)) ⌝ }
+        (arrays dim degree (now (vectors .entry)) (now (targets .exit)) (now (edges .exit)) (now (versions .entry)) (now (marks .entry))) (now (scratch .entry)) base (plan-words degree) (now (scratch .exit)) × Kept dim (now (vectors .entry)) (now (kept .exit)) ⌝ }
 {
     if n == 0 {
         return;
@@ -56,6 +59,7 @@ fn apply_plan(
         degree,
         alpha,
         vectors,
+        kept,
         targets,
         edges,
         versions,
@@ -83,6 +87,56 @@ pub fn attempted(repair_degree: usize, n: usize) -> usize
 }
 
 // Applies the links of `p` plans in order. Plan `j` has its candidates at `plans + 640 * j`, and their number is the third word from `stats + 4 * j` on.
+fn apply_each(
+    dim: usize,
+    degree: usize,
+    alpha: f32,
+    vectors: &[u8],
+    kept: &mut [u32],
+    targets: &mut [u32],
+    edges: &mut [u16],
+    versions: &[u16],
+    marks: &[u8],
+    repair_degree: usize,
+    entry: u32,
+    scratch: &mut [u32],
+    stats: usize,
+    plans: usize,
+    p: usize,
+    base: usize,
+)
+    requires { ⌜ Together (arrays dim degree (now vectors) (now targets) (now edges) (now versions) (now marks)) ⌝ }
+    requires { ⌜ (entry < length (now marks)) × Plans (now marks) (now scratch) stats plans p base × Area degree (now scratch) base × Kept dim (now vectors) (now kept) ⌝ }
+    ensures { λ _. ⌜ Applied alpha (arrays dim degree (now (vectors .entry)) (now (targets .entry)) (now (edges .entry)) (now (versions .entry)) (now (marks .entry)))
+        (plans-at (between dim (now (vectors .entry))) «repair_degree» entry (now (scratch .entry)) stats plans p)
+        (arrays dim degree (now (vectors .entry)) (now (targets .exit)) (now (edges .exit)) (now (versions .entry)) (now (marks .entry))) (now (scratch .entry)) base (plan-words degree) (now (scratch .exit)) × Kept dim (now (vectors .entry)) (now (kept .exit)) ⌝ }
+{
+    let mut j: usize = 0;
+    while j < p {
+        let at = stats + 4 * j + 2;
+        let n = wide(scratch[at]);
+        apply_plan(
+            dim,
+            degree,
+            alpha,
+            vectors,
+            kept,
+            targets,
+            edges,
+            versions,
+            marks,
+            repair_degree,
+            entry,
+            scratch,
+            plans + 640 * j,
+            n,
+            base,
+        );
+        j += 1;
+    }
+}
+
+// The same, with a table of distances, which holds none at first.
 pub fn apply_plans(
     dim: usize,
     degree: usize,
@@ -106,26 +160,23 @@ pub fn apply_plans(
         (plans-at (between dim (now (vectors .entry))) «repair_degree» entry (now (scratch .entry)) stats plans p)
         (arrays dim degree (now (vectors .entry)) (now (targets .exit)) (now (edges .exit)) (now (versions .entry)) (now (marks .entry))) (now (scratch .entry)) base (plan-words degree) (now (scratch .exit)) ⌝ }
 {
-    let mut j: usize = 0;
-    while j < p {
-        let at = stats + 4 * j + 2;
-        let n = wide(scratch[at]);
-        apply_plan(
-            dim,
-            degree,
-            alpha,
-            vectors,
-            targets,
-            edges,
-            versions,
-            marks,
-            repair_degree,
-            entry,
-            scratch,
-            plans + 640 * j,
-            n,
-            base,
-        );
-        j += 1;
-    }
+    let mut kept = [0u32; KEPT_WORDS];
+    apply_each(
+        dim,
+        degree,
+        alpha,
+        vectors,
+        &mut kept,
+        targets,
+        edges,
+        versions,
+        marks,
+        repair_degree,
+        entry,
+        scratch,
+        stats,
+        plans,
+        p,
+        base,
+    );
 }

@@ -12,6 +12,7 @@ ghost use lib.ListN.{length};
 ghost use Rattle.lists.specs.Lists.{All};
 ghost use Rattle.candidates.specs.Candidates.{ids};
 ghost use Rattle.candidates.specs.contracts.Words.{cands};
+ghost use Rattle.distances.specs.contracts.Kept.{Kept};
 ghost use Rattle.slots.specs.Store.{arrays};
 ghost use Rattle.row.specs.Row.{Together};
 ghost use Rattle.repair.specs.Repair.{links};
@@ -91,6 +92,7 @@ fn link_nearest(
     degree: usize,
     alpha: f32,
     vectors: &[u8],
+    kept: &mut [u32],
     targets: &mut [u32],
     edges: &mut [u16],
     versions: &[u16],
@@ -102,10 +104,10 @@ fn link_nearest(
     k: usize,
 )
     requires { ⌜ Together (arrays dim degree (now vectors) (now targets) (now edges) (now versions) (now marks)) ⌝ }
-    requires { ⌜ (x < length (now marks)) × All (λ c. c .id < length (now marks)) (cands (now scratch) base k) × (k ≤ 320) × Area degree (now scratch) base ⌝ }
+    requires { ⌜ (x < length (now marks)) × All (λ c. c .id < length (now marks)) (cands (now scratch) base k) × (k ≤ 320) × Area degree (now scratch) base × Kept dim (now vectors) (now kept) ⌝ }
     ensures { λ _. ⌜ Applied alpha (arrays dim degree (now (vectors .entry)) (now (targets .entry)) (now (edges .entry)) (now (versions .entry)) (now (marks .entry)))
         (links (between dim (now (vectors .entry))) «repair_degree» (ids (cands (now (scratch .entry)) base k)) x)
-        (arrays dim degree (now (vectors .entry)) (now (targets .exit)) (now (edges .exit)) (now (versions .entry)) (now (marks .entry))) (now (scratch .entry)) (base + 1280) (640 + link-words degree) (now (scratch .exit)) ⌝ }
+        (arrays dim degree (now (vectors .entry)) (now (targets .exit)) (now (edges .exit)) (now (versions .entry)) (now (marks .entry))) (now (scratch .entry)) (base + 1280) (640 + link-words degree) (now (scratch .exit)) × Kept dim (now (vectors .entry)) (now (kept .exit)) ⌝ }
 {
     let to = base + 1280;
     score(dim, vectors, x, scratch, base, k, to);
@@ -116,6 +118,7 @@ fn link_nearest(
         degree,
         alpha,
         vectors,
+        kept,
         targets,
         edges,
         versions,
@@ -134,6 +137,7 @@ fn connect(
     degree: usize,
     alpha: f32,
     vectors: &[u8],
+    kept: &mut [u32],
     targets: &mut [u32],
     edges: &mut [u16],
     versions: &[u16],
@@ -145,9 +149,9 @@ fn connect(
     m: usize,
 )
     requires { ⌜ Together (arrays dim degree (now vectors) (now targets) (now edges) (now versions) (now marks)) ⌝ }
-    requires { ⌜ Planned dim (now vectors) (length (now marks)) (now scratch) base k m × (0 < m) × Area degree (now scratch) base ⌝ }
+    requires { ⌜ Planned dim (now vectors) (length (now marks)) (now scratch) base k m × (0 < m) × Area degree (now scratch) base × Kept dim (now vectors) (now kept) ⌝ }
     ensures { λ _. ⌜ Connected alpha (arrays dim degree (now (vectors .entry)) (now (targets .entry)) (now (edges .entry)) (now (versions .entry)) (now (marks .entry)))
-        (arrays dim degree (now (vectors .entry)) (now (targets .exit)) (now (edges .exit)) (now (versions .entry)) (now (marks .entry))) «repair_degree» (now (scratch .entry)) base k m (now (scratch .exit)) ⌝ }
+        (arrays dim degree (now (vectors .entry)) (now (targets .exit)) (now (edges .exit)) (now (versions .entry)) (now (marks .entry))) «repair_degree» (now (scratch .entry)) base k m (now (scratch .exit)) × Kept dim (now (vectors .entry)) (now (kept .exit)) ⌝ }
 {
     let rem = base + 640;
     let i = nearest(scratch, rem, m);
@@ -157,6 +161,7 @@ fn connect(
         degree,
         alpha,
         vectors,
+        kept,
         targets,
         edges,
         versions,
@@ -181,6 +186,7 @@ pub fn span(
     degree: usize,
     alpha: f32,
     vectors: &[u8],
+    kept: &mut [u32],
     targets: &mut [u32],
     edges: &mut [u16],
     versions: &[u16],
@@ -191,10 +197,10 @@ pub fn span(
     n: usize,
 )
     requires { ⌜ Together (arrays dim degree (now vectors) (now targets) (now edges) (now versions) (now marks)) ⌝ }
-    requires { ⌜ Planned dim (now vectors) (length (now marks)) (now scratch) base 1 n × Area degree (now scratch) base ⌝ }
+    requires { ⌜ Planned dim (now vectors) (length (now marks)) (now scratch) base 1 n × Area degree (now scratch) base × Kept dim (now vectors) (now kept) ⌝ }
     ensures { λ _. ⌜ Applied alpha (arrays dim degree (now (vectors .entry)) (now (targets .entry)) (now (edges .entry)) (now (versions .entry)) (now (marks .entry)))
         (span-at dim (now (vectors .entry)) «repair_degree» (now (scratch .entry)) base 1 n n)
-        (arrays dim degree (now (vectors .entry)) (now (targets .exit)) (now (edges .exit)) (now (versions .entry)) (now (marks .entry))) (now (scratch .entry)) base (plan-words degree) (now (scratch .exit)) ⌝ }
+        (arrays dim degree (now (vectors .entry)) (now (targets .exit)) (now (edges .exit)) (now (versions .entry)) (now (marks .entry))) (now (scratch .entry)) base (plan-words degree) (now (scratch .exit)) × Kept dim (now (vectors .entry)) (now (kept .exit)) ⌝ }
 {
     let mut k: usize = 1;
     let mut m = n;
@@ -204,6 +210,7 @@ pub fn span(
             degree,
             alpha,
             vectors,
+            kept,
             targets,
             edges,
             versions,

@@ -6,37 +6,40 @@ use Rattle.links.proofs.link.apply_link.Tie as tie
 
 -- places before the needs below, each named by what was done last there
 abbrev start₁ : tie.After-add-target-arg → tie.Start
-start₁ c = c .before .before .before .before .before .before .before .before .before .before .before .before .before
+start₁ c = c .before .before .before .before .before .before .before .before .before .before .before .before .before .before
 
-abbrev add-target₂ : tie.After-write-pruned-arg3 → tie.After-add-target
-add-target₂ c = c .before .before .before .before .before
+abbrev add-target₂ : tie.After-write-pruned-arg4 → tie.After-add-target
+add-target₂ c = c .before .before .before .before .before .before
 
-abbrev live-scored₂ : tie.After-write-pruned-arg3 → tie.After-live-scored
+abbrev live-scored₂ : tie.After-write-pruned-arg4 → tie.After-live-scored
 live-scored₂ c = add-target₂ c .before .before .before .before
 
-abbrev start₂ : tie.After-write-pruned-arg3 → tie.Start
-start₂ c = live-scored₂ c .before .before .before .before .before .before .before .before .before .before
+abbrev start₂ : tie.After-write-pruned-arg4 → tie.Start
+start₂ c = live-scored₂ c .before .before .before .before .before .before .before .before .before .before .before
 
-abbrev targets₃ : tie.After-slice-known8 → tie.After-targets
+abbrev targets₃ : tie.After-slice-known10 → tie.After-targets
 targets₃ c = c .before .before .before .before .before
 
-abbrev write-pruned₃ : tie.After-slice-known8 → tie.After-write-pruned
-write-pruned₃ c = targets₃ c .before
+abbrev kept₃ : tie.After-slice-known10 → tie.After-kept
+kept₃ c = targets₃ c .before .before
 
-abbrev scratch2₃ : tie.After-slice-known8 → tie.After-scratch2
-scratch2₃ c = write-pruned₃ c .before .before .before .before .before
+abbrev write-pruned₃ : tie.After-slice-known10 → tie.After-write-pruned
+write-pruned₃ c = kept₃ c .before
 
-abbrev add-target₃ : tie.After-slice-known8 → tie.After-add-target
+abbrev scratch2₃ : tie.After-slice-known10 → tie.After-scratch2
+scratch2₃ c = write-pruned₃ c .before .before .before .before .before .before
+
+abbrev add-target₃ : tie.After-slice-known10 → tie.After-add-target
 add-target₃ c = scratch2₃ c .before
 
-abbrev scratch₃ : tie.After-slice-known8 → tie.After-scratch
+abbrev scratch₃ : tie.After-slice-known10 → tie.After-scratch
 scratch₃ c = add-target₃ c .before .before .before
 
-abbrev live-scored₃ : tie.After-slice-known8 → tie.After-live-scored
+abbrev live-scored₃ : tie.After-slice-known10 → tie.After-live-scored
 live-scored₃ c = scratch₃ c .before
 
-abbrev start₃ : tie.After-slice-known8 → tie.Start
-start₃ c = live-scored₃ c .before .before .before .before .before .before .before .before .before .before
+abbrev start₃ : tie.After-slice-known10 → tie.Start
+start₃ c = live-scored₃ c .before .before .before .before .before .before .before .before .before .before .before
 
 live-scored-requires : tie.Need-live-scored-requires
 live-scored-requires c κs = search needs
@@ -54,19 +57,22 @@ add-to-2 : tie.Need-add-to-2
 add-to-2 c = search needs
 
 write-pruned-requires : tie.Need-write-pruned-requires
-write-pruned-requires c κs = let p = (start₂ c) .pre in (p .0, (p .1 .0, link-prunable (p .1 .2) ((live-scored₂ c) .live-scored .ensures) ((add-target₂ c) .add-target .ensures)))
+write-pruned-requires c κs = let p = (start₂ c) .pre in (p .0, (p .1 .0, link-prunable (p .1 .2) ((live-scored₂ c) .live-scored .ensures) ((add-target₂ c) .add-target .ensures), p .1 .3))
 
 same-length : tie.Need-same-length
-same-length c = (targets₃ c) .targets .given
+same-length c = (kept₃ c) .kept .given
 
 same-length-2 : tie.Need-same-length-2
-same-length-2 c = c .before .before .before .edges .given
+same-length-2 c = (targets₃ c) .targets .given
 
 same-length-3 : tie.Need-same-length-3
-same-length-3 c = c .before .scratch3 .given ∙ (scratch2₃ c) .scratch2 .given ∙ (scratch₃ c) .scratch .given
+same-length-3 c = c .before .before .before .edges .given
+
+same-length-4 : tie.Need-same-length-4
+same-length-4 c = c .before .scratch3 .given ∙ (scratch2₃ c) .scratch2 .given ∙ (scratch₃ c) .scratch .given
 
 returns : tie.Need-returns
-returns c = applied-one ((start₃ c) .pre .1 .2) ((live-scored₃ c) .live-scored .ensures) ((add-target₃ c) .add-target .ensures) ((write-pruned₃ c) .write-pruned .ensures)
+returns c = (applied-one ((start₃ c) .pre .1 .2) ((live-scored₃ c) .live-scored .ensures) ((add-target₃ c) .add-target .ensures) ((write-pruned₃ c) .write-pruned .ensures .0), (write-pruned₃ c) .write-pruned .ensures .1)
 
 pub apply-link-spec : {M : Type 1} → statement M
 apply-link-spec =
@@ -81,4 +87,5 @@ apply-link-spec =
     same-length
     same-length-2
     same-length-3
+    same-length-4
     returns)

@@ -6,116 +6,122 @@ use Rattle.links.proofs.plan.apply_plan.Statement.{statement}
 use Rattle.links.proofs.plan.apply_plan.Tie as tie
 
 -- places before the needs below, each named by what was done last there
-abbrev start₁ : tie.Else1 → tie.Start
-start₁ c = c .before .before .before .before .before .before .before
+abbrev start₁ : tie.Then1 → tie.Start
+start₁ c = c .before .before .before .before .before .before .before .before
 
-abbrev start₂ : tie.After-score-arg → tie.Start
+abbrev start₂ : tie.Else1 → tie.Start
 start₂ c = c .before .before .before .before .before .before .before .before
 
-abbrev else1₃ : tie.After-nearest-arg → tie.Else1
-else1₃ c = c .before .before .before .before .before
+abbrev start₃ : tie.After-score-arg → tie.Start
+start₃ c = c .before .before .before .before .before .before .before .before .before
 
-abbrev start₃ : tie.After-nearest-arg → tie.Start
-start₃ c = else1₃ c .before .before .before .before .before .before .before
+abbrev if1₄ : tie.After-nearest-arg → tie.Else1
+if1₄ c = c .before .before .before .before .before
 
-abbrev id-at₄ : tie.After-score-arg2 → tie.After-id-at
-id-at₄ c = c .before .before .before .before .before
+abbrev start₄ : tie.After-nearest-arg → tie.Start
+start₄ c = if1₄ c .before .before .before .before .before .before .before .before
 
-abbrev nearest₄ : tie.After-score-arg2 → tie.After-nearest
-nearest₄ c = id-at₄ c .before .before
+abbrev id-at₅ : tie.After-score-arg2 → tie.After-id-at
+id-at₅ c = c .before .before .before .before .before
 
-abbrev score₄ : tie.After-score-arg2 → tie.After-score
-score₄ c = nearest₄ c .before .before .before .before
-
-abbrev start₄ : tie.After-score-arg2 → tie.Start
-start₄ c = score₄ c .before .before .before .before .before .before .before .before .before
-
-abbrev put₅ : tie.After-keep-valid-arg → tie.After-put
-put₅ c = c .before .before .before .before .before .before .before
-
-abbrev id-at₅ : tie.After-keep-valid-arg → tie.After-id-at
-id-at₅ c = put₅ c .before .before
-
-abbrev nearest₅ : tie.After-keep-valid-arg → tie.After-nearest
+abbrev nearest₅ : tie.After-score-arg2 → tie.After-nearest
 nearest₅ c = id-at₅ c .before .before
 
-abbrev score₅ : tie.After-keep-valid-arg → tie.After-score
+abbrev score₅ : tie.After-score-arg2 → tie.After-score
 score₅ c = nearest₅ c .before .before .before .before
 
-abbrev start₅ : tie.After-keep-valid-arg → tie.Start
-start₅ c = score₅ c .before .before .before .before .before .before .before .before .before
+abbrev start₅ : tie.After-score-arg2 → tie.Start
+start₅ c = score₅ c .before .before .before .before .before .before .before .before .before .before
 
-abbrev keep-valid₆ : tie.After-span-arg3 → tie.After-keep-valid
-keep-valid₆ c = c .before .before .before .before .before
+abbrev put₆ : tie.After-keep-valid-arg → tie.After-put
+put₆ c = c .before .before .before .before .before .before .before
 
-abbrev score2₆ : tie.After-span-arg3 → tie.After-score2
-score2₆ c = keep-valid₆ c .before .before .before .before
-
-abbrev put₆ : tie.After-span-arg3 → tie.After-put
-put₆ c = score2₆ c .before .before .before .before
-
-abbrev id-at₆ : tie.After-span-arg3 → tie.After-id-at
+abbrev id-at₆ : tie.After-keep-valid-arg → tie.After-id-at
 id-at₆ c = put₆ c .before .before
 
-abbrev nearest₆ : tie.After-span-arg3 → tie.After-nearest
+abbrev nearest₆ : tie.After-keep-valid-arg → tie.After-nearest
 nearest₆ c = id-at₆ c .before .before
 
-abbrev score₆ : tie.After-span-arg3 → tie.After-score
+abbrev score₆ : tie.After-keep-valid-arg → tie.After-score
 score₆ c = nearest₆ c .before .before .before .before
 
-abbrev start₆ : tie.After-span-arg3 → tie.Start
-start₆ c = score₆ c .before .before .before .before .before .before .before .before .before
+abbrev start₆ : tie.After-keep-valid-arg → tie.Start
+start₆ c = score₆ c .before .before .before .before .before .before .before .before .before .before
 
-abbrev targets₇ : tie.After-slice-known10 → tie.After-targets
-targets₇ c = c .before .before .before .before .before
+abbrev keep-valid₇ : tie.After-span-arg4 → tie.After-keep-valid
+keep-valid₇ c = c .before .before .before .before .before .before
 
-abbrev span₇ : tie.After-slice-known10 → tie.After-span
-span₇ c = targets₇ c .before
+abbrev score2₇ : tie.After-span-arg4 → tie.After-score2
+score2₇ c = keep-valid₇ c .before .before .before .before
 
-abbrev scratch4₇ : tie.After-slice-known10 → tie.After-scratch4
-scratch4₇ c = span₇ c .before .before .before .before .before
+abbrev put₇ : tie.After-span-arg4 → tie.After-put
+put₇ c = score2₇ c .before .before .before .before
 
-abbrev keep-valid₇ : tie.After-slice-known10 → tie.After-keep-valid
-keep-valid₇ c = scratch4₇ c .before
-
-abbrev scratch3₇ : tie.After-slice-known10 → tie.After-scratch3
-scratch3₇ c = keep-valid₇ c .before .before .before
-
-abbrev score2₇ : tie.After-slice-known10 → tie.After-score2
-score2₇ c = scratch3₇ c .before
-
-abbrev scratch2₇ : tie.After-slice-known10 → tie.After-scratch2
-scratch2₇ c = score2₇ c .before .before .before
-
-abbrev put₇ : tie.After-slice-known10 → tie.After-put
-put₇ c = scratch2₇ c .before
-
-abbrev id-at₇ : tie.After-slice-known10 → tie.After-id-at
+abbrev id-at₇ : tie.After-span-arg4 → tie.After-id-at
 id-at₇ c = put₇ c .before .before
 
-abbrev nearest₇ : tie.After-slice-known10 → tie.After-nearest
+abbrev nearest₇ : tie.After-span-arg4 → tie.After-nearest
 nearest₇ c = id-at₇ c .before .before
 
-abbrev scratch₇ : tie.After-slice-known10 → tie.After-scratch
-scratch₇ c = nearest₇ c .before .before .before
+abbrev score₇ : tie.After-span-arg4 → tie.After-score
+score₇ c = nearest₇ c .before .before .before .before
 
-abbrev score₇ : tie.After-slice-known10 → tie.After-score
-score₇ c = scratch₇ c .before
+abbrev start₇ : tie.After-span-arg4 → tie.Start
+start₇ c = score₇ c .before .before .before .before .before .before .before .before .before .before
 
-abbrev start₇ : tie.After-slice-known10 → tie.Start
-start₇ c = score₇ c .before .before .before .before .before .before .before .before .before
+abbrev targets₈ : tie.After-slice-known12 → tie.After-targets
+targets₈ c = c .before .before .before .before .before
+
+abbrev kept₈ : tie.After-slice-known12 → tie.After-kept
+kept₈ c = targets₈ c .before .before
+
+abbrev span₈ : tie.After-slice-known12 → tie.After-span
+span₈ c = kept₈ c .before
+
+abbrev scratch4₈ : tie.After-slice-known12 → tie.After-scratch4
+scratch4₈ c = span₈ c .before .before .before .before .before .before
+
+abbrev keep-valid₈ : tie.After-slice-known12 → tie.After-keep-valid
+keep-valid₈ c = scratch4₈ c .before
+
+abbrev scratch3₈ : tie.After-slice-known12 → tie.After-scratch3
+scratch3₈ c = keep-valid₈ c .before .before .before
+
+abbrev score2₈ : tie.After-slice-known12 → tie.After-score2
+score2₈ c = scratch3₈ c .before
+
+abbrev scratch2₈ : tie.After-slice-known12 → tie.After-scratch2
+scratch2₈ c = score2₈ c .before .before .before
+
+abbrev put₈ : tie.After-slice-known12 → tie.After-put
+put₈ c = scratch2₈ c .before
+
+abbrev id-at₈ : tie.After-slice-known12 → tie.After-id-at
+id-at₈ c = put₈ c .before .before
+
+abbrev nearest₈ : tie.After-slice-known12 → tie.After-nearest
+nearest₈ c = id-at₈ c .before .before
+
+abbrev scratch₈ : tie.After-slice-known12 → tie.After-scratch
+scratch₈ c = nearest₈ c .before .before .before
+
+abbrev score₈ : tie.After-slice-known12 → tie.After-score
+score₈ c = scratch₈ c .before
+
+abbrev start₈ : tie.After-slice-known12 → tie.Start
+start₈ c = score₈ c .before .before .before .before .before .before .before .before .before .before
 
 returns : tie.Need-returns
-returns c = plan-none _ _ _ _ _ _ _ _ _ _ (c .if1 .taken)
+returns c = (plan-none _ _ _ _ _ _ _ _ _ _ (c .if1 .taken), (start₁ c) .pre .1 .4)
 
 add-to : tie.Need-add-to
-add-to c = omega (arith, (start₁ c) .pre .1 .3 .below)
+add-to c = omega (arith, (start₂ c) .pre .1 .3 .below)
 
 score-requires : tie.Need-score-requires
-score-requires c κs = let p = (start₂ c) .pre in plan-ready (p .0) (p .1 .0) (p .1 .1) (p .1 .2) (p .1 .3)
+score-requires c κs = let p = (start₃ c) .pre in plan-ready (p .0) (p .1 .0) (p .1 .1) (p .1 .2) (p .1 .3)
 
 nearest-requires : tie.Need-nearest-requires
-nearest-requires c κs = omega (arith, (else1₃ c) .if1 .left, c .before .before .before .score .ensures .size, (start₃ c) .pre .1 .1 .few, (start₃ c) .pre .1 .3 .inside)
+nearest-requires c κs = omega (arith, (if1₄ c) .if1 .left, c .before .before .before .score .ensures .size, (start₄ c) .pre .1 .1 .few, (start₄ c) .pre .1 .3 .inside)
 
 id-at-requires : tie.Need-id-at-requires
 id-at-requires c κs = search needs
@@ -127,25 +133,28 @@ add-rem : tie.Need-add-rem
 add-rem c = search needs
 
 score-requires-2 : tie.Need-score-requires-2
-score-requires-2 c κs = let p = (start₄ c) .pre in plan-remain (p .0) (p .1 .0) (p .1 .1) (p .1 .2) (p .1 .3) ((score₄ c) .score .ensures) ((nearest₄ c) .nearest .ensures) ((id-at₄ c) .id-at .ensures) (c .before .before .before .put .ensures)
+score-requires-2 c κs = let p = (start₅ c) .pre in plan-remain (p .0) (p .1 .0) (p .1 .1) (p .1 .2) (p .1 .3) ((score₅ c) .score .ensures) ((nearest₅ c) .nearest .ensures) ((id-at₅ c) .id-at .ensures) (c .before .before .before .put .ensures)
 
 keep-valid-requires : tie.Need-keep-valid-requires
-keep-valid-requires c κs = let p = (start₅ c) .pre in plan-kept (p .0) (p .1 .0) (p .1 .1) (p .1 .2) (p .1 .3) ((score₅ c) .score .ensures) ((nearest₅ c) .nearest .ensures) ((id-at₅ c) .id-at .ensures) ((put₅ c) .put .ensures) (c .before .before .before .score2 .ensures)
+keep-valid-requires c κs = let p = (start₆ c) .pre in plan-kept (p .0) (p .1 .0) (p .1 .1) (p .1 .2) (p .1 .3) ((score₆ c) .score .ensures) ((nearest₆ c) .nearest .ensures) ((id-at₆ c) .id-at .ensures) ((put₆ c) .put .ensures) (c .before .before .before .score2 .ensures)
 
 span-requires : tie.Need-span-requires
-span-requires c κs = let p = (start₆ c) .pre in (p .0, plan-planned (p .0) (p .1 .0) (p .1 .1) (p .1 .2) (p .1 .3) ((score₆ c) .score .ensures) ((nearest₆ c) .nearest .ensures) ((id-at₆ c) .id-at .ensures) ((put₆ c) .put .ensures) ((score2₆ c) .score2 .ensures) ((keep-valid₆ c) .keep-valid .ensures))
+span-requires c κs = let p = (start₇ c) .pre in let e = plan-planned (p .0) (p .1 .0) (p .1 .1) (p .1 .2) (p .1 .3) ((score₇ c) .score .ensures) ((nearest₇ c) .nearest .ensures) ((id-at₇ c) .id-at .ensures) ((put₇ c) .put .ensures) ((score2₇ c) .score2 .ensures) ((keep-valid₇ c) .keep-valid .ensures) in (p .0, (e .0, e .1, p .1 .4))
 
 same-length : tie.Need-same-length
-same-length c = (targets₇ c) .targets .given
+same-length c = (kept₈ c) .kept .given
 
 same-length-2 : tie.Need-same-length-2
-same-length-2 c = c .before .before .before .edges .given
+same-length-2 c = (targets₈ c) .targets .given
 
 same-length-3 : tie.Need-same-length-3
-same-length-3 c = c .before .scratch5 .given ∙ (scratch4₇ c) .scratch4 .given ∙ (scratch3₇ c) .scratch3 .given ∙ (scratch2₇ c) .scratch2 .given ∙ (scratch₇ c) .scratch .given
+same-length-3 c = c .before .before .before .edges .given
+
+same-length-4 : tie.Need-same-length-4
+same-length-4 c = c .before .scratch5 .given ∙ (scratch4₈ c) .scratch4 .given ∙ (scratch3₈ c) .scratch3 .given ∙ (scratch2₈ c) .scratch2 .given ∙ (scratch₈ c) .scratch .given
 
 returns-2 : tie.Need-returns-2
-returns-2 c = let p = (start₇ c) .pre in plan-done (p .0) (p .1 .0) (p .1 .1) (p .1 .2) (p .1 .3) ((score₇ c) .score .ensures) ((nearest₇ c) .nearest .ensures) ((id-at₇ c) .id-at .ensures) ((put₇ c) .put .ensures) ((score2₇ c) .score2 .ensures) ((keep-valid₇ c) .keep-valid .ensures) _ ((span₇ c) .span .ensures)
+returns-2 c = let p = (start₈ c) .pre in (plan-done (p .0) (p .1 .0) (p .1 .1) (p .1 .2) (p .1 .3) ((score₈ c) .score .ensures) ((nearest₈ c) .nearest .ensures) ((id-at₈ c) .id-at .ensures) ((put₈ c) .put .ensures) ((score2₈ c) .score2 .ensures) ((keep-valid₈ c) .keep-valid .ensures) _ ((span₈ c) .span .ensures .0), (span₈ c) .span .ensures .1)
 
 pub apply-plan-spec : {M : Type 1} → statement M
 apply-plan-spec =
@@ -164,4 +173,5 @@ apply-plan-spec =
     same-length
     same-length-2
     same-length-3
+    same-length-4
     returns-2)
