@@ -5,9 +5,10 @@ use mathlib.Core.Path.{_≡_, refl, ap, sym, _∙_}
 use mathlib.Core.Logic.{inl}
 use mathlib.Core.List.{List, [], _∷_, _++_}
 use native.Mathlib.Omega.{arith}
+use lib.Dec.{eqb}
 use lib.Ieee.{Float}
 use lib.ListN.{length}
-use Rattle.lists.specs.Lists.{elem, foldl}
+use Rattle.lists.specs.Lists.{elem, filter, foldl}
 use Rattle.lists.proofs.All.{all-append}
 use Rattle.lists.proofs.Parts.{fits-in}
 use Rattle.lists.proofs.Ranges.{foldl-append}
@@ -22,7 +23,7 @@ use Rattle.prune.specs.Prune.{prune}
 use Rattle.row.specs.Row.{Together, index-of, LiveScored, Prunable, WrotePruned}
 use Rattle.repair.specs.Repair.{Link, insert-and-prune}
 use Rattle.repair.proofs.Sources.{both-ways}
-use Rattle.links.specs.contracts.Linking.{between, apply-link, link, links-at, link-words, Room, Ends, Joined, Applied}
+use Rattle.links.specs.contracts.Linking.{between, apply-link, link, pairs-of, from, by-source, link-words, Room, Pairs, Joined, Applied, BySource}
 
 -- ---- a target is added; u and x are s and t as indices
 pub vectors-in : {a : Arrays} → Together a → (s t : ℕ) → s < length (a .marks) → t < length (a .marks)
@@ -129,50 +130,110 @@ applied-then {alpha} {a} {ls = ls} {ls₁ = ls₁} {w = w} {at = at} {k = k} {w�
 abbrev pub with-rows : Arrays → List ℕ → List ℕ → Arrays
 with-rows a targets edges = arrays (a .dim) (a .degree) (a .vectors) targets edges (a .versions) (a .marks)
 
--- the links of x and the first i of n candidates at `to` are applied
-pub record Linked (alpha : Float) (a : Arrays) (x : ℕ) (w₀ : List ℕ) (to n at : ℕ) (targets edges w : List ℕ) (i : ℕ) : Type 0 where
+-- ---- links of one source
+module _ (s : ℕ) where
+  pub from-append : (ks ls : List Link) → from s (ks ++ ls) ≡ from s ks ++ from s ls
+  from-append [] ls = refl
+  from-append (k ∷ ks) ls = go (eqb (k .source) s) (from-append ks ls)
+    where
+      go : (b : Bool) → from s (ks ++ ls) ≡ from s ks ++ from s ls → cond b (k ∷ from s (ks ++ ls)) (from s (ks ++ ls)) ≡ cond b (k ∷ from s ks) (from s ks) ++ from s ls
+      go true r = ap (λ (l : List Link). k ∷ l) r
+      go false r = r
+
+  module _ {alpha : Float} {a a′ : Arrays} {x p : ℕ} {w : List ℕ} {at k : ℕ} {w′ : List ℕ} where
+    pub from-one : eqb x s ≡ true → Applied alpha a (link x p ∷ []) a′ w at k w′ → Applied alpha a (from s (link x p ∷ [])) a′ w at k w′
+    from-one e f = rw e f
+
+  pub from-none : (alpha : Float) (a : Arrays) (x p : ℕ) (w : List ℕ) (at k : ℕ) → eqb x s ≡ false → Applied alpha a (from s (link x p ∷ [])) a w at k w
+  from-none alpha a x p w at k e = rw e (record { does = λ entry. refl; size = refl; same = outside-none at k w })
+
+  pub from-pair : {alpha : Float} {a a₁ a₂ : Arrays} (x p : ℕ) {w : List ℕ} {at k : ℕ} {w₁ w₂ : List ℕ}
+      → Applied alpha a (from s (link x p ∷ [])) a₁ w at k w₁ → Applied alpha a₁ (from s (link p x ∷ [])) a₂ w₁ at k w₂ → Applied alpha a (from s (both-ways x p)) a₂ w at k w₂
+  from-pair x p f g = rw (from-append (link x p ∷ []) (link p x ∷ [])) (applied-then f g)
+
+-- of the n pairs the links of the first i from s are applied
+pub record Linked (alpha : Float) (a : Arrays) (s : ℕ) (pairs : List ℕ) (n at : ℕ) (w₀ targets edges w : List ℕ) (i : ℕ) : Type 0 where
   pub bound : i ≤ n
-  pub goes : (entry : ℕ) → foldl apply-link (index-of alpha entry (with-rows a targets edges)) (links-at x w₀ (to + 2 * i) (n - i)) ≡ foldl apply-link (index-of alpha entry a) (links-at x w₀ to n)
+  pub goes : (entry : ℕ) → foldl apply-link (index-of alpha entry (with-rows a targets edges)) (from s (pairs-of pairs (0 + 2 * i) (n - i))) ≡ foldl apply-link (index-of alpha entry a) (from s (pairs-of pairs 0 n))
   pub targets-long : length targets ≡ length (a .targets)
   pub edges-long : length edges ≡ length (a .edges)
   pub size : length w ≡ length w₀
   pub same : Outside at (link-words (a .degree)) w₀ w
 
-pub linked-none : (alpha : Float) (a : Arrays) (x : ℕ) (w : List ℕ) (to n at : ℕ) → Linked alpha a x w to n at (a .targets) (a .edges) w 0
-linked-none alpha a x w to n at =
-    let e : to + 2 * 0 ≡ to = omega arith in
+pub linked-none : (alpha : Float) (a : Arrays) (s : ℕ) (pairs : List ℕ) (n at : ℕ) (w : List ℕ) → Linked alpha a s pairs n at w (a .targets) (a .edges) w 0
+linked-none alpha a s pairs n at w =
+    let e : 0 + 2 * 0 ≡ 0 = omega arith in
     let z : n - 0 ≡ n = omega arith in
     record { bound = omega arith; goes = λ entry. rw (e, z); targets-long = refl; edges-long = refl; size = refl; same = outside-none at (link-words (a .degree)) w }
 
-module _ {alpha : Float} {a : Arrays} {x : ℕ} {w₀ : List ℕ} {to n at : ℕ} {targets edges w : List ℕ} {i : ℕ} (f : Linked alpha a x w₀ to n at targets edges w i) where
-  -- the candidates lie before the words that change
-  linked-cand : to + 2 * n ≤ at → i < n → cand w (to + 2 * i) ≡ cand w₀ (to + 2 * i)
-  linked-cand l h =
-      rw (f .same (to + 2 * i) (λ (k : at ≤ to + 2 * i). absurd (omega arith)), f .same (to + 2 * i + 1) (λ (k : at ≤ to + 2 * i + 1). absurd (omega arith)))
-
-  module _ (k : Ends (length (a .marks)) x w₀ to n at) (h : i < n) {p : ℕ} (e : p ≡ cand w (to + 2 * i) .id) where
-    parent : p ≡ cand w₀ (to + 2 * i) .id
-    parent = e ∙ ap (λ (c : Candidate). c .id) (linked-cand (k .apart) h)
-
-    pub linked-inside : p < length (a .marks)
-    linked-inside = rw parent (cands-each (λ c. c .id < length (a .marks)) w₀ to n (k .inside) i h)
+module _ {alpha : Float} {a : Arrays} {s : ℕ} {pairs : List ℕ} {n at : ℕ} {w₀ targets edges w : List ℕ} {i : ℕ} (f : Linked alpha a s pairs n at w₀ targets edges w i) where
+  module _ (k : Pairs (length (a .marks)) pairs n) (h : i < n) {x p : ℕ} (ex : x ≡ cand pairs (0 + 2 * i) .dist) (ep : p ≡ cand pairs (0 + 2 * i) .id) where
+    pub linked-inside : (x < length (a .marks)) × (p < length (a .marks))
+    linked-inside = rw (ex, ep) (cands-each (λ c. (c .dist < length (a .marks)) × (c .id < length (a .marks))) pairs 0 n (k .slots-in) i h)
 
     pub linked-more : {targets′ edges′ w′ : List ℕ} → length targets′ ≡ length targets → length edges′ ≡ length edges
-        → Applied alpha (with-rows a targets edges) (both-ways x p) (with-rows a targets′ edges′) w at (link-words (a .degree)) w′ → Linked alpha a x w₀ to n at targets′ edges′ w′ (i + 1)
+        → Applied alpha (with-rows a targets edges) (from s (both-ways x p)) (with-rows a targets′ edges′) w at (link-words (a .degree)) w′ → Linked alpha a s pairs n at w₀ targets′ edges′ w′ (i + 1)
     linked-more {w′ = w′} lt le g =
+        let rest = pairs-of pairs (0 + 2 * (i + 1)) (n - (i + 1)) in
+        let q : both-ways x p ++ rest ≡ pairs-of pairs (0 + 2 * i) (n - i) = rw (cands-cons pairs 0 n i h, ex, ep) in
         record {
           bound = omega arith;
-          goes = λ entry. rw (g .does entry, parent) (rw (cands-cons w₀ to n i h) at (f .goes entry));
+          goes = λ entry.
+              ap (λ (b : Store). foldl apply-link b (from s rest)) (g .does entry)
+              ∙ sym (foldl-append apply-link (index-of alpha entry (with-rows a targets edges)) (from s (both-ways x p)) (from s rest))
+              ∙ ap (foldl apply-link (index-of alpha entry (with-rows a targets edges))) (sym (from-append s (both-ways x p) rest) ∙ ap (from s) q)
+              ∙ f .goes entry;
           targets-long = lt ∙ f .targets-long;
           edges-long = le ∙ f .edges-long;
           size = g .size ∙ f .size;
           same = outside-then at (link-words (a .degree)) w₀ w w′ (f .same) (g .same);
         }
 
-  pub linked-done : n ≤ i → Applied alpha a (links-at x w₀ to n) (with-rows a targets edges) w₀ at (link-words (a .degree)) w
+  pub linked-done : n ≤ i → Applied alpha a (from s (pairs-of pairs 0 n)) (with-rows a targets edges) w₀ at (link-words (a .degree)) w
   linked-done h =
       let z : n - i ≡ 0 = omega arith in
-      record { does = λ entry. rw (cands-none w₀ (to + 2 * i) (n - i) z) at (f .goes entry); size = f .size; same = f .same }
+      record { does = λ entry. rw (cands-none pairs (0 + 2 * i) (n - i) z) at (f .goes entry); size = f .size; same = f .same }
 
   pub linked-room : Room (a .degree) w₀ at → Room (a .degree) w at
   linked-room l = record { inside = omega (arith, l .inside, f .size); below = l .below }
+
+-- ---- source after source: those of the first i of the m candidates at `from` are done
+pub record Sourced (alpha : Float) (a : Arrays) (ls : List Link) (w₀ : List ℕ) (from m at : ℕ) (targets edges w : List ℕ) (i : ℕ) : Type 0 where
+  pub bound : i ≤ m
+  pub goes : (entry : ℕ) → foldl (by-source ls) (index-of alpha entry (with-rows a targets edges)) (ids (cands w₀ (from + 2 * i) (m - i))) ≡ foldl (by-source ls) (index-of alpha entry a) (ids (cands w₀ from m))
+  pub targets-long : length targets ≡ length (a .targets)
+  pub edges-long : length edges ≡ length (a .edges)
+  pub size : length w ≡ length w₀
+  pub same : Outside at (link-words (a .degree)) w₀ w
+
+pub sourced-none : (alpha : Float) (a : Arrays) (ls : List Link) (w : List ℕ) (from m at : ℕ) → Sourced alpha a ls w from m at (a .targets) (a .edges) w 0
+sourced-none alpha a ls w from m at =
+    let e : from + 2 * 0 ≡ from = omega arith in
+    let z : m - 0 ≡ m = omega arith in
+    record { bound = omega arith; goes = λ entry. rw (e, z); targets-long = refl; edges-long = refl; size = refl; same = outside-none at (link-words (a .degree)) w }
+
+module _ {alpha : Float} {a : Arrays} {ls : List Link} {w₀ : List ℕ} {from m at : ℕ} {targets edges w : List ℕ} {i : ℕ} (f : Sourced alpha a ls w₀ from m at targets edges w i) where
+  pub sourced-more : from + 2 * m ≤ at → i < m → {s : ℕ} → s ≡ cand w (from + 2 * i) .id → {targets′ edges′ w′ : List ℕ} → length targets′ ≡ length targets → length edges′ ≡ length edges
+      → Applied alpha (with-rows a targets edges) (filter (λ l. eqb (l .source) s) ls) (with-rows a targets′ edges′) w at (link-words (a .degree)) w′ → Sourced alpha a ls w₀ from m at targets′ edges′ w′ (i + 1)
+  sourced-more l h {s} e {w′ = w′} lt le g =
+      let z : s ≡ cand w₀ (from + 2 * i) .id = e ∙ f .same (from + 2 * i + 1) (λ (k : at ≤ from + 2 * i + 1). absurd (omega arith)) in
+      record {
+        bound = omega arith;
+        goes = λ entry.
+            ap (λ (b : Store). foldl (by-source ls) b (ids (cands w₀ (from + 2 * (i + 1)) (m - (i + 1))))) (g .does entry)
+            ∙ ap (λ (t : ℕ). foldl (by-source ls) (index-of alpha entry (with-rows a targets edges)) (t ∷ ids (cands w₀ (from + 2 * (i + 1)) (m - (i + 1))))) z
+            ∙ ap (λ (c : List Candidate). foldl (by-source ls) (index-of alpha entry (with-rows a targets edges)) (ids c)) (sym (cands-cons w₀ from m i h))
+            ∙ f .goes entry;
+        targets-long = lt ∙ f .targets-long;
+        edges-long = le ∙ f .edges-long;
+        size = g .size ∙ f .size;
+        same = outside-then at (link-words (a .degree)) w₀ w w′ (f .same) (g .same);
+      }
+
+  pub sourced-done : m ≤ i → BySource alpha a ls (ids (cands w₀ from m)) (with-rows a targets edges) w₀ at (link-words (a .degree)) w
+  sourced-done h =
+      let z : m - i ≡ 0 = omega arith in
+      record { does = λ entry. rw (cands-none w₀ (from + 2 * i) (m - i) z) at (f .goes entry); size = f .size; same = f .same }
+
+  pub sourced-room : Room (a .degree) w₀ at → Room (a .degree) w at
+  sourced-room l = record { inside = omega (arith, l .inside, f .size); below = l .below }

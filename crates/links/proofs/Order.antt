@@ -11,6 +11,7 @@ use lib.Seq.{take-all}
 use Rattle.lists.specs.Lists.{All, foldl, elem}
 use Rattle.lists.proofs.All.{all-map}
 use Rattle.lists.proofs.Filtered.{filter-all}
+use Rattle.lists.proofs.Unique.{Unique}
 use Rattle.vectors.specs.Space.{slot-distance}
 use Rattle.candidates.specs.Candidates.{Candidate, scored}
 use Rattle.candidates.proofs.Scored.{ids-length, all-ids}
@@ -23,8 +24,8 @@ use Rattle.slots.proofs.Writes.{Writes, Whole, after-write, store-writes, neigh
 use Rattle.prune.specs.Prune.{prune}
 use Rattle.prune.proofs.Chosen.{chosen-live, chosen-few}
 use Rattle.repair.specs.Repair.{Link, insert-and-prune, repaired-row, repaired-rows}
-use Rattle.links.specs.contracts.Linking.{apply-link}
-use Rattle.links.proofs.Queue.{all-set, link-sources, Reads, final, in-order}
+use Rattle.links.specs.contracts.Linking.{apply-link, by-source}
+use Rattle.links.proofs.Queue.{all-set, link-sources, Reads, final, in-order, in-turn}
 
 -- an index of n slots, its slices in shape
 record Sized (n : ℕ) (b : Store) : Type 0 where
@@ -86,6 +87,14 @@ module _ (n : ℕ) (few : n ≤ 65536) where
       let f = final (Sized n) (store-ops .write) writes read grow (λ s. s < n) reads b ls in
       in-order (Sized n) (store-ops .write) writes read grow (λ s. s < n) reads b ls k o
       ∙ sym (all-set (Sized n) (store-ops .write) writes f b (link-sources ls) k)
+
+  one-source-at-a-time : (b : Store) (ls : List Link) (ss : List ℕ) → Sized n b → Unique ss → All (λ l. elem (l .source) ss ≡ true) ls → foldl (by-source ls) b ss ≡ foldl apply-link b ls
+  unfolding apply-link
+  one-source-at-a-time b ls ss k u o = in-turn (Sized n) (store-ops .write) writes read grow (λ s. s < n) reads ss ls b k u o
+
+-- links applied source by source
+pub sources-in-turn : (b : Store) (ls : List Link) (ss : List ℕ) → Whole b → b .capacity ≤ 65536 → Unique ss → All (λ l. elem (l .source) ss ≡ true) ls → foldl (by-source ls) b ss ≡ foldl apply-link b ls
+sources-in-turn b ls ss k few u o = one-source-at-a-time (b .capacity) few b ls ss (record { whole = k; size = refl }) u o
 
 -- the links of all plans, applied one after the other
 pub links-in-order : (b : Store) (ls : List Link) → Whole b → b .capacity ≤ 65536 → All (λ l. l .source < b .capacity) ls

@@ -1,16 +1,18 @@
 -- The links of a whole plan, and of one plan after the other. Assumes nothing.
 use Prim.Native.Nat.{ℕ, zero, suc, _+_, _-_, _*_, _≤_, _<_}
-use mathlib.Core.Bool.{Bool, true, false, cond, not, _&&_}
+use mathlib.Core.Bool.{Bool, true, false, cond, not, _&&_, _||_}
 use mathlib.Core.Path.{_≡_, refl, ap, ap₂, sym, _∙_, subst}
 use mathlib.Core.List.{List, [], _∷_, map-id}
 use native.Mathlib.Numerals.{add-one}
 use native.Mathlib.Omega.{arith}
+use borrow.Author.Tests.{eq-eqb}
 use lib.Dec.{eqb}
 use lib.Ieee.{Float}
 use lib.ListN.{length}
-use Rattle.lists.specs.Lists.{All, filter, foldl, concat-map, range, least-from, least-of}
+use Rattle.lists.specs.Lists.{All, elem, filter, foldl, concat-map, range, least-from, least-of}
 use Rattle.lists.proofs.All.{all-map, all-filter}
 use Rattle.lists.proofs.Filtered.{filter-among}
+use Rattle.lists.proofs.Parts.{fits-in}
 use Rattle.lists.proofs.Ranges.{foldl-append}
 use Rattle.lists.proofs.Unique.{Unique, unique-filter}
 use Rattle.candidates.specs.Candidates.{Candidate, scored, ids}
@@ -20,13 +22,16 @@ use Rattle.candidates.proofs.Scored.{ids-scored, ids-length, all-scored, all-id
 use Rattle.slots.specs.Store.{Arrays, Store, is-valid}
 use Rattle.slots.proofs.Places.{live-inside}
 use Rattle.row.specs.Row.{Together, index-of}
+use Rattle.row.proofs.Kept.{together-shaped}
 use Rattle.repair.specs.Repair.{span, repair-links}
+use Rattle.repair.proofs.Sources.{both-ways, repair-sources}
 use Rattle.repair.proofs.Span.{span-enough, others-fewer, repair-enough}
-use Rattle.links.specs.contracts.Linking.{between, apply-link, Applied}
-use Rattle.links.specs.contracts.Planning.{Stored, Behind, Nearest, Scored, plan-words, Area, Planned, span-at, Plan, count-at, Plans, plan-at, plans-at}
+use Rattle.links.specs.contracts.Linking.{between, apply-link, pairs-of, by-source, link-words, Room, Pairs, Applied, BySource}
+use Rattle.links.specs.contracts.Planning.{Stored, Behind, Nearest, Scored, plan-words, Area, Plot, Planned, Spanned, Plan, count-at, Plans, plan-at, plans-at}
 use Rattle.links.proofs.Linking.{with-rows}
 use Rattle.links.proofs.Swapping.{unique-apart}
-use Rattle.links.proofs.Spanning.{least-ids, stored-in}
+use Rattle.links.proofs.Spanning.{least-ids}
+use Rattle.links.proofs.Order.{sources-in-turn}
 
 -- ---- the start
 scored-dists : (f : ℕ → ℕ) (l : List ℕ) → All (λ c. c .dist ≡ f (c .id)) (scored f l)
@@ -94,6 +99,30 @@ unique-others p l u = rw (map-id (filter p l)) at (unique-filter (λ x. x) p l (
 pub plan-none : (alpha : Float) (a : Arrays) (d : ℕ → ℕ → ℕ) (repair-degree entry : ℕ) (w : List ℕ) (at n base k : ℕ) → n ≡ 0 → Applied alpha a (repair-links d repair-degree entry (ids (cands w at n))) a w base k w
 unfolding repair-links cands
 plan-none alpha a d repair-degree entry w at n base k e = record { does = λ entry. rw e; size = refl; same = outside-none base k w }
+
+stored-in : {a : Arrays} → Together a → {w : List ℕ} {at n : ℕ} → All (λ c. c .id < length (a .marks)) (cands w at n) → {y : ℕ} → y < length (a .marks) → at + 2 * n ≤ length w
+    → Stored (a .dim) (a .vectors) y w at n
+stored-in {a} o {w} {at} {n} h {y} k l =
+    record {
+      short = o .bytes .small;
+      own = fits-in (a .dim) (length (a .marks)) y (length (a .vectors)) k (o .bytes .long);
+      stored = all-map (λ c. c .id < length (a .marks)) (λ c. c .id * a .dim + a .dim ≤ length (a .vectors))
+          (λ c i. fits-in (a .dim) (length (a .marks)) (c .id) (length (a .vectors)) i (o .bytes .long)) (cands w at n) h;
+      inside = l;
+    }
+
+-- both slots of a pair are sources
+pairs-sources : (P : ℕ → Type 0) (l : List Candidate) → All (λ e. P (e .source)) (concat-map (λ c. both-ways (c .dist) (c .id)) l) → All (λ c. P (c .dist) × P (c .id)) l
+pairs-sources P [] h = tt
+pairs-sources P (c ∷ l) h = ((h .0, h .1 .0), pairs-sources P l (h .1 .1))
+
+each-in : (l : List ℕ) → All (λ x. elem x l ≡ true) l
+each-in [] = tt
+each-in (x ∷ l) = (rw (eq-eqb x x refl), all-map (λ y. elem y l ≡ true) (λ y. elem y (x ∷ l) ≡ true) (λ y e. rw e (or-true (eqb y x))) l (each-in l))
+  where
+    or-true : (b : Bool) → b || true ≡ true
+    or-true true = refl
+    or-true false = refl
 
 module _ {a : Arrays} {w : List ℕ} {entry at n base : ℕ} (o : Together a) (he : entry < length (a .marks)) (p : Plan (a .marks) w at n) (below : at + 2 * n ≤ base) (area : Area (a .degree) w base) where
   inside : All (λ c. c .id < length (a .marks)) (cands w at n)
@@ -171,35 +200,70 @@ module _ {a : Arrays} {w : List ℕ} {entry at n base : ℕ} (o : Together a) (h
             let k : length others < n = rw (same₁, ← e) at h in
             omega (arith, rest-long)
 
-        pub plan-planned : Planned (a .dim) (a .vectors) (length (a .marks)) w₄ base 1 m × Area (a .degree) w₄ base
-        plan-planned = (
-          record {
-            some = omega arith;
-            few = omega (arith, p .few, rest-fewer);
-            connected = rw first₄ (start-inside, tt);
-            remaining = rw rest (all-scored (λ c. c .id < length (a .marks)) _ others (all-filter (λ x. x < length (a .marks)) (λ x. not (eqb x start)) (ids (cands w at n)) (all-ids (λ x. x < length (a .marks)) (cands w at n) inside)));
-            least = rw (rest, first₄) (scored-least (between (a .dim) (a .vectors)) start others);
-            distinct = rw rest-ids (unique-apart others (unique-others (λ x. not (eqb x start)) (ids (cands w at n)) (p .once)));
-          },
-          record { inside = omega (arith, area .inside, size₄); below = area .below },
-        )
+        pub plan-planned : Planned (a .dim) (a .vectors) w₄ base 1 m × Plot w₄ base
+        plan-planned =
+            let fits : (x : ℕ) → x < length (a .marks) → x * a .dim + a .dim ≤ length (a .vectors) = λ x i. fits-in (a .dim) (length (a .marks)) x (length (a .vectors)) i (o .bytes .long) in
+            let others-in : All (λ x. x * a .dim + a .dim ≤ length (a .vectors)) others =
+            all-map (λ x. x < length (a .marks)) (λ x. x * a .dim + a .dim ≤ length (a .vectors)) fits others (all-filter (λ x. x < length (a .marks)) (λ x. not (eqb x start)) (ids (cands w at n)) (all-ids (λ x. x < length (a .marks)) (cands w at n) inside)) in (
+              record {
+                short = o .bytes .small;
+                some = omega arith;
+                few = omega (arith, p .few, rest-fewer);
+                connected = rw first₄ (fits start start-inside, tt);
+                remaining = rw rest (all-scored (λ c. c .id * a .dim + a .dim ≤ length (a .vectors)) _ others others-in);
+                least = rw (rest, first₄) (scored-least (between (a .dim) (a .vectors)) start others);
+                distinct = rw rest-ids (unique-apart others (unique-others (λ x. not (eqb x start)) (ids (cands w at n)) (p .once)));
+              },
+              record { inside = omega (arith, area .inside, size₄); below = omega (arith, area .below) },
+            )
 
-        pub plan-done : (repair-degree : ℕ) {alpha : Float} {a′ : Arrays} {w₅ : List ℕ} → Applied alpha a (span-at (a .dim) (a .vectors) repair-degree w₄ base 1 m m) a′ w₄ base (plan-words (a .degree)) w₅
-            → Applied alpha a (repair-links (between (a .dim) (a .vectors)) repair-degree entry (ids (cands w at n))) a′ w base (plan-words (a .degree)) w₅
-        plan-done repair-degree {alpha} t =
-            let q = plan-first (between (a .dim) (a .vectors)) repair-degree entry w₁ (base + 1280) n i m dists s in
-            let long : length (filter (λ y. not (eqb y (cand w₁ (base + 1280 + 2 * i) .id))) (ids (cands w₁ (base + 1280) n))) ≤ m = rw (same₁, ← e) (omega (arith, rest-long)) in
-            let k : span (between (a .dim) (a .vectors)) repair-degree m (start ∷ []) others ≡ repair-links (between (a .dim) (a .vectors)) repair-degree entry (ids (cands w at n)) = rw (same₁, ← e) at (q long) in
-            record {
-              does = λ en. t .does en ∙ ap (foldl apply-link (index-of alpha en a)) (ap₂ (λ (u v : List ℕ). span (between (a .dim) (a .vectors)) repair-degree m u v) (ap ids first₄) rest-ids ∙ k);
-              size = t .size ∙ size₄;
-              same = λ j h.
-                  t .same j h
-                  ∙ l .same j (λ u. omega (arith, h (omega arith), p .few))
-                  ∙ g .same j (λ u. omega (arith, h (omega arith), p .few))
-                  ∙ off₂ j (λ u. omega (arith, h (omega arith)))
-                  ∙ f .same j (λ u. omega (arith, h (omega arith), p .few));
-            }
+        module _ {repair-degree : ℕ} {w₅ pairs : List ℕ} {r : ℕ} (t : Spanned (a .dim) (a .vectors) repair-degree w₄ base m w₅ pairs r) where
+          abbrev ss : List ℕ
+          ss = ids (cands w at n)
+
+          plan-list : pairs-of pairs 0 r ≡ repair-links (between (a .dim) (a .vectors)) repair-degree entry ss
+          plan-list =
+              let q = plan-first (between (a .dim) (a .vectors)) repair-degree entry w₁ (base + 1280) n i m dists s in
+              let long : length (filter (λ y. not (eqb y (cand w₁ (base + 1280 + 2 * i) .id))) (ids (cands w₁ (base + 1280) n))) ≤ m = rw (same₁, ← e) (omega (arith, rest-long)) in
+              let k : span (between (a .dim) (a .vectors)) repair-degree m (start ∷ []) others ≡ repair-links (between (a .dim) (a .vectors)) repair-degree entry ss = rw (same₁, ← e) at (q long) in
+              t .paired ∙ ap₂ (λ (u v : List ℕ). span (between (a .dim) (a .vectors)) repair-degree m u v) (ap ids first₄) rest-ids ∙ k
+
+          plan-sources : (P : ℕ → Type 0) → All P ss → All (λ l. P (l .source)) (pairs-of pairs 0 r)
+          plan-sources P h = rw plan-list (repair-sources P (between (a .dim) (a .vectors)) repair-degree entry ss h)
+
+          pub plan-pairs : length pairs ≡ 10240 → Pairs (length (a .marks)) pairs r × Room (a .degree) w₅ (base + 1920) × (at + 2 * n ≤ base + 1920)
+          plan-pairs long = (
+            record { inside = omega (arith, t .few); slots-in = pairs-sources (λ x. x < length (a .marks)) (cands pairs 0 r) (plan-sources (λ x. x < length (a .marks)) (all-ids (λ x. x < length (a .marks)) (cands w at n) inside)) },
+            record { inside = omega (arith, area .inside, t .size, size₄); below = omega (arith, area .below) },
+            omega arith,
+          )
+
+          given₅ : cands w₅ at n ≡ cands w at n
+          given₅ =
+              cands-kept base 1920 w₄ w₅ (t .same) at n (λ u. absurd (omega arith))
+              ∙ cands-kept (base + 640) (2 * n) w₃ w₄ (l .same) at n (λ u. absurd (omega arith))
+              ∙ cands-kept (base + 640) (2 * n) w₂ w₃ (g .same) at n (λ u. absurd (omega arith))
+              ∙ given₂
+
+          pub plan-done : {alpha : Float} {a′ : Arrays} {w₆ : List ℕ} → BySource alpha a (pairs-of pairs 0 r) (ids (cands w₅ at n)) a′ w₅ (base + 1920) (link-words (a .degree)) w₆
+              → Applied alpha a (repair-links (between (a .dim) (a .vectors)) repair-degree entry ss) a′ w base (plan-words (a .degree)) w₆
+          plan-done {alpha} v =
+              record {
+                does = λ en.
+                    let b = index-of alpha en a in
+                    v .does en
+                    ∙ ap (λ (c : List Candidate). foldl (by-source (pairs-of pairs 0 r)) b (ids c)) given₅
+                    ∙ sources-in-turn b (pairs-of pairs 0 r) ss (together-shaped o) (o .rows .few) (p .once) (plan-sources (λ x. elem x ss ≡ true) (each-in ss))
+                    ∙ ap (foldl apply-link b) plan-list;
+                size = v .size ∙ t .size ∙ size₄;
+                same = λ j h.
+                    v .same j (λ u. omega (arith, h (omega arith)))
+                    ∙ t .same j (λ u. omega (arith, h u))
+                    ∙ l .same j (λ u. omega (arith, h (omega arith), p .few))
+                    ∙ g .same j (λ u. omega (arith, h (omega arith), p .few))
+                    ∙ off₂ j (λ u. omega (arith, h (omega arith)))
+                    ∙ f .same j (λ u. omega (arith, h (omega arith), p .few));
+              }
 
 -- ---- plan after plan
 pub record Applying (alpha : Float) (a : Arrays) (repair-degree entry : ℕ) (w₀ : List ℕ) (stats plans p base : ℕ) (targets edges w : List ℕ) (j : ℕ) : Type 0 where

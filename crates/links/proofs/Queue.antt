@@ -1,16 +1,18 @@
 -- Links applied one after the other leave the same rows as one queue of targets for each source, in any store of rows where a written row is read back
--- and no other changes. Assumes nothing.
+-- and no other changes; so do the links of one source after those of the other. Assumes nothing.
 use Prim.Native.Nat.{ℕ}
 use mathlib.Core.Bool.{Bool, true, false, cond, not, _||_, true≢false}
 use mathlib.Core.Path.{_≡_, refl, ap, sym, _∙_, fun-ext}
 use mathlib.Core.List.{List, [], _∷_, map}
 use mathlib.Core.Logic.{_⊎_, inl, inr}
-use borrow.Author.Tests.{eqb-true, eqb-false, eq-eqb}
+use borrow.Author.Tests.{eqb-true, eqb-false, eq-eqb, ne-eqb}
 use lib.Dec.{eqb, ltb}
 use Rattle.lists.specs.Lists.{All, filter, foldl, elem, insert-by, sort-by, distinct-by, sorted-set}
 use Rattle.slots.specs.Ops.{Row}
 use Rattle.slots.proofs.Writes.{Writes, sources, write-row, absorb}
+use Rattle.lists.proofs.Unique.{Unique, eqb-flip, or-false-l, or-false-r}
 use Rattle.repair.specs.Repair.{Link}
+use Rattle.links.specs.contracts.Linking.{from}
 
 -- each slot of a list with its row of f
 abbrev pub rows : (ℕ → List ℕ) → List ℕ → List Row
@@ -92,6 +94,28 @@ targets-in s (e ∷ es) = go (eqb (e .source) s) refl (targets-in s es)
     go false k (inl z) = inl z
     go false k (inr i) = inr (rw i (or-true (eqb s (e .source))))
 
+-- those whose source is another one
+abbrev others : ℕ → List Link → List Link
+others s es = filter (λ e. not (eqb (e .source) s)) es
+
+from-others : (s t : ℕ) → eqb t s ≡ false → (es : List Link) → from t (others s es) ≡ from t es
+from-others s t n [] = refl
+from-others s t n (e ∷ es) = go (eqb (e .source) s) refl (from-others s t n es)
+  where
+    go : (c : Bool) → eqb (e .source) s ≡ c → from t (others s es) ≡ from t es → from t (cond (not c) (e ∷ others s es) (others s es)) ≡ from t (e ∷ es)
+    go true q i =
+        let z : eqb (e .source) t ≡ false = ne-eqb (e .source) t (λ (y : e .source ≡ t). eqb-false t s n (sym y ∙ eqb-true (e .source) s q)) in
+        rw z i
+    go false q i = rw i
+
+others-in : (s : ℕ) (ss : List ℕ) (es : List Link) → All (λ e. elem (e .source) (s ∷ ss) ≡ true) es → All (λ e. elem (e .source) ss ≡ true) (others s es)
+others-in s ss [] o = tt
+others-in s ss (e ∷ es) o = go (eqb (e .source) s) (o .0) (others-in s ss es (o .1))
+  where
+    go : (c : Bool) → c || elem (e .source) ss ≡ true → All (λ e. elem (e .source) ss ≡ true) (others s es) → All (λ e. elem (e .source) ss ≡ true) (cond (not c) (e ∷ others s es) (others s es))
+    go true q i = i
+    go false q i = (q, i)
+
 -- A row grows by each target: what was written is read back, no other row changes, and neither does the way in which rows grow.
 pub record Reads {B : Type 0} (Ok : B → Type 0) (write : B → ℕ → List ℕ → B) (read : B → ℕ → List ℕ) (grow : B → ℕ → List ℕ → ℕ → List ℕ) (P : ℕ → Type 0) : Type 0 where
   pub got : (b : B) (s : ℕ) (r : List ℕ) (t : ℕ) → Ok b → P s → read (write b s (grow b s r t)) s ≡ grow b s r t
@@ -139,3 +163,60 @@ module _ {B : Type 0} (Ok : B → Type 0) (write : B → ℕ → List ℕ → B)
       go : (targets (e .source) es ≡ []) ⊎ (elem (e .source) (link-sources es) ≡ true) → all Ok write w (final b (e ∷ es)) (step b e) (link-sources es) ≡ all Ok write w (final b (e ∷ es)) b (link-sources (e ∷ es))
       go (inl z) = ap (λ (l : List ℕ). all Ok write w (final b (e ∷ es)) (write b (e .source) l) (link-sources es)) (final-one b e es z)
       go (inr i) = any _ i ∙ sym (any (final b (e ∷ es) (e .source)) i)
+
+  -- ---- links by their source
+  abbrev row : B → Link → List ℕ
+  row b e = grow b (e .source) (read b (e .source)) (e .target)
+
+  row-kept : (b : B) (e f : Link) → Ok b → (e .source ≡ f .source → ⊥) → row (step b e) f ≡ row b f
+  row-kept b e f k n =
+      ap (λ (g : ℕ → List ℕ → ℕ → List ℕ). g (f .source) (read (step b e) (f .source)) (f .target)) (r .stays b (e .source) _)
+      ∙ ap (λ (l : List ℕ). grow b (f .source) l (f .target)) (r .kept b (e .source) (f .source) _ k n)
+
+  -- links of two sources go in either order
+  step-swap : (b : B) (e f : Link) → Ok b → (e .source ≡ f .source → ⊥) → step (step b e) f ≡ step (step b f) e
+  step-swap b e f k n =
+      ap (λ (x : List ℕ). write (step b e) (f .source) x) (row-kept b e f k n)
+      ∙ w .swap b (e .source) (f .source) (row b e) (row b f) k n
+      ∙ sym (ap (λ (x : List ℕ). write (step b f) (e .source) x) (row-kept b f e k (λ z. n (sym z))))
+
+  steps-ok : (b : B) (es : List Link) → Ok b → Ok (foldl step b es)
+  steps-ok b [] k = k
+  steps-ok b (e ∷ es) k = steps-ok (step b e) es (w .ok b (e .source) _ k)
+
+  step-past : (s : ℕ) (e : Link) → eqb (e .source) s ≡ false → (es : List Link) (b : B) → Ok b → foldl step (step b e) (from s es) ≡ step (foldl step b (from s es)) e
+  step-past s e n [] b k = refl
+  step-past s e n (f ∷ es) b k = go (eqb (f .source) s) refl (step-past s e n es (step b f) (w .ok b (f .source) _ k)) (step-past s e n es b k)
+    where
+      go : (c : Bool) → eqb (f .source) s ≡ c → foldl step (step (step b f) e) (from s es) ≡ step (foldl step (step b f) (from s es)) e → foldl step (step b e) (from s es) ≡ step (foldl step b (from s es)) e
+          → foldl step (step b e) (cond c (f ∷ from s es) (from s es)) ≡ step (foldl step b (cond c (f ∷ from s es) (from s es))) e
+      go true q i j = ap (λ (c : B). foldl step c (from s es)) (step-swap b e f k (λ z. eqb-false (e .source) s n (z ∙ eqb-true (f .source) s q))) ∙ i
+      go false q i j = j
+
+  -- one source first
+  first-source : (s : ℕ) (es : List Link) (b : B) → Ok b → foldl step (foldl step b (from s es)) (others s es) ≡ foldl step b es
+  first-source s [] b k = refl
+  first-source s (e ∷ es) b k = go (eqb (e .source) s) refl (first-source s es (step b e) (w .ok b (e .source) _ k))
+    where
+      go : (c : Bool) → eqb (e .source) s ≡ c → foldl step (foldl step (step b e) (from s es)) (others s es) ≡ foldl step (step b e) es
+          → foldl step (foldl step b (cond c (e ∷ from s es) (from s es))) (cond (not c) (e ∷ others s es) (others s es)) ≡ foldl step (step b e) es
+      go true q i = i
+      go false q i = ap (λ (c : B). foldl step c (others s es)) (sym (step-past s e q es b k)) ∙ i
+
+  abbrev by : List Link → B → ℕ → B
+  by es b s = foldl step b (from s es)
+
+  by-others : (s : ℕ) (es : List Link) (ss : List ℕ) → elem s ss ≡ false → (b : B) → foldl (by (others s es)) b ss ≡ foldl (by es) b ss
+  by-others s es [] e b = refl
+  by-others s es (t ∷ ss) e b =
+      ap (λ (l : List Link). foldl (by (others s es)) (foldl step b l) ss) (from-others s t (eqb-flip s t (or-false-l (eqb s t) (elem s ss) e)) es)
+      ∙ by-others s es ss (or-false-r (eqb s t) (elem s ss) e) (foldl step b (from t es))
+
+  -- each source in turn
+  pub in-turn : (ss : List ℕ) (es : List Link) (b : B) → Ok b → Unique ss → All (λ e. elem (e .source) ss ≡ true) es → foldl (by es) b ss ≡ foldl step b es
+  in-turn [] [] b k u o = refl
+  in-turn [] (e ∷ es) b k u o = absurd (true≢false (sym (o .0)))
+  in-turn (s ∷ ss) es b k u o =
+      sym (by-others s es ss (u .0) (foldl step b (from s es)))
+      ∙ in-turn ss (others s es) (foldl step b (from s es)) (steps-ok b (from s es) k) (u .1) (others-in s ss es o)
+      ∙ first-source s es b k

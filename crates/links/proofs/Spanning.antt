@@ -3,31 +3,25 @@
 use Prim.Native.Nat.{ℕ, zero, suc, _+_, _-_, _*_, _≤_, _<_, min}
 use mathlib.Core.Bool.{Bool, true, false, cond, true≢false}
 use mathlib.Core.Path.{_≡_, refl, ap, sym, _∙_, fun-ext}
-use mathlib.Core.List.{List, [], _∷_, _++_, map, map-append}
+use mathlib.Core.List.{List, [], _∷_, _++_, map, map-append, append-assoc, append-nil}
 use native.Mathlib.Omega.{arith}
 use native.Mathlib.Decide.{decLt}
 use lib.Dec.{ltb}
-use lib.Ieee.{Float}
 use lib.ListN.{length, getD, set, take}
 use lib.Seq.{take-all}
-use Rattle.lists.specs.Lists.{All, foldl, concat-map, least-from, least-of, sort-by}
-use Rattle.lists.proofs.All.{all-map, all-append, all-take, all-sort}
+use Rattle.lists.specs.Lists.{All, concat-map, least-from, least-of, sort-by}
+use Rattle.lists.proofs.All.{all-append, all-take}
 use Rattle.lists.proofs.Least.{least-cons, least-snoc}
-use Rattle.lists.proofs.Parts.{fits-in}
-use Rattle.lists.proofs.Ranges.{foldl-append}
 use Rattle.vectors.specs.Space.{slot-distance, space}
 use Rattle.vectors.proofs.Distances.{distance-sym}
 use Rattle.candidates.specs.Candidates.{Candidate, nearer, scored, ids}
 use Rattle.candidates.specs.contracts.Words.{pair, cand, cands, put, Holds, Outside}
-use Rattle.candidates.proofs.Words.{cands-length, cands-at, cands-take, cands-each, cands-kept, cands-put, cands-push, put-cand, put-length, put-outside, outside-none, outside-then}
-use Rattle.candidates.proofs.Scored.{ids-length, all-scored, all-ids}
-use Rattle.slots.specs.Store.{Arrays, Store}
-use Rattle.row.specs.Row.{Together, index-of}
-use Rattle.repair.specs.Repair.{swap-remove, links, span}
+use Rattle.candidates.proofs.Words.{cands-length, cands-at, cands-take, cands-each, cands-kept, cands-put, cands-push, cands-none, cands-cons, put-cand, put-length, put-outside, outside-none, outside-then}
+use Rattle.candidates.proofs.Scored.{ids-length}
+use Rattle.repair.specs.Repair.{Link, swap-remove, links, span}
 use Rattle.repair.proofs.Sources.{both-ways}
-use Rattle.links.specs.contracts.Linking.{between, apply-link, links-at, link-words, Room, Ends, Applied}
-use Rattle.links.specs.contracts.Planning.{Stored, Behind, Nearest, Scored, lower-to, Lowered, Distinct, plan-words, Area, Planned, span-at, Connected}
-use Rattle.links.proofs.Linking.{with-rows}
+use Rattle.links.specs.contracts.Linking.{between, links-at, pairs-of}
+use Rattle.links.specs.contracts.Planning.{Stored, Behind, Nearest, Scored, lower-to, Lowered, Distinct, Plot, Vacant, PairedNearest, Planned, span-at, Connected, Spanned}
 use Rattle.links.proofs.Swapping.{swap-is, distinct-swap}
 
 -- ---- lists
@@ -96,59 +90,81 @@ between-sym : (dim : ℕ) (vectors : List ℕ) (x y : ℕ) → between dim vecto
 unfolding slot-distance space
 between-sym dim vectors x y = distance-sym _ _
 
-pub stored-in : {a : Arrays} → Together a → {w : List ℕ} {at n : ℕ} → All (λ c. c .id < length (a .marks)) (cands w at n) → {y : ℕ} → y < length (a .marks) → at + 2 * n ≤ length w
-    → Stored (a .dim) (a .vectors) y w at n
-stored-in {a} o {w} {at} {n} h {y} k l =
-    record {
-      short = o .bytes .small;
-      own = fits-in (a .dim) (length (a .marks)) y (length (a .vectors)) k (o .bytes .long);
-      stored = all-map (λ c. c .id < length (a .marks)) (λ c. c .id * a .dim + a .dim ≤ length (a .vectors))
-          (λ c i. fits-in (a .dim) (length (a .marks)) (c .id) (length (a .vectors)) i (o .bytes .long)) (cands w at n) h;
-      inside = l;
-    }
+module _ {dim : ℕ} {vectors w : List ℕ} {base k x : ℕ} (o : Stored dim vectors x w base k) (few : k ≤ 320) (plot : Plot w base) where
+  pub near-ready : Stored dim vectors x w base k × Behind w base k (base + 1280)
+  near-ready = (o, record { apart = omega arith; inside = omega (arith, plot .inside) })
 
-module _ {a : Arrays} {w : List ℕ} {base k x : ℕ} (o : Together a) (inside : All (λ c. c .id < length (a .marks)) (cands w base k)) (few : k ≤ 320) (area : Area (a .degree) w base) (hx : x < length (a .marks)) where
-  pub near-ready : Stored (a .dim) (a .vectors) x w base k × Behind w base k (base + 1280)
-  near-ready = (stored-in o inside hx (omega (arith, area .inside)), record { apart = omega arith; inside = omega (arith, area .inside) })
-
-  module _ {w₁ w₂ : List ℕ} (f : Scored (λ c. between (a .dim) (a .vectors) c x) w base k (base + 1280) w₁) (h : Holds w₁ (base + 1280) k (sort-by nearer (cands w₁ (base + 1280) k)) w₂) (repair-degree : ℕ) {n : ℕ} (e : n ≡ min repair-degree k) where
+  module _ {w₁ w₂ : List ℕ} (f : Scored (λ c. between dim vectors c x) w base k (base + 1280) w₁) (h : Holds w₁ (base + 1280) k (sort-by nearer (cands w₁ (base + 1280) k)) w₂)
+      {repair-degree : ℕ} {pairs : List ℕ} {t : ℕ} (v : Vacant repair-degree pairs t) {n : ℕ} (e : n ≡ min repair-degree k) where
     abbrev by-distance : List Candidate
-    by-distance = sort-by nearer (scored (between (a .dim) (a .vectors) x) (ids (cands w base k)))
+    by-distance = sort-by nearer (scored (between dim vectors x) (ids (cands w base k)))
 
     near-list : cands w₂ (base + 1280) n ≡ take repair-degree by-distance
     near-list =
-        let s : (λ c. between (a .dim) (a .vectors) c x) ≡ between (a .dim) (a .vectors) x = fun-ext (λ c. between-sym (a .dim) (a .vectors) c x) in
+        let s : (λ c. between dim vectors c x) ≡ between dim vectors x = fun-ext (λ c. between-sym dim vectors c x) in
         let l : length (cands w₂ (base + 1280) k) ≡ k = cands-length w₂ (base + 1280) k in
         sym (cands-take w₂ (base + 1280) k n (omega arith))
         ∙ ap (λ (j : ℕ). take j (cands w₂ (base + 1280) k)) e
         ∙ take-min repair-degree k (cands w₂ (base + 1280) k) l
         ∙ ap (take repair-degree) (h .list ∙ ap (sort-by nearer) (f .list ∙ ap (λ (m : ℕ → ℕ). scored m (ids (cands w base k))) s))
 
-    near-inside : All (λ c. c .id < length (a .marks)) (cands w₂ (base + 1280) n)
-    near-inside =
-        rw near-list
-        (all-take (λ c. c .id < length (a .marks)) repair-degree by-distance
-        (all-sort (λ c. c .id < length (a .marks)) nearer (scored (between (a .dim) (a .vectors) x) (ids (cands w base k)))
-        (all-scored (λ c. c .id < length (a .marks)) (between (a .dim) (a .vectors) x) (ids (cands w base k)) (all-ids (λ s. s < length (a .marks)) (cands w base k) inside))))
+    near-few : n ≤ 16
+    near-few = omega (arith, v .few)
 
-    pub near-ends : Ends (length (a .marks)) x w₂ (base + 1280) n (base + 1920) × Room (a .degree) w₂ (base + 1920)
-    near-ends = (
-      record { source-inside = hx; inside = near-inside; apart = omega arith },
-      record { inside = omega (arith, area .inside, f .size, h .size); below = omega (arith, area .below) },
-    )
+    pub near-fits : (base + 1280 + 2 * n ≤ length w₂) × (2 * t + 2 * n ≤ length pairs) × (2 * t + 2 * n ≤ 8388608)
+    near-fits = (omega (arith, near-few, h .size, f .size, plot .inside), omega (arith, near-few, v .inside), omega (arith, near-few, v .below))
 
-    pub near-linked : {alpha : Float} {a′ : Arrays} {w₃ : List ℕ} → Applied alpha a (links-at x w₂ (base + 1280) n) a′ w₂ (base + 1920) (link-words (a .degree)) w₃
-        → Applied alpha a (links (between (a .dim) (a .vectors)) repair-degree (ids (cands w base k)) x) a′ w (base + 1280) (640 + link-words (a .degree)) w₃
+    pub near-paired : {pairs′ : List ℕ} → pairs-of pairs′ 0 (t + n) ≡ pairs-of pairs 0 t ++ links-at x w₂ (base + 1280) n
+        → PairedNearest (links (between dim vectors) repair-degree (ids (cands w base k)) x) w base pairs t w₂ pairs′ (t + n)
     unfolding links
-    near-linked {alpha} p =
+    near-paired g =
         record {
-          does = λ entry. p .does entry ∙ ap (λ (l : List Candidate). foldl apply-link (index-of alpha entry a) (concat-map (both-ways x) (ids l))) near-list;
-          size = p .size ∙ h .size ∙ f .size;
-          same = λ j i.
-              p .same j (λ u. omega (arith, i (omega arith)))
-              ∙ h .same j (λ u. omega (arith, i (omega arith)))
-              ∙ f .same j (λ u. omega (arith, i (omega arith)));
+          added = g ∙ ap (λ (l : List Candidate). pairs-of pairs 0 t ++ concat-map (both-ways x) (ids l)) near-list;
+          more = omega (arith, near-few);
+          size = h .size ∙ f .size;
+          same = λ j i. h .same j (λ u. omega (arith, i (omega arith))) ∙ f .same j (λ u. omega (arith, i (omega arith)));
         }
+
+-- ---- pairs: those of x and the first i of the n candidates at `to` are added to t
+pub record Pairing (x : ℕ) (w : List ℕ) (to n : ℕ) (pairs₀ : List ℕ) (t : ℕ) (pairs : List ℕ) (i : ℕ) : Type 0 where
+  pub bound : i ≤ n
+  pub goes : pairs-of pairs 0 (t + i) ++ links-at x w (to + 2 * i) (n - i) ≡ pairs-of pairs₀ 0 t ++ links-at x w to n
+  pub size : length pairs ≡ length pairs₀
+
+pub pairing-none : (x : ℕ) (w : List ℕ) (to n : ℕ) (pairs : List ℕ) (t : ℕ) → Pairing x w to n pairs t pairs 0
+pairing-none x w to n pairs t =
+    let e : to + 2 * 0 ≡ to = omega arith in
+    let z : n - 0 ≡ n = omega arith in
+    let y : t + 0 ≡ t = omega arith in
+    record { bound = omega arith; goes = rw (e, z, y); size = refl }
+
+pairs-snoc : (l : List Candidate) (c : Candidate) → concat-map (λ c. both-ways (c .dist) (c .id)) (l ++ (c ∷ [])) ≡ concat-map (λ c. both-ways (c .dist) (c .id)) l ++ both-ways (c .dist) (c .id)
+pairs-snoc [] c = refl
+pairs-snoc (a ∷ l) c = ap (λ (m : List Link). both-ways (a .dist) (a .id) ++ m) (pairs-snoc l c)
+
+module _ {x : ℕ} {w : List ℕ} {to n : ℕ} {pairs₀ : List ℕ} {t : ℕ} {pairs : List ℕ} {i : ℕ} (f : Pairing x w to n pairs₀ t pairs i) where
+  pub pairing-more : 2 * t + 2 * n ≤ length pairs₀ → i < n → {p : ℕ} → p ≡ cand w (to + 2 * i) .id → {pairs′ : List ℕ} → pairs′ ≡ put pairs (2 * (t + i)) x p → Pairing x w to n pairs₀ t pairs′ (i + 1)
+  pairing-more l h {p} e {pairs′} g =
+      let y : t + (i + 1) ≡ t + i + 1 = omega arith in
+      let q : 0 + 2 * (t + i) ≡ 2 * (t + i) = omega arith in
+      let c : cands pairs′ 0 (t + (i + 1)) ≡ cands pairs 0 (t + i) ++ (pair x p ∷ []) = rw (g, y) (rw q at (cands-push pairs x p 0 (t + i) (omega (arith, f .size)))) in
+      let rest = links-at x w (to + 2 * (i + 1)) (n - (i + 1)) in
+      record {
+        bound = omega arith;
+        goes =
+            ap (λ (k : List Candidate). concat-map (λ c. both-ways (c .dist) (c .id)) k ++ rest) c
+            ∙ ap (λ (k : List Link). k ++ rest) (pairs-snoc (cands pairs 0 (t + i)) (pair x p))
+            ∙ append-assoc (pairs-of pairs 0 (t + i)) (both-ways x p) rest
+            ∙ ap (λ (k : List Link). pairs-of pairs 0 (t + i) ++ k) (rw e (ap (λ (k : List Candidate). concat-map (both-ways x) (ids k)) (sym (cands-cons w to n i h))))
+            ∙ f .goes;
+        size = rw g (put-length pairs (2 * (t + i)) x p) ∙ f .size;
+      }
+
+  pub pairing-done : n ≤ i → pairs-of pairs 0 (t + n) ≡ pairs-of pairs₀ 0 t ++ links-at x w to n
+  pairing-done h =
+      let z : n - i ≡ 0 = omega arith in
+      let y : i ≡ n = omega (arith, f .bound) in
+      sym (append-nil _) ∙ (rw (y) at (rw (cands-none w (to + 2 * i) (n - i) z) at (f .goes)))
 
 -- ---- one more is connected
 least-more : (m : ℕ → ℕ) (cs : List ℕ) (y : ℕ) → 0 < length cs → least-of m (cs ++ (y ∷ [])) ≡ min (least-of m cs) (m y)
@@ -181,13 +197,13 @@ span-first d repair-degree con w at (suc m) i h n f =
     ap (λ (c : Candidate). c .id) t ∙ least-ids (λ x. least-of (d x) con) (cand w at) (cands w (at + 2) m) (h .0) (h .1) in
     ap (λ (x : ℕ). links d repair-degree con x ++ span d repair-degree f (con ++ (x ∷ [])) (swap-remove x (cand w at .id ∷ ids (cands w (at + 2) m)))) (sym y)
 
-module _ {a : Arrays} {w : List ℕ} {base k m : ℕ} (o : Together a) (p : Planned (a .dim) (a .vectors) (length (a .marks)) w base k m) (some : 0 < m) (area : Area (a .degree) w base)
+module _ {dim : ℕ} {vectors w : List ℕ} {base k m : ℕ} (p : Planned dim vectors w base k m) (some : 0 < m) (area : Plot w base)
     {i : ℕ} (f : Nearest w (base + 640) m i) {next : ℕ} (e : next ≡ cand w (base + 640 + 2 * i) .id) where
-  next-inside : next < length (a .marks)
-  next-inside = rw e (cands-each (λ c. c .id < length (a .marks)) w (base + 640) m (p .remaining) i (f .within))
+  next-inside : next * dim + dim ≤ length vectors
+  next-inside = rw e (cands-each (λ c. c .id * dim + dim ≤ length vectors) w (base + 640) m (p .remaining) i (f .within))
 
-  pub connect-near : (next < length (a .marks)) × All (λ c. c .id < length (a .marks)) (cands w base k) × (k ≤ 320) × Area (a .degree) w base
-  connect-near = (next-inside, p .connected, omega (arith, p .few), area)
+  pub connect-near : Stored dim vectors next w base k × (k ≤ 320)
+  connect-near = (record { short = p .short; own = next-inside; stored = p .connected; inside = omega (arith, p .few, area .inside) }, omega (arith, p .few))
 
   abbrev con : List ℕ
   con = ids (cands w base k)
@@ -225,10 +241,10 @@ module _ {a : Arrays} {w : List ℕ} {base k m : ℕ} (o : Together a) (p : Plan
   left-all : (P : Candidate → Type 0) → All P (cands w (base + 640) m) → All P left
   left-all P h = all-take P (m - 1) _ (all-set P (cands w (base + 640) m) i end (cands-each P w (base + 640) m h (m - 1) (omega arith)) h)
 
-  module _ (repair-degree : ℕ) {alpha : Float} {a′ : Arrays} {w₁ : List ℕ} (s : Applied alpha a (links (between (a .dim) (a .vectors)) repair-degree con next) a′ w (base + 1280) (640 + link-words (a .degree)) w₁)
+  module _ (repair-degree : ℕ) {pairs : List ℕ} {t : ℕ} {w₁ pairs′ : List ℕ} {r : ℕ} (s : PairedNearest (links (between dim vectors) repair-degree con next) w base pairs t w₁ pairs′ r)
       {w₂ : List ℕ} (e₂ : w₂ ≡ put w₁ (base + 2 * k) 0 next) where
     low : (b n : ℕ) → b + 2 * n ≤ base + 1280 → cands w₁ b n ≡ cands w b n
-    low b n h = cands-kept (base + 1280) (640 + link-words (a .degree)) w w₁ (s .same) b n (λ u. absurd (omega arith))
+    low b n h = cands-kept (base + 1280) 640 w w₁ (s .same) b n (λ u. absurd (omega arith))
 
     out₂ : Outside (base + 2 * k) 2 w₁ w₂
     out₂ = rw e₂ (put-outside w₁ (base + 2 * k) 0 next)
@@ -272,46 +288,48 @@ module _ {a : Arrays} {w : List ℕ} {base k m : ℕ} (o : Together a) (p : Plan
       con₃ : cands w₃ base (k + 1) ≡ cands w base k ++ (pair 0 next ∷ [])
       con₃ = rw e₃ (cands-put w₂ (base + 640 + 2 * i) d x base (k + 1) (λ u. absurd (omega (arith, p .few)))) ∙ con₂
 
-      pub connect-stored : Stored (a .dim) (a .vectors) next w₃ (base + 640) (m - 1)
-      connect-stored = stored-in o (rw rem₃ (left-all (λ c. c .id < length (a .marks)) (p .remaining))) next-inside (omega (arith, long₃, area .inside, p .few))
+      pub connect-stored : Stored dim vectors next w₃ (base + 640) (m - 1)
+      connect-stored = record { short = p .short; own = next-inside; stored = rw rem₃ (left-all (λ c. c .id * dim + dim ≤ length vectors) (p .remaining)); inside = omega (arith, long₃, area .inside, p .few) }
 
-      module _ {w₄ : List ℕ} (l : Lowered (λ c. between (a .dim) (a .vectors) c next) w₃ (base + 640) (m - 1) w₄) where
+      module _ {w₄ : List ℕ} (l : Lowered (λ c. between dim vectors c next) w₃ (base + 640) (m - 1) w₄) where
         con₄ : cands w₄ base (k + 1) ≡ cands w base k ++ (pair 0 next ∷ [])
         con₄ = cands-kept (base + 640) (2 * (m - 1)) w₃ w₄ (l .same) base (k + 1) (λ u. absurd (omega (arith, p .few))) ∙ con₃
 
         con-ids : ids (cands w₄ base (k + 1)) ≡ con ++ (next ∷ [])
         con-ids = ap ids con₄ ∙ map-append (λ c. c .id) (cands w base k) (pair 0 next ∷ [])
 
-        rem₄ : cands w₄ (base + 640) (m - 1) ≡ map (lower-to (λ c. between (a .dim) (a .vectors) c next)) left
-        rem₄ = l .list ∙ ap (map (lower-to (λ c. between (a .dim) (a .vectors) c next))) rem₃
+        rem₄ : cands w₄ (base + 640) (m - 1) ≡ map (lower-to (λ c. between dim vectors c next)) left
+        rem₄ = l .list ∙ ap (map (lower-to (λ c. between dim vectors c next))) rem₃
 
         rem-ids : ids (cands w₄ (base + 640) (m - 1)) ≡ ids left
-        rem-ids = ap ids rem₄ ∙ ids-lowered (λ c. between (a .dim) (a .vectors) c next) left
+        rem-ids = ap ids rem₄ ∙ ids-lowered (λ c. between dim vectors c next) left
 
         some-con : 0 < length con
         some-con = omega (arith, ids-length (cands w base k), cands-length w base k, p .some)
 
-        turn : (n : ℕ) → span (between (a .dim) (a .vectors)) repair-degree (suc n) con xs
-            ≡ links (between (a .dim) (a .vectors)) repair-degree con next ++ span (between (a .dim) (a .vectors)) repair-degree n (ids (cands w₄ base (k + 1))) (ids (cands w₄ (base + 640) (m - 1)))
+        turn : (n : ℕ) → span (between dim vectors) repair-degree (suc n) con xs
+            ≡ links (between dim vectors) repair-degree con next ++ span (between dim vectors) repair-degree n (ids (cands w₄ base (k + 1))) (ids (cands w₄ (base + 640) (m - 1)))
         turn n =
-            span-first (between (a .dim) (a .vectors)) repair-degree con w (base + 640) m i (p .least) f n
+            span-first (between dim vectors) repair-degree con w (base + 640) m i (p .least) f n
             ∙ rw (con-ids, rem-ids, ← left-swap, e)
 
-        pub connect-done : Connected alpha a a′ repair-degree w base k m w₄
+        pub connect-done : Connected dim vectors repair-degree w base k m pairs t w₄ pairs′ r
         connect-done =
             record {
               planned = record {
+                short = p .short;
                 some = omega arith;
                 few = omega (arith, p .few);
-                connected = rw con₄ (all-append (λ c. c .id < length (a .marks)) (cands w base k) (pair 0 next ∷ []) (p .connected) (next-inside, tt));
-                remaining = rw rem₄ (all-lowered (λ s. s < length (a .marks)) _ left (left-all (λ c. c .id < length (a .marks)) (p .remaining)));
-                least = rw (rem₄, con-ids) (least-lowered (between (a .dim) (a .vectors)) con next some-con left (left-all (λ c. c .dist ≡ least-of (between (a .dim) (a .vectors) (c .id)) con) (p .least)));
+                connected = rw con₄ (all-append (λ c. c .id * dim + dim ≤ length vectors) (cands w base k) (pair 0 next ∷ []) (p .connected) (next-inside, tt));
+                remaining = rw rem₄ (all-lowered (λ s. s * dim + dim ≤ length vectors) _ left (left-all (λ c. c .id * dim + dim ≤ length vectors) (p .remaining)));
+                least = rw (rem₄, con-ids) (least-lowered (between dim vectors) con next some-con left (left-all (λ c. c .dist ≡ least-of (between dim vectors (c .id)) con) (p .least)));
                 distinct = rw rem-ids left-distinct;
               };
-              goes = λ entry n.
-                  ap (foldl apply-link (index-of alpha entry a)) (turn n)
-                  ∙ foldl-append apply-link (index-of alpha entry a) (links (between (a .dim) (a .vectors)) repair-degree con next) _
-                  ∙ ap (λ (b : Store). foldl apply-link b (span-at (a .dim) (a .vectors) repair-degree w₄ base (k + 1) (m - 1) n)) (sym (s .does entry));
+              goes = λ n.
+                  ap (λ (l : List Link). pairs-of pairs 0 t ++ l) (turn n)
+                  ∙ sym (append-assoc (pairs-of pairs 0 t) (links (between dim vectors) repair-degree con next) _)
+                  ∙ ap (λ (l : List Link). l ++ span-at dim vectors repair-degree w₄ base (k + 1) (m - 1) n) (sym (s .added));
+              more = s .more;
               size = l .size ∙ long₃;
               same = λ j h.
                   l .same j (λ u. omega (arith, h (omega arith), p .few))
@@ -321,47 +339,48 @@ module _ {a : Arrays} {w : List ℕ} {base k m : ℕ} (o : Together a) (p : Plan
             }
 
 -- ---- until none remains
-pub record Spanning (alpha : Float) (a : Arrays) (repair-degree : ℕ) (w₀ : List ℕ) (base n : ℕ) (targets edges w : List ℕ) (k m : ℕ) : Type 0 where
-  pub planned : Planned (a .dim) (a .vectors) (length (a .marks)) w base k m
-  pub goes : (entry : ℕ) → foldl apply-link (index-of alpha entry (with-rows a targets edges)) (span-at (a .dim) (a .vectors) repair-degree w base k m m)
-      ≡ foldl apply-link (index-of alpha entry a) (span-at (a .dim) (a .vectors) repair-degree w₀ base 1 n n)
-  pub targets-long : length targets ≡ length (a .targets)
-  pub edges-long : length edges ≡ length (a .edges)
+pub record Spanning (dim : ℕ) (vectors : List ℕ) (repair-degree : ℕ) (w₀ : List ℕ) (base n : ℕ) (pairs₀ w pairs : List ℕ) (t k m : ℕ) : Type 0 where
+  pub planned : Planned dim vectors w base k m
+  pub goes : pairs-of pairs 0 t ++ span-at dim vectors repair-degree w base k m m ≡ span-at dim vectors repair-degree w₀ base 1 n n
+  pub few : t + 16 ≤ 16 * k
+  pub pairs-long : length pairs ≡ length pairs₀
   pub size : length w ≡ length w₀
-  pub same : Outside base (plan-words (a .degree)) w₀ w
+  pub same : Outside base 1920 w₀ w
 
-pub spanning-none : (alpha : Float) (a : Arrays) (repair-degree : ℕ) (w : List ℕ) (base n : ℕ) → Planned (a .dim) (a .vectors) (length (a .marks)) w base 1 n
-    → Spanning alpha a repair-degree w base n (a .targets) (a .edges) w 1 n
-spanning-none alpha a repair-degree w base n p =
-    record { planned = p; goes = λ entry. refl; targets-long = refl; edges-long = refl; size = refl; same = outside-none base (plan-words (a .degree)) w }
+pub spanning-none : (dim : ℕ) (vectors : List ℕ) (repair-degree : ℕ) (w : List ℕ) (base n : ℕ) (pairs : List ℕ) → Planned dim vectors w base 1 n → Spanning dim vectors repair-degree w base n pairs w pairs 0 1 n
+unfolding cands
+spanning-none dim vectors repair-degree w base n pairs p =
+    record { planned = p; goes = refl; few = omega arith; pairs-long = refl; size = refl; same = outside-none base 1920 w }
 
-module _ {alpha : Float} {a : Arrays} {repair-degree : ℕ} {w₀ : List ℕ} {base n : ℕ} {targets edges w : List ℕ} {k m : ℕ} (f : Spanning alpha a repair-degree w₀ base n targets edges w k m) where
-  pub spanning-area : Area (a .degree) w₀ base → Area (a .degree) w base
-  spanning-area g = record { inside = omega (arith, g .inside, f .size); below = g .below }
+module _ {dim : ℕ} {vectors : List ℕ} {repair-degree : ℕ} {w₀ : List ℕ} {base n : ℕ} {pairs₀ w pairs : List ℕ} {t k m : ℕ} (f : Spanning dim vectors repair-degree w₀ base n pairs₀ w pairs t k m) where
+  pub spanning-room : Plot w₀ base → repair-degree ≤ 16 → length pairs₀ ≡ 10240 → 0 < m → Plot w base × Vacant repair-degree pairs t
+  spanning-room g d l h = (
+    record { inside = omega (arith, g .inside, f .size); below = g .below },
+    record { few = d; inside = omega (arith, f .few, f .planned .few, f .pairs-long); below = omega (arith, f .few, f .planned .few) },
+  )
 
-  pub spanning-more : 0 < m → {targets′ edges′ w′ : List ℕ} → length targets′ ≡ length targets → length edges′ ≡ length edges
-      → Connected alpha (with-rows a targets edges) (with-rows a targets′ edges′) repair-degree w base k m w′ → Spanning alpha a repair-degree w₀ base n targets′ edges′ w′ (k + 1) (m - 1)
-  spanning-more h {w′ = w′} lt le c =
+  pub spanning-more : 0 < m → {w′ pairs′ : List ℕ} {r : ℕ} → length pairs′ ≡ length pairs → Connected dim vectors repair-degree w base k m pairs t w′ pairs′ r
+      → Spanning dim vectors repair-degree w₀ base n pairs₀ w′ pairs′ r (k + 1) (m - 1)
+  spanning-more h {w′ = w′} lp c =
       let z : suc (m - 1) ≡ m = omega arith in
       record {
         planned = c .planned;
-        goes = λ entry.
-            sym (c .goes entry (m - 1))
-            ∙ ap (λ (j : ℕ). foldl apply-link (index-of alpha entry (with-rows a targets edges)) (span-at (a .dim) (a .vectors) repair-degree w base k m j)) z
-            ∙ f .goes entry;
-        targets-long = lt ∙ f .targets-long;
-        edges-long = le ∙ f .edges-long;
+        goes = sym (c .goes (m - 1)) ∙ ap (λ (j : ℕ). pairs-of pairs 0 t ++ span-at dim vectors repair-degree w base k m j) z ∙ f .goes;
+        few = omega (arith, c .more, f .few);
+        pairs-long = lp ∙ f .pairs-long;
         size = c .size ∙ f .size;
-        same = outside-then base (plan-words (a .degree)) w₀ w w′ (f .same) (c .same);
+        same = outside-then base 1920 w₀ w w′ (f .same) (c .same);
       }
 
-  pub spanning-done : m ≤ 0 → Applied alpha a (span-at (a .dim) (a .vectors) repair-degree w₀ base 1 n n) (with-rows a targets edges) w₀ base (plan-words (a .degree)) w
+  pub spanning-done : m ≤ 0 → Spanned dim vectors repair-degree w₀ base n w pairs t
   unfolding span
   spanning-done h =
       let z : m ≡ 0 = omega arith in
       record {
-        does = λ entry.
-            ap (λ (j : ℕ). foldl apply-link (index-of alpha entry (with-rows a targets edges)) (span (between (a .dim) (a .vectors)) repair-degree j (ids (cands w base k)) (ids (cands w (base + 640) m)))) (sym z) ∙ f .goes entry;
+        paired = sym (append-nil _)
+            ∙ ap (λ (j : ℕ). pairs-of pairs 0 t ++ span (between dim vectors) repair-degree j (ids (cands w base k)) (ids (cands w (base + 640) m))) (sym z)
+            ∙ f .goes;
+        few = omega (arith, f .few, f .planned .few);
         size = f .size;
         same = f .same;
       }

@@ -1,4 +1,5 @@
-// A repair link, applied to the stored row of its source at once.
+// Repair links, each applied to the stored row of its source at once: those of one source after the other.
+use candidates::dist_at;
 use candidates::has_id;
 use candidates::id_at;
 use candidates::put;
@@ -9,11 +10,13 @@ use slots::marks::wide;
 ghost use mathlib.Core.List.{[], _∷_};
 ghost use Prim.Native.Nat.{_+_, _*_, _<_, _≤_};
 ghost use lib.ListN.{length};
+ghost use Rattle.candidates.specs.Candidates.{ids};
+ghost use Rattle.candidates.specs.contracts.Words.{cands};
 ghost use Rattle.distances.specs.contracts.Kept.{Kept};
 ghost use Rattle.slots.specs.Store.{arrays};
 ghost use Rattle.row.specs.Row.{Together};
 ghost use Rattle.repair.proofs.Sources.{both-ways};
-ghost use Rattle.links.specs.contracts.Linking.{link, links-at, link-words, Room, Ends, Joined, Applied};
+ghost use Rattle.links.specs.contracts.Linking.{link, from, pairs-of, link-words, Room, Pairs, Joined, Applied, BySource};
 
 // Adds the target `t`, with its distance to slot `s`, to the `n` candidates at `at`, unless one of them has it. Returns how many they are then.
 fn add_target(
@@ -89,8 +92,8 @@ fn apply_link(
     );
 }
 
-// Applies the links of `x` and `p`, both ways.
-fn link_both(
+// Applies the link from `x` to `p` where `x` is the source `s`.
+fn apply_from(
     dim: usize,
     degree: usize,
     alpha: f32,
@@ -100,6 +103,7 @@ fn link_both(
     edges: &mut [u16],
     versions: &[u16],
     marks: &[u8],
+    s: u32,
     x: u32,
     p: u32,
     scratch: &mut [u32],
@@ -107,9 +111,12 @@ fn link_both(
 )
     requires { ⌜ Together (arrays dim degree (now vectors) (now targets) (now edges) (now versions) (now marks)) ⌝ }
     requires { ⌜ (x < length (now marks)) × (p < length (now marks)) × Room degree (now scratch) at × Kept dim (now vectors) (now kept) ⌝ }
-    ensures { λ _. ⌜ Applied alpha (arrays dim degree (now (vectors .entry)) (now (targets .entry)) (now (edges .entry)) (now (versions .entry)) (now (marks .entry))) (both-ways x p)
+    ensures { λ _. ⌜ Applied alpha (arrays dim degree (now (vectors .entry)) (now (targets .entry)) (now (edges .entry)) (now (versions .entry)) (now (marks .entry))) (from s (link x p ∷ []))
         (arrays dim degree (now (vectors .entry)) (now (targets .exit)) (now (edges .exit)) (now (versions .entry)) (now (marks .entry))) (now (scratch .entry)) at (link-words degree) (now (scratch .exit)) × Kept dim (now (vectors .entry)) (now (kept .exit)) ⌝ }
 {
+    if x != s {
+        return;
+    }
     apply_link(
         dim,
         degree,
@@ -122,28 +129,13 @@ fn link_both(
         marks,
         x,
         p,
-        scratch,
-        at,
-    );
-    apply_link(
-        dim,
-        degree,
-        alpha,
-        vectors,
-        kept,
-        targets,
-        edges,
-        versions,
-        marks,
-        p,
-        x,
         scratch,
         at,
     );
 }
 
-// Applies the links of `x` and the slots of the `n` candidates at `to`, both ways, in their order.
-pub fn link_each(
+// Applies those links of `x` and `p` whose source is `s`.
+fn apply_pair(
     dim: usize,
     degree: usize,
     alpha: f32,
@@ -153,21 +145,78 @@ pub fn link_each(
     edges: &mut [u16],
     versions: &[u16],
     marks: &[u8],
+    s: u32,
     x: u32,
-    to: usize,
+    p: u32,
+    scratch: &mut [u32],
+    at: usize,
+)
+    requires { ⌜ Together (arrays dim degree (now vectors) (now targets) (now edges) (now versions) (now marks)) ⌝ }
+    requires { ⌜ (x < length (now marks)) × (p < length (now marks)) × Room degree (now scratch) at × Kept dim (now vectors) (now kept) ⌝ }
+    ensures { λ _. ⌜ Applied alpha (arrays dim degree (now (vectors .entry)) (now (targets .entry)) (now (edges .entry)) (now (versions .entry)) (now (marks .entry))) (from s (both-ways x p))
+        (arrays dim degree (now (vectors .entry)) (now (targets .exit)) (now (edges .exit)) (now (versions .entry)) (now (marks .entry))) (now (scratch .entry)) at (link-words degree) (now (scratch .exit)) × Kept dim (now (vectors .entry)) (now (kept .exit)) ⌝ }
+{
+    apply_from(
+        dim,
+        degree,
+        alpha,
+        vectors,
+        kept,
+        targets,
+        edges,
+        versions,
+        marks,
+        s,
+        x,
+        p,
+        scratch,
+        at,
+    );
+    apply_from(
+        dim,
+        degree,
+        alpha,
+        vectors,
+        kept,
+        targets,
+        edges,
+        versions,
+        marks,
+        s,
+        p,
+        x,
+        scratch,
+        at,
+    );
+}
+
+// Applies those links of the `n` pairs whose source is `s`, in their order.
+fn apply_source(
+    dim: usize,
+    degree: usize,
+    alpha: f32,
+    vectors: &[u8],
+    kept: &mut [u32],
+    targets: &mut [u32],
+    edges: &mut [u16],
+    versions: &[u16],
+    marks: &[u8],
+    s: u32,
+    pairs: &[u32],
     n: usize,
     scratch: &mut [u32],
     at: usize,
 )
     requires { ⌜ Together (arrays dim degree (now vectors) (now targets) (now edges) (now versions) (now marks)) ⌝ }
-    requires { ⌜ Ends (length (now marks)) x (now scratch) to n at × Room degree (now scratch) at × Kept dim (now vectors) (now kept) ⌝ }
-    ensures { λ _. ⌜ Applied alpha (arrays dim degree (now (vectors .entry)) (now (targets .entry)) (now (edges .entry)) (now (versions .entry)) (now (marks .entry))) (links-at x (now (scratch .entry)) to n)
+    requires { ⌜ Pairs (length (now marks)) (now pairs) n × Room degree (now scratch) at × Kept dim (now vectors) (now kept) ⌝ }
+    ensures { λ _. ⌜ Applied alpha (arrays dim degree (now (vectors .entry)) (now (targets .entry)) (now (edges .entry)) (now (versions .entry)) (now (marks .entry))) (from s (pairs-of (now (pairs .entry)) 0 n))
         (arrays dim degree (now (vectors .entry)) (now (targets .exit)) (now (edges .exit)) (now (versions .entry)) (now (marks .entry))) (now (scratch .entry)) at (link-words degree) (now (scratch .exit)) × Kept dim (now (vectors .entry)) (now (kept .exit)) ⌝ }
 {
     let mut i: usize = 0;
     while i < n {
-        let p = id_at(scratch, to, i);
-        link_both(
+        let x = dist_at(pairs, 0, i);
+        let p = id_at(pairs, 0, i);
+        apply_pair(
             dim,
             degree,
             alpha,
@@ -177,8 +226,56 @@ pub fn link_each(
             edges,
             versions,
             marks,
+            s,
             x,
             p,
+            scratch,
+            at,
+        );
+        i += 1;
+    }
+}
+
+// Applies the links of `n` pairs, source by source; the sources are the slots of the `m` candidates at `from`. A source's links prune nearly the same
+// row, so that most distances are in the table.
+pub fn apply_sources(
+    dim: usize,
+    degree: usize,
+    alpha: f32,
+    vectors: &[u8],
+    kept: &mut [u32],
+    targets: &mut [u32],
+    edges: &mut [u16],
+    versions: &[u16],
+    marks: &[u8],
+    pairs: &[u32],
+    n: usize,
+    scratch: &mut [u32],
+    from: usize,
+    m: usize,
+    at: usize,
+)
+    requires { ⌜ Together (arrays dim degree (now vectors) (now targets) (now edges) (now versions) (now marks)) ⌝ }
+    requires { ⌜ Pairs (length (now marks)) (now pairs) n × Room degree (now scratch) at × (from + 2 * m ≤ at) × Kept dim (now vectors) (now kept) ⌝ }
+    ensures { λ _. ⌜ BySource alpha (arrays dim degree (now (vectors .entry)) (now (targets .entry)) (now (edges .entry)) (now (versions .entry)) (now (marks .entry))) (pairs-of (now (pairs .entry)) 0 n) (ids (cands (now (scratch .entry)) from m))
+        (arrays dim degree (now (vectors .entry)) (now (targets .exit)) (now (edges .exit)) (now (versions .entry)) (now (marks .entry))) (now (scratch .entry)) at (link-words degree) (now (scratch .exit)) × Kept dim (now (vectors .entry)) (now (kept .exit)) ⌝ }
+{
+    let mut i: usize = 0;
+    while i < m {
+        let s = id_at(scratch, from, i);
+        apply_source(
+            dim,
+            degree,
+            alpha,
+            vectors,
+            kept,
+            targets,
+            edges,
+            versions,
+            marks,
+            s,
+            pairs,
+            n,
             scratch,
             at,
         );

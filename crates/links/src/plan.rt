@@ -1,4 +1,5 @@
 // The links of all plans, plan by plan. `apply_repair_operations_by_source` in the Rust, which works out each row once, at the end: the same rows.
+use super::link::apply_sources;
 use super::span::fewer;
 use super::span::nearest;
 use super::span::score;
@@ -8,6 +9,7 @@ use candidates::keep_valid;
 use candidates::put;
 use distances::KEPT_WORDS;
 use slots::marks::wide;
+ghost use mathlib.Core.Path.{_≡_};
 ghost use Prim.Native.Nat.{_+_, _*_, _<_, _≤_};
 ghost use lib.ListN.{length};
 ghost use Rattle.candidates.specs.Candidates.{ids};
@@ -18,6 +20,9 @@ ghost use Rattle.row.specs.Row.{Together};
 ghost use Rattle.repair.specs.Repair.{repair-links};
 ghost use Rattle.links.specs.contracts.Linking.{between, Applied};
 ghost use Rattle.links.specs.contracts.Planning.{plan-words, Area, Plan, Attempted, Plans, plans-at};
+
+// The words of the pairs of a plan: two for each of 16 pairs of each of 320 candidates.
+const PAIRS_WORDS: usize = 10240;
 
 // Applies the links of the plan of the `n` candidates at `at`. `repair_kr_mst_operations` in the Rust, which only lists them.
 fn apply_plan(
@@ -32,13 +37,14 @@ fn apply_plan(
     marks: &[u8],
     repair_degree: usize,
     entry: u32,
+    pairs: &mut [u32],
     scratch: &mut [u32],
     at: usize,
     n: usize,
     base: usize,
 )
     requires { ⌜ Together (arrays dim degree (now vectors) (now targets) (now edges) (now versions) (now marks)) ⌝ }
-    requires { ⌜ (entry < length (now marks)) × Plan (now marks) (now scratch) at n × (at + 2 * n ≤ base) × Area degree (now scratch) base × Kept dim (now vectors) (now kept) ⌝ }
+    requires { ⌜ (entry < length (now marks)) × Plan (now marks) (now scratch) at n × (at + 2 * n ≤ base) × Area degree (now scratch) base × Kept dim (now vectors) (now kept) × («repair_degree» ≤ 16) × (length (now pairs) ≡ 10240) ⌝ }
     ensures { λ _. ⌜ Applied alpha (arrays dim degree (now (vectors .entry)) (now (targets .entry)) (now (edges .entry)) (now (versions .entry)) (now (marks .entry)))
         (repair-links (between dim (now (vectors .entry))) «repair_degree» entry (ids (cands (now (scratch .entry)) at n)))
         (arrays dim degree (now (vectors .entry)) (now (targets .exit)) (now (edges .exit)) (now (versions .entry)) (now (marks .entry))) (now (scratch .entry)) base (plan-words degree) (now (scratch .exit)) × Kept dim (now (vectors .entry)) (now (kept .exit)) ⌝ }
@@ -54,7 +60,8 @@ fn apply_plan(
     let rem = base + 640;
     score(dim, vectors, start, scratch, at, n, rem);
     let m = keep_valid(scratch, rem, n, marks, start);
-    span(
+    let t = span(dim, vectors, repair_degree, scratch, base, m, pairs);
+    apply_sources(
         dim,
         degree,
         alpha,
@@ -64,10 +71,12 @@ fn apply_plan(
         edges,
         versions,
         marks,
-        repair_degree,
+        pairs,
+        t,
         scratch,
-        base,
-        m,
+        at,
+        n,
+        base + 1920,
     );
 }
 
@@ -99,6 +108,7 @@ fn apply_each(
     marks: &[u8],
     repair_degree: usize,
     entry: u32,
+    pairs: &mut [u32],
     scratch: &mut [u32],
     stats: usize,
     plans: usize,
@@ -106,7 +116,7 @@ fn apply_each(
     base: usize,
 )
     requires { ⌜ Together (arrays dim degree (now vectors) (now targets) (now edges) (now versions) (now marks)) ⌝ }
-    requires { ⌜ (entry < length (now marks)) × Plans (now marks) (now scratch) stats plans p base × Area degree (now scratch) base × Kept dim (now vectors) (now kept) ⌝ }
+    requires { ⌜ (entry < length (now marks)) × Plans (now marks) (now scratch) stats plans p base × Area degree (now scratch) base × Kept dim (now vectors) (now kept) × («repair_degree» ≤ 16) × (length (now pairs) ≡ 10240) ⌝ }
     ensures { λ _. ⌜ Applied alpha (arrays dim degree (now (vectors .entry)) (now (targets .entry)) (now (edges .entry)) (now (versions .entry)) (now (marks .entry)))
         (plans-at (between dim (now (vectors .entry))) «repair_degree» entry (now (scratch .entry)) stats plans p)
         (arrays dim degree (now (vectors .entry)) (now (targets .exit)) (now (edges .exit)) (now (versions .entry)) (now (marks .entry))) (now (scratch .entry)) base (plan-words degree) (now (scratch .exit)) × Kept dim (now (vectors .entry)) (now (kept .exit)) ⌝ }
@@ -127,6 +137,7 @@ fn apply_each(
             marks,
             repair_degree,
             entry,
+            pairs,
             scratch,
             plans + 640 * j,
             n,
@@ -136,7 +147,7 @@ fn apply_each(
     }
 }
 
-// The same, with a table of distances, which holds none at first.
+// The same, with a table of distances, which holds none at first, and words for the pairs of a plan.
 pub fn apply_plans(
     dim: usize,
     degree: usize,
@@ -155,12 +166,13 @@ pub fn apply_plans(
     base: usize,
 )
     requires { ⌜ Together (arrays dim degree (now vectors) (now targets) (now edges) (now versions) (now marks)) ⌝ }
-    requires { ⌜ (entry < length (now marks)) × Plans (now marks) (now scratch) stats plans p base × Area degree (now scratch) base ⌝ }
+    requires { ⌜ (entry < length (now marks)) × Plans (now marks) (now scratch) stats plans p base × Area degree (now scratch) base × («repair_degree» ≤ 16) ⌝ }
     ensures { λ _. ⌜ Applied alpha (arrays dim degree (now (vectors .entry)) (now (targets .entry)) (now (edges .entry)) (now (versions .entry)) (now (marks .entry)))
         (plans-at (between dim (now (vectors .entry))) «repair_degree» entry (now (scratch .entry)) stats plans p)
         (arrays dim degree (now (vectors .entry)) (now (targets .exit)) (now (edges .exit)) (now (versions .entry)) (now (marks .entry))) (now (scratch .entry)) base (plan-words degree) (now (scratch .exit)) ⌝ }
 {
     let mut kept = [0u32; KEPT_WORDS];
+    let mut pairs = [0u32; PAIRS_WORDS];
     apply_each(
         dim,
         degree,
@@ -173,6 +185,7 @@ pub fn apply_plans(
         marks,
         repair_degree,
         entry,
+        &mut pairs,
         scratch,
         stats,
         plans,

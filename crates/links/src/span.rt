@@ -1,5 +1,4 @@
-// The candidates of a plan, connected one after the other: the nearest to a connected one first, linked both ways with those nearest to it.
-use super::link::link_each;
+// The candidates of a plan, connected one after the other: the nearest to a connected one first, paired with those nearest to it, to be linked both ways.
 use candidates::dist_at;
 use candidates::id_at;
 use candidates::put;
@@ -7,17 +6,14 @@ use candidates::sort_by_distance;
 use distances::slot_distance;
 use slots::marks::wide;
 ghost use mathlib.Core.Path.{_≡_};
+ghost use mathlib.Core.List.{_++_};
 ghost use Prim.Native.Nat.{_+_, _*_, _<_, _≤_, min};
 ghost use lib.ListN.{length};
-ghost use Rattle.lists.specs.Lists.{All};
 ghost use Rattle.candidates.specs.Candidates.{ids};
 ghost use Rattle.candidates.specs.contracts.Words.{cands};
-ghost use Rattle.distances.specs.contracts.Kept.{Kept};
-ghost use Rattle.slots.specs.Store.{arrays};
-ghost use Rattle.row.specs.Row.{Together};
 ghost use Rattle.repair.specs.Repair.{links};
-ghost use Rattle.links.specs.contracts.Linking.{between, link-words, Applied};
-ghost use Rattle.links.specs.contracts.Planning.{Stored, Behind, Nearest, Scored, Lowered, plan-words, Area, Planned, span-at, Connected};
+ghost use Rattle.links.specs.contracts.Linking.{between, links-at, pairs-of};
+ghost use Rattle.links.specs.contracts.Planning.{Stored, Behind, Nearest, Scored, Lowered, Plot, Vacant, PairedNearest, Planned, Connected, Spanned};
 
 // The place of the nearest of the `n` candidates at `at`, the first of equals.
 pub fn nearest(words: &[u32], at: usize, n: usize) -> usize
@@ -86,91 +82,73 @@ pub fn fewer(a: usize, b: usize) -> usize
     if a < b { a } else { b }
 }
 
-// Links slot `x` both ways with the `repair_degree` nearest of the `k` connected ones at `base`, of equals the earlier.
-fn link_nearest(
+// Adds the pairs of `x` and the slots of the `n` candidates at `to` to the `t` pairs, in their order.
+fn pair_each(x: u32, scratch: &[u32], to: usize, n: usize, pairs: &mut [u32], t: usize)
+    requires { ⌜ (to + 2 * n ≤ length (now scratch)) × (2 * t + 2 * n ≤ length (now pairs)) × (2 * t + 2 * n ≤ 8388608) ⌝ }
+    ensures { λ _. ⌜ pairs-of (now (pairs .exit)) 0 (t + n) ≡ pairs-of (now (pairs .entry)) 0 t ++ links-at x (now (scratch .entry)) to n ⌝ }
+{
+    let mut i: usize = 0;
+    while i < n {
+        let p = id_at(scratch, to, i);
+        put(pairs, 2 * (t + i), x, p);
+        i += 1;
+    }
+}
+
+// Adds the pairs of slot `x` and the `repair_degree` nearest of the `k` connected ones at `base`, of equals the earlier, to the `t` pairs. Returns how many
+// they are then.
+fn pair_nearest(
     dim: usize,
-    degree: usize,
-    alpha: f32,
     vectors: &[u8],
-    kept: &mut [u32],
-    targets: &mut [u32],
-    edges: &mut [u16],
-    versions: &[u16],
-    marks: &[u8],
     repair_degree: usize,
     x: u32,
     scratch: &mut [u32],
     base: usize,
     k: usize,
-)
-    requires { ⌜ Together (arrays dim degree (now vectors) (now targets) (now edges) (now versions) (now marks)) ⌝ }
-    requires { ⌜ (x < length (now marks)) × All (λ c. c .id < length (now marks)) (cands (now scratch) base k) × (k ≤ 320) × Area degree (now scratch) base × Kept dim (now vectors) (now kept) ⌝ }
-    ensures { λ _. ⌜ Applied alpha (arrays dim degree (now (vectors .entry)) (now (targets .entry)) (now (edges .entry)) (now (versions .entry)) (now (marks .entry)))
-        (links (between dim (now (vectors .entry))) «repair_degree» (ids (cands (now (scratch .entry)) base k)) x)
-        (arrays dim degree (now (vectors .entry)) (now (targets .exit)) (now (edges .exit)) (now (versions .entry)) (now (marks .entry))) (now (scratch .entry)) (base + 1280) (640 + link-words degree) (now (scratch .exit)) × Kept dim (now (vectors .entry)) (now (kept .exit)) ⌝ }
+    pairs: &mut [u32],
+    t: usize,
+) -> usize
+    requires { ⌜ Stored dim (now vectors) x (now scratch) base k × (k ≤ 320) × Plot (now scratch) base × Vacant «repair_degree» (now pairs) t ⌝ }
+    ensures { λ r. ⌜ PairedNearest (links (between dim (now (vectors .entry))) «repair_degree» (ids (cands (now (scratch .entry)) base k)) x)
+        (now (scratch .entry)) base (now (pairs .entry)) t (now (scratch .exit)) (now (pairs .exit)) r ⌝ }
 {
     let to = base + 1280;
     score(dim, vectors, x, scratch, base, k, to);
     sort_by_distance(scratch, to, k);
     let n = fewer(repair_degree, k);
-    link_each(
-        dim,
-        degree,
-        alpha,
-        vectors,
-        kept,
-        targets,
-        edges,
-        versions,
-        marks,
-        x,
-        to,
-        n,
-        scratch,
-        base + 1920,
-    );
+    pair_each(x, scratch, to, n, pairs, t);
+    t + n
 }
 
-// Connects the nearest of the `m` that remain; of the candidates at `base` the first `k` are connected. The last takes its place.
+// Connects the nearest of the `m` that remain; of the candidates at `base` the first `k` are connected. The last takes its place. Returns how many pairs
+// there are then.
 fn connect(
     dim: usize,
-    degree: usize,
-    alpha: f32,
     vectors: &[u8],
-    kept: &mut [u32],
-    targets: &mut [u32],
-    edges: &mut [u16],
-    versions: &[u16],
-    marks: &[u8],
     repair_degree: usize,
     scratch: &mut [u32],
     base: usize,
     k: usize,
     m: usize,
-)
-    requires { ⌜ Together (arrays dim degree (now vectors) (now targets) (now edges) (now versions) (now marks)) ⌝ }
-    requires { ⌜ Planned dim (now vectors) (length (now marks)) (now scratch) base k m × (0 < m) × Area degree (now scratch) base × Kept dim (now vectors) (now kept) ⌝ }
-    ensures { λ _. ⌜ Connected alpha (arrays dim degree (now (vectors .entry)) (now (targets .entry)) (now (edges .entry)) (now (versions .entry)) (now (marks .entry)))
-        (arrays dim degree (now (vectors .entry)) (now (targets .exit)) (now (edges .exit)) (now (versions .entry)) (now (marks .entry))) «repair_degree» (now (scratch .entry)) base k m (now (scratch .exit)) × Kept dim (now (vectors .entry)) (now (kept .exit)) ⌝ }
+    pairs: &mut [u32],
+    t: usize,
+) -> usize
+    requires { ⌜ Planned dim (now vectors) (now scratch) base k m × (0 < m) × Plot (now scratch) base × Vacant «repair_degree» (now pairs) t ⌝ }
+    ensures { λ r. ⌜ Connected dim (now (vectors .entry)) «repair_degree» (now (scratch .entry)) base k m (now (pairs .entry)) t (now (scratch .exit)) (now (pairs .exit)) r ⌝ }
 {
     let rem = base + 640;
     let i = nearest(scratch, rem, m);
     let next = id_at(scratch, rem, i);
-    link_nearest(
+    let r = pair_nearest(
         dim,
-        degree,
-        alpha,
         vectors,
-        kept,
-        targets,
-        edges,
-        versions,
-        marks,
         repair_degree,
         next,
         scratch,
         base,
         k,
+        pairs,
+        t,
     );
     put(scratch, base + 2 * k, 0, next);
     let last = m - 1;
@@ -178,50 +156,29 @@ fn connect(
     let id = id_at(scratch, rem, last);
     put(scratch, rem + 2 * i, dist, id);
     lower(dim, vectors, next, scratch, rem, last);
+    r
 }
 
-// Connects all that remain, `n` of them, with the first of the candidates at `base`.
+// Connects all that remain, `n` of them, with the first of the candidates at `base`. Returns how many pairs of linked slots there are.
 pub fn span(
     dim: usize,
-    degree: usize,
-    alpha: f32,
     vectors: &[u8],
-    kept: &mut [u32],
-    targets: &mut [u32],
-    edges: &mut [u16],
-    versions: &[u16],
-    marks: &[u8],
     repair_degree: usize,
     scratch: &mut [u32],
     base: usize,
     n: usize,
-)
-    requires { ⌜ Together (arrays dim degree (now vectors) (now targets) (now edges) (now versions) (now marks)) ⌝ }
-    requires { ⌜ Planned dim (now vectors) (length (now marks)) (now scratch) base 1 n × Area degree (now scratch) base × Kept dim (now vectors) (now kept) ⌝ }
-    ensures { λ _. ⌜ Applied alpha (arrays dim degree (now (vectors .entry)) (now (targets .entry)) (now (edges .entry)) (now (versions .entry)) (now (marks .entry)))
-        (span-at dim (now (vectors .entry)) «repair_degree» (now (scratch .entry)) base 1 n n)
-        (arrays dim degree (now (vectors .entry)) (now (targets .exit)) (now (edges .exit)) (now (versions .entry)) (now (marks .entry))) (now (scratch .entry)) base (plan-words degree) (now (scratch .exit)) × Kept dim (now (vectors .entry)) (now (kept .exit)) ⌝ }
+    pairs: &mut [u32],
+) -> usize
+    requires { ⌜ Planned dim (now vectors) (now scratch) base 1 n × Plot (now scratch) base × («repair_degree» ≤ 16) × (length (now pairs) ≡ 10240) ⌝ }
+    ensures { λ r. ⌜ Spanned dim (now (vectors .entry)) «repair_degree» (now (scratch .entry)) base n (now (scratch .exit)) (now (pairs .exit)) r ⌝ }
 {
+    let mut t: usize = 0;
     let mut k: usize = 1;
     let mut m = n;
     while 0 < m {
-        connect(
-            dim,
-            degree,
-            alpha,
-            vectors,
-            kept,
-            targets,
-            edges,
-            versions,
-            marks,
-            repair_degree,
-            scratch,
-            base,
-            k,
-            m,
-        );
+        t = connect(dim, vectors, repair_degree, scratch, base, k, m, pairs, t);
         k += 1;
         m -= 1;
     }
+    t
 }

@@ -1,3 +1,4 @@
+-- An entry is read, or written anew.
 use Rattle.distances.proofs.Kept.{kept-read, kept-written}
 use native.Mathlib.Omega.{arith}
 use mathlib.Core.Path.{refl}
@@ -5,6 +6,13 @@ use lib.ListN.{length-set}
 use borrow.Author.Needs.{needs}
 use Rattle.distances.proofs.kept_distance.Statement.{statement}
 use Rattle.distances.proofs.kept_distance.Tie as tie
+
+-- places before the needs below, each named by what was done last there
+abbrev start₁ : tie.After-slice-known3 → tie.Start
+start₁ c = c .before .before .before .before .before .before .before
+
+abbrev start₂ : tie.After-slot-distance2 → tie.Start
+start₂ c = c .before .before .before .before .before .before .before
 
 slot-distance-requires : tie.Need-slot-distance-requires
 slot-distance-requires c κs = search needs
@@ -43,7 +51,7 @@ slice-read-result : tie.Need-slice-read-result
 slice-read-result c = search needs
 
 returns-2 : tie.Need-returns-2
-returns-2 c = let p = c .before .before .before .before .before .before .before .pre in (kept-read (p .5) (c .before .before .before .kept-at .result) (omega (arith, c .before .before .before .kept-at .ensures, c .before .before .before .before .if1 .left)) (p .3) (p .4) (c .before .if2 .taken) refl, p .5)
+returns-2 c = let p = (start₁ c) .pre in (kept-read (p .5) (c .before .before .before .kept-at .result) (omega (arith, c .before .before .before .kept-at .ensures, c .before .before .before .before .if1 .left)) (p .3) (p .4) (c .before .if2 .taken) refl, p .5)
 
 slot-distance-requires-2 : tie.Need-slot-distance-requires-2
 slot-distance-requires-2 c κs = search needs
@@ -73,7 +81,7 @@ same-length : tie.Need-same-length
 same-length c = search needs
 
 returns-3 : tie.Need-returns-3
-returns-3 c = let p = c .before .before .before .before .before .before .before .pre in (c .slot-distance2 .ensures, kept-written (p .5) (c .before .before .before .kept-at .result) (omega (arith, c .before .before .before .kept-at .ensures, c .before .before .before .before .if1 .left)) (p .3) (p .4) (c .slot-distance2 .ensures))
+returns-3 c = let p = (start₂ c) .pre in (c .slot-distance2 .ensures, kept-written (p .5) (c .before .before .before .kept-at .result) (omega (arith, c .before .before .before .kept-at .ensures, c .before .before .before .before .if1 .left)) (p .3) (p .4) (c .slot-distance2 .ensures))
 
 pub kept-distance-spec : {M : Type 1} → statement M
 kept-distance-spec =

@@ -1,11 +1,12 @@
--- Links applied to the stored rows, one after the other: what the functions ask, and what they leave. Assumes nothing.
+-- Links applied to the stored rows, one source after the other: what the functions ask, and what they leave. Assumes nothing.
 use Prim.Native.Nat.{ℕ, _+_, _*_, _≤_, _<_}
 use mathlib.Core.Bool.{cond}
 use mathlib.Core.List.{List, [], _∷_, _++_}
 use mathlib.Core.Path.{_≡_}
 use lib.Ieee.{Float}
+use lib.Dec.{eqb}
 use lib.ListN.{length}
-use Rattle.lists.specs.Lists.{All, elem, foldl, concat-map}
+use Rattle.lists.specs.Lists.{All, elem, filter, foldl, concat-map}
 use Rattle.vectors.specs.Space.{slot-distance, space}
 use Rattle.candidates.specs.Candidates.{ids}
 use Rattle.candidates.specs.contracts.Words.{pair, cands, Outside}
@@ -32,6 +33,18 @@ link s t = record { source = s; target = t }
 abbrev pub links-at : ℕ → List ℕ → ℕ → ℕ → List Link
 links-at x w to n = concat-map (both-ways x) (ids (cands w to n))
 
+-- the links of the n pairs from word a on
+abbrev pub pairs-of : List ℕ → ℕ → ℕ → List Link
+pairs-of w a n = concat-map (λ c. both-ways (c .dist) (c .id)) (cands w a n)
+
+-- those whose source is s
+abbrev pub from : ℕ → List Link → List Link
+from s ls = filter (λ l. eqb (l .source) s) ls
+
+-- they are applied
+abbrev pub by-source : List Link → Store → ℕ → Store
+by-source ls b s = foldl apply-link b (from s ls)
+
 -- ---- what is asked
 -- how many words a link needs: the candidates of a row, one more, and a selection
 abbrev pub link-words : ℕ → ℕ
@@ -41,11 +54,10 @@ pub record Room (degree : ℕ) (w : List ℕ) (at : ℕ) : Type 0 where
   pub inside : at + link-words degree ≤ length w
   pub below : at + link-words degree ≤ 8388608
 
--- x and the slots of the n candidates at `to` are inside, and the words from `at` on lie behind them
-pub record Ends (slots x : ℕ) (w : List ℕ) (to n at : ℕ) : Type 0 where
-  pub source-inside : x < slots
-  pub inside : All (λ c. c .id < slots) (cands w to n)
-  pub apart : to + 2 * n ≤ at
+-- n pairs of slots inside
+pub record Pairs (slots : ℕ) (pairs : List ℕ) (n : ℕ) : Type 0 where
+  pub inside : 2 * n ≤ length pairs
+  pub slots-in : All (λ c. (c .dist < slots) × (c .id < slots)) (cands pairs 0 n)
 
 -- ---- what is left of the words w, as w′
 -- the n candidates at `at` with the target t, at its distance to s, where none of them has it
@@ -59,5 +71,11 @@ pub record Joined (dim : ℕ) (vectors : List ℕ) (s t : ℕ) (w : List ℕ) (a
 -- links are applied to the arrays a, which have come to a′; of the words only k from `at` on may change
 pub record Applied (alpha : Float) (a : Arrays) (ls : List Link) (a′ : Arrays) (w : List ℕ) (at k : ℕ) (w′ : List ℕ) : Type 0 where
   pub does : (entry : ℕ) → index-of alpha entry a′ ≡ foldl apply-link (index-of alpha entry a) ls
+  pub size : length w′ ≡ length w
+  pub same : Outside at k w w′
+
+-- the same of links by their source, for each source of ss in turn
+pub record BySource (alpha : Float) (a : Arrays) (ls : List Link) (ss : List ℕ) (a′ : Arrays) (w : List ℕ) (at k : ℕ) (w′ : List ℕ) : Type 0 where
+  pub does : (entry : ℕ) → index-of alpha entry a′ ≡ foldl (by-source ls) (index-of alpha entry a) ss
   pub size : length w′ ≡ length w
   pub same : Outside at k w w′

@@ -1,20 +1,18 @@
 -- The links of a plan over lent words: what the functions ask, and what they leave. From word `base` on lie the connected candidates, from 640 words on
 -- those that remain, each with its distance to the nearest connected one, from 1,280 on the connected ones by their distance to the next, and from 1,920
--- on the words in which a link is applied. Assumes nothing.
+-- on the words in which a link is applied. The pairs of slots to be linked lie in words of their own. Assumes nothing.
 use Prim.Native.Nat.{ℕ, suc, _+_, _-_, _*_, _≤_, _<_, min}
 use mathlib.Core.Bool.{true}
-use mathlib.Core.List.{List, map}
+use mathlib.Core.List.{List, _++_, map}
 use mathlib.Core.Path.{_≡_}
-use lib.Ieee.{Float}
 use lib.ListN.{length, getD}
-use Rattle.lists.specs.Lists.{All, foldl, concat-map, range, least-from, least-of}
+use Rattle.lists.specs.Lists.{All, concat-map, range, least-from, least-of}
 use Rattle.lists.proofs.Unique.{Unique}
 use Rattle.candidates.specs.Candidates.{Candidate, scored, ids}
 use Rattle.candidates.specs.contracts.Words.{pair, cand, cands, Outside}
-use Rattle.slots.specs.Store.{Arrays, is-valid}
-use Rattle.row.specs.Row.{index-of}
+use Rattle.slots.specs.Store.{is-valid}
 use Rattle.repair.specs.Repair.{Link, span, repair-links}
-use Rattle.links.specs.contracts.Linking.{between, apply-link, link-words}
+use Rattle.links.specs.contracts.Linking.{between, pairs-of, link-words}
 
 -- ---- lists of candidates
 -- y and the slots of the n candidates at `at` have vectors
@@ -62,12 +60,31 @@ pub record Area (degree : ℕ) (w : List ℕ) (base : ℕ) : Type 0 where
   pub inside : base + plan-words degree ≤ length w
   pub below : base + plan-words degree ≤ 8388608
 
+-- the words in which it is made
+pub record Plot (w : List ℕ) (base : ℕ) : Type 0 where
+  pub inside : base + 1920 ≤ length w
+  pub below : base + 1920 ≤ 8388608
+
+-- t pairs, and room for as many more as one slot is paired
+pub record Vacant (repair-degree : ℕ) (pairs : List ℕ) (t : ℕ) : Type 0 where
+  pub few : repair-degree ≤ 16
+  pub inside : 2 * t + 32 ≤ length pairs
+  pub below : 2 * t + 32 ≤ 8388608
+
+-- the links ls are added to t pairs
+pub record PairedNearest (ls : List Link) (w : List ℕ) (base : ℕ) (pairs : List ℕ) (t : ℕ) (w′ pairs′ : List ℕ) (r : ℕ) : Type 0 where
+  pub added : pairs-of pairs′ 0 r ≡ pairs-of pairs 0 t ++ ls
+  pub more : r ≤ t + 16
+  pub size : length w′ ≡ length w
+  pub same : Outside (base + 1280) 640 w w′
+
 -- k are connected and m remain, each with its distance to the nearest connected one
-pub record Planned (dim : ℕ) (vectors : List ℕ) (slots : ℕ) (w : List ℕ) (base k m : ℕ) : Type 0 where
+pub record Planned (dim : ℕ) (vectors w : List ℕ) (base k m : ℕ) : Type 0 where
+  pub short : dim ≤ 256
   pub some : 0 < k
   pub few : k + m ≤ 320
-  pub connected : All (λ c. c .id < slots) (cands w base k)
-  pub remaining : All (λ c. c .id < slots) (cands w (base + 640) m)
+  pub connected : All (λ c. c .id * dim + dim ≤ length vectors) (cands w base k)
+  pub remaining : All (λ c. c .id * dim + dim ≤ length vectors) (cands w (base + 640) m)
   pub least : All (λ c. c .dist ≡ least-of (between dim vectors (c .id)) (ids (cands w base k))) (cands w (base + 640) m)
   pub distinct : Distinct (ids (cands w (base + 640) m))
 
@@ -76,13 +93,19 @@ abbrev pub span-at : ℕ → List ℕ → ℕ → List ℕ → ℕ → ℕ → �
 span-at dim vectors repair-degree w base k m f = span (between dim vectors) repair-degree f (ids (cands w base k)) (ids (cands w (base + 640) m))
 
 -- one more is connected
-pub record Connected (alpha : Float) (a a′ : Arrays) (repair-degree : ℕ) (w : List ℕ) (base k m : ℕ) (w′ : List ℕ) : Type 0 where
-  pub planned : Planned (a .dim) (a .vectors) (length (a .marks)) w′ base (k + 1) (m - 1)
-  pub goes : (entry f : ℕ)
-      → foldl apply-link (index-of alpha entry a) (span-at (a .dim) (a .vectors) repair-degree w base k m (suc f))
-      ≡ foldl apply-link (index-of alpha entry a′) (span-at (a .dim) (a .vectors) repair-degree w′ base (k + 1) (m - 1) f)
+pub record Connected (dim : ℕ) (vectors : List ℕ) (repair-degree : ℕ) (w : List ℕ) (base k m : ℕ) (pairs : List ℕ) (t : ℕ) (w′ pairs′ : List ℕ) (r : ℕ) : Type 0 where
+  pub planned : Planned dim vectors w′ base (k + 1) (m - 1)
+  pub goes : (f : ℕ) → pairs-of pairs 0 t ++ span-at dim vectors repair-degree w base k m (suc f) ≡ pairs-of pairs′ 0 r ++ span-at dim vectors repair-degree w′ base (k + 1) (m - 1) f
+  pub more : r ≤ t + 16
   pub size : length w′ ≡ length w
-  pub same : Outside base (plan-words (a .degree)) w w′
+  pub same : Outside base 1920 w w′
+
+-- all are connected; r pairs are to be linked
+pub record Spanned (dim : ℕ) (vectors : List ℕ) (repair-degree : ℕ) (w : List ℕ) (base n : ℕ) (w′ pairs′ : List ℕ) (r : ℕ) : Type 0 where
+  pub paired : pairs-of pairs′ 0 r ≡ span-at dim vectors repair-degree w base 1 n n
+  pub few : r ≤ 5120
+  pub size : length w′ ≡ length w
+  pub same : Outside base 1920 w w′
 
 -- ---- all plans
 -- n candidates of a plan at `at`: live, each once

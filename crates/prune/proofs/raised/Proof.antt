@@ -1,7 +1,12 @@
+-- A factor above alpha stays; another is at least the quotient.
 use Rattle.prune.proofs.Settling.{raised-over, raised-to}
 use borrow.Author.Needs.{needs}
 use Rattle.prune.proofs.raised.Statement.{statement}
 use Rattle.prune.proofs.raised.Tie as tie
+
+-- places before the needs below, each named by what was done last there
+abbrev if1₁ : tie.After-larger → tie.Else1
+if1₁ c = c .before .before .before .before .before .before
 
 returns : tie.Need-returns
 returns c = (raised-over _ _ _ _ (c .if1 .taken), c .before .before .before .pre .6)
@@ -19,7 +24,7 @@ same-length : tie.Need-same-length
 same-length c = search needs
 
 returns-2 : tie.Need-returns-2
-returns-2 c = (raised-to _ _ _ (c .before .before .before .before .before .before .if1 .left) (c .before .before .before .before .kept-distance .ensures .0) (c .before .quotient .ensures) (c .larger .ensures), c .before .before .before .before .kept-distance .ensures .1)
+returns-2 c = (raised-to _ _ _ ((if1₁ c) .if1 .left) (c .before .before .before .before .kept-distance .ensures .0) (c .before .quotient .ensures) (c .larger .ensures), c .before .before .before .before .kept-distance .ensures .1)
 
 pub raised-spec : {M : Type 1} → statement M
 raised-spec =

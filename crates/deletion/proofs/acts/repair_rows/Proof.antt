@@ -59,7 +59,7 @@ make-plans-requires : tie.Need-make-plans-requires
 make-plans-requires c κs = let p = (start₁ c) .pre in (p .0, p .1 .makes)
 
 apply-plans-requires : tie.Need-apply-plans-requires
-apply-plans-requires c κs = let p = (start₂ c) .pre in (p .0, (p .1 .makes .entry-in, made-plans (p .0) (p .1) ((make-plans₂ c) .make-plans .ensures), made-area (p .0) (p .1) ((make-plans₂ c) .make-plans .ensures)))
+apply-plans-requires c κs = let p = (start₂ c) .pre in (p .0, (p .1 .makes .entry-in, made-plans (p .0) (p .1) ((make-plans₂ c) .make-plans .ensures), made-area (p .0) (p .1) ((make-plans₂ c) .make-plans .ensures), p .1 .makes .degree-most))
 
 finish-all-requires : tie.Need-finish-all-requires
 finish-all-requires c κs = let p = (start₃ c) .pre in repaired-finish (p .0) (p .1) ((make-plans₃ c) .make-plans .ensures) ((apply-plans₃ c) .apply-plans .ensures) ((targets₃ c) .targets .given) ((edges₃ c) .edges .given)
