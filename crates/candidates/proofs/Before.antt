@@ -6,7 +6,7 @@ use mathlib.Core.Path.{_≡_, refl, sym, _∙_}
 use mathlib.Core.Logic.{_⊎_, inl, inr}
 use native.Mathlib.Omega.{arith}
 use lib.Dec.{eqb, ltb}
-use borrow.Author.Tests.{ltb-true, ltb-false, eqb-true, eqb-false, lt-ltb, le-ltb, eq-eqb, ne-eqb}
+use borrow.Author.Tests.{ltb-true, ltb-false, eqb-true, eqb-false, lt-ltb, le-ltb, eq-eqb}
 use Rattle.candidates.specs.Candidates.{Candidate, before}
 
 abbrev Before : Candidate → Candidate → Type 0
@@ -33,17 +33,6 @@ module _ (a b : Candidate) where
       go true q e f h = let z : _≡_ {A = ℕ} 0 1 = cc in absurd (omega arith)
       go false true e f h = inr (sym (eqb-true _ _ f), ltb-false _ _ h)
       go false false e f h = let n = eqb-false (a .dist) (b .dist) f in inl (omega (arith, ltb-false (a .dist) (b .dist) e))
-
--- what the tests of the code say
-module _ (a b : Candidate) where
-  pub tested-nearer : a .dist < b .dist → true ≡ before a b
-  tested-nearer h = sym (before-when a b (inl h))
-
-  pub tested-as-near : a .dist ≡ b .dist → ltb (a .id) (b .id) ≡ before a b
-  tested-as-near e = let k : b .dist ≤ a .dist = omega (arith, e) in rw (le-ltb _ _ k, eq-eqb _ _ e)
-
-  pub tested-farther : b .dist ≤ a .dist → (a .dist ≡ b .dist → ⊥) → false ≡ before a b
-  tested-farther k n = rw (le-ltb _ _ k, ne-eqb _ _ n)
 
 pub before-before : (a b c : Candidate) → before a b ≡ true → before b c ≡ true → before a c ≡ true
 before-before a b c h k = before-when a c (go (before-then a b h) (before-then b c k))

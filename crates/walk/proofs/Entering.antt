@@ -68,6 +68,9 @@ module _ {beam : ℕ} {w : List ℕ} {n next d t : ℕ} where
         }
 
 -- the list without its last
+pub less-small : {beam : ℕ} {w : List ℕ} {n : ℕ} → 0 < n → Listed beam w n → Small (cands w 0 (n - 1))
+less-small {w = w} {n} h f = rw (cands-init w 0 n h) at (all-init (λ c. c .dist ≤ 16777216) (cands w 0 n) (f .small))
+
 pub less-order : {beam : ℕ} {w : List ℕ} {n : ℕ} → 0 < n → Listed beam w n → Ordered before (cands w 0 (n - 1))
 less-order {w = w} {n} h f = rw (cands-init w 0 n h) at (pairwise-init (λ a b. before a b ≡ true) (cands w 0 n) (f .order))
 

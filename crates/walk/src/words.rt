@@ -143,7 +143,7 @@ pub fn next(scratch: &[u32], beam: usize, held: Held) -> usize
 
 // A candidate enters the list where there is room, or where it is nearer than the worst, which leaves.
 pub fn enter(scratch: &mut [u32], beam: usize, held: Held, dist: u32, id: u32) -> Held
-    requires { ⌜ Listed beam (now scratch) (held .count) × (held .next ≤ held .count) ⌝ }
+    requires { ⌜ Listed beam (now scratch) (held .count) × (held .next ≤ held .count) × (dist ≤ 16777216) ⌝ }
     ensures { λ r. ⌜ Entered beam (now (scratch .entry)) (held .count) (held .next) (pair dist id) (now (scratch .exit)) (r .count) (r .next) ⌝ }
 {
     let n = held.count;

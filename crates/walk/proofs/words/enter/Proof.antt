@@ -1,5 +1,5 @@
 use native.Mathlib.Omega.{arith}
-use Rattle.walk.proofs.Entering.{entered-room, entered-full, entered-not, less-order}
+use Rattle.walk.proofs.Entering.{entered-room, entered-full, entered-not, less-small, less-order}
 use borrow.Author.Needs.{needs}
 use Rattle.walk.proofs.words.enter.Statement.{statement}
 use Rattle.walk.proofs.words.enter.Tie as tie
@@ -50,7 +50,7 @@ returns-2 c = entered-not (c .before .before .before .if1 .left) (omega (arith, 
 insert-ordered-requires-2 : tie.Need-insert-ordered-requires-2
 insert-ordered-requires-2 c κs =
     let p = (start₂ c) .pre in
-    (omega (arith, p .0), less-order (omega (arith, p .0, c .before .before .before .before .if1 .left)) (p .0))
+    (omega (arith, p .0), p .2, less-small (omega (arith, p .0, c .before .before .before .before .if1 .left)) (p .0), less-order (omega (arith, p .0, c .before .before .before .before .if1 .left)) (p .0))
 
 least-requires-2 : tie.Need-least-requires-2
 least-requires-2 c κs = search needs
