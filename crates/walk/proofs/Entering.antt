@@ -8,10 +8,10 @@ use borrow.Author.Tests.{lt-ltb, le-ltb, le-leb, lt-leb}
 use lib.Dec.{leb}
 use lib.ListN.{take}
 use Rattle.lists.specs.Lists.{All, Ordered}
-use Rattle.lists.proofs.All.{all-append}
+use Rattle.lists.proofs.All.{all-append, all-init}
 use Rattle.lists.proofs.Ordered.{pairwise-init}
 use Rattle.candidates.specs.Candidates.{Candidate, before}
-use Rattle.candidates.specs.contracts.Words.{pair, cand, cands, Inserted}
+use Rattle.candidates.specs.contracts.Words.{pair, cand, cands, Inserted, Small}
 use Rattle.candidates.proofs.Words.{cands-length, cands-take, cands-snoc, cands-init, cands-last, outside-none, outside-wide}
 use Rattle.walk.specs.Walk.{worst, enter, ends}
 use Rattle.slots.specs.Scratch.{marks-at}

@@ -7,6 +7,7 @@ use Rattle.candidates.specs.contracts.Words.{cands}
 use Rattle.candidates.proofs.Words.{cands-none, cands-cons}
 use Rattle.walk.specs.contracts.Scratch.{with-fresh}
 use Rattle.walk.proofs.Gathering.{Entering, entering-none, entering-ready, entering-more, entering-done}
+use Rattle.walk.proofs.Seen.{dist-small}
 use Rattle.walk.proofs.enter_all.Statement.{statement}
 use Rattle.walk.proofs.enter_all.Tie as tie
 
@@ -46,7 +47,7 @@ whole-distance-requires c κs =
     entering-ready (c .before .before .before .before .loop .inv .1) ((start₁ c) .pre .0 .0) (cands-cons _ 0 _ _ (c .before .before .before .loop-test .taken)) (c .before .before .id-at .ensures) (c .before .wide .ensures) (c .dist-at .ensures)
 
 enter-requires : tie.Need-enter-requires Inv-loop μ-loop
-enter-requires c κs = let f = c .before .before .before .before .before .before .loop .inv .1 .goes in (f .listed, f .passed)
+enter-requires c κs = let f = c .before .before .before .before .before .before .loop .inv .1 .goes in (f .listed, f .passed, dist-small (c .before .whole-distance .ensures))
 
 add-k : tie.Need-add-k Inv-loop μ-loop
 add-k c = omega (arith, c .before .before .before .before .before .before .before .before .loop-test .taken)
