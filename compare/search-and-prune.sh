@@ -12,6 +12,7 @@ cat > "$work/crates/exports/src/lib.rt" <<'RT'
 ghost use Rattle.slots.specs.Store.{arrays};
 ghost use Rattle.walk.specs.contracts.Scratch as Scratch;
 ghost use Rattle.prune.specs.contracts.Selecting as Selecting;
+ghost use Rattle.distances.specs.contracts.Kept as Kept;
 
 #[no_mangle]
 pub extern "C" fn exported_search(
@@ -38,6 +39,7 @@ pub extern "C" fn exported_prune(
     alpha: f32,
     dim: usize,
     vectors: &[u8],
+    kept: &mut [u32],
     marks: &[u8],
     source: u32,
     scratch: &mut [u32],
@@ -45,9 +47,9 @@ pub extern "C" fn exported_prune(
     n: usize,
     to: usize,
 ) -> usize
-    requires { ⌜ Selecting.Ready degree dim (now vectors) (now marks) (now scratch) a n to ⌝ }
+    requires { ⌜ Selecting.Ready degree dim (now vectors) (now marks) (now scratch) a n to × Kept.Kept dim (now vectors) (now kept) ⌝ }
 {
-    prune::prune_scored(degree, alpha, dim, vectors, marks, source, scratch, a, n, to)
+    prune::prune_scored(degree, alpha, dim, vectors, kept, marks, source, scratch, a, n, to)
 }
 RT
 (cd "$work" && rt staticlib exports) > "$work/log" 2>&1 || { grep -E '^(rt:|fn exports)|error' "$work/log"; exit 1; }
