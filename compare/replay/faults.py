@@ -12,27 +12,27 @@ import sys
 ROOT = os.path.dirname(os.path.dirname(os.path.dirname(os.path.abspath(__file__))))
 COPY = os.path.join(ROOT, "target", "replay-faults")
 CRATES = os.path.join(COPY, "crates")
-COMPARE, TEXT = "replay/src/compare.rt", "text/src/lib.rt"
+LOOKS, TEXT = "looks/src/lib.rt", "text/src/lib.rt"
 MAKING, INSERTING, DELETING = ("changes/src/%s.rt" % f for f in ("making", "inserting", "deleting"))
 STATUSES, ENABLING, REPORTS, ASSESSING, GUARDED = ("guards/src/%s.rt" % f for f in ("statuses", "enabling", "reports", "assessing", "deleting"))
 FAULTS = [
-    ("read: number with itself", COMPARE, "refusal == 0 && n == value,", "refusal == 0 && n == n,"),
-    ("read: alpha with itself", COMPARE, "a == alpha_of(value)", "a == a"),
-    ("read: version with itself", COMPARE, "(v as u32) == value", "v == v"),
-    ("read: refusal with itself", COMPARE, "Value::Refused(r) => r == refusal,", "Value::Refused(r) => r == r,"),
-    ("read: refusal not looked at where carried out", COMPARE, "Value::Number(n) => refusal == 0 && n == value", "Value::Number(n) => n == value"),
-    ("read: end of line not looked at", COMPARE, "same_value(got, refusal.value, value.value) && ends(line, value)", "same_value(got, refusal.value, value.value)"),
-    ("vector: bytes with themselves", COMPARE, "(got[i] as u32) != last.value", "got[i] != got[i]"),
-    ("vector: length not looked at", COMPARE, "if wide(count.value) != got.len() {", "if got.len() != got.len() {"),
-    ("vector: end of line not looked at", COMPARE, "        i += 1;\n    }\n    ends(line, last)\n}\n\n// Performs a line `vector`.", "        i += 1;\n    }\n    true\n}\n\n// Performs a line `vector`."),
-    ("size: with itself", COMPARE, "refusal.value == 0 && n == value.value", "refusal.value == 0 && n == n"),
-    ("size: refusal with itself", COMPARE, "good && r == refusal.value", "good && r == r"),
-    ("search: slot with itself", COMPARE, "slots[i] == slot &&", "slots[i] == slots[i] &&"),
-    ("search: distance not looked at", COMPARE, "slots[i] == slot && dists[i] == std::num::nearest_u32_to_f32(dist)", "slots[i] == slot"),
-    ("search: count with itself", COMPARE, "n == count.value && same", "n == n && same"),
-    ("search: refusal with itself", COMPARE, "Found::Refused(r) => r == refusal.value", "Found::Refused(r) => r == r"),
-    ("search: refusal not looked at where carried out", COMPARE, "refusal.value == 0 && n == count.value", "n == count.value"),
-    ("search: candidates not looked at", COMPARE, "n == count.value && same_candidates(line, count, slots, dists)", "n == count.value"),
+    ("read: number with itself", LOOKS, "refusal == 0 && n == value,", "refusal == 0 && n == n,"),
+    ("read: alpha with itself", LOOKS, "a == alpha_of(value)", "a == a"),
+    ("read: version with itself", LOOKS, "(v as u32) == value", "v == v"),
+    ("read: refusal with itself", LOOKS, "Value::Refused(r) => r == refusal,", "Value::Refused(r) => r == r,"),
+    ("read: refusal not looked at where carried out", LOOKS, "Value::Number(n) => refusal == 0 && n == value", "Value::Number(n) => n == value"),
+    ("read: end of line not looked at", LOOKS, "same_value(got, refusal.value, value.value) && ends(line, value)", "same_value(got, refusal.value, value.value)"),
+    ("vector: bytes with themselves", LOOKS, "(got[i] as u32) != last.value", "got[i] != got[i]"),
+    ("vector: length not looked at", LOOKS, "if wide(count.value) != got.len() {", "if got.len() != got.len() {"),
+    ("vector: end of line not looked at", LOOKS, "        i += 1;\n    }\n    ends(line, last)\n}\n\n// Performs a line `vector`.", "        i += 1;\n    }\n    true\n}\n\n// Performs a line `vector`."),
+    ("size: with itself", LOOKS, "refusal.value == 0 && n == value.value", "refusal.value == 0 && n == n"),
+    ("size: refusal with itself", LOOKS, "good && r == refusal.value", "good && r == r"),
+    ("search: slot with itself", LOOKS, "slots[i] == slot &&", "slots[i] == slots[i] &&"),
+    ("search: distance not looked at", LOOKS, "slots[i] == slot && dists[i] == std::num::nearest_u32_to_f32(dist)", "slots[i] == slot"),
+    ("search: count with itself", LOOKS, "n == count.value && same", "n == n && same"),
+    ("search: refusal with itself", LOOKS, "Found::Refused(r) => r == refusal.value", "Found::Refused(r) => r == r"),
+    ("search: refusal not looked at where carried out", LOOKS, "refusal.value == 0 && n == count.value", "n == count.value"),
+    ("search: candidates not looked at", LOOKS, "n == count.value && same_candidates(line, count, slots, dists)", "n == count.value"),
     ("make: refusal with itself", MAKING, "new.good = m.good && r == m.refusal", "new.good = m.good && r == r"),
     ("make: refusal not looked at where carried out", MAKING, "new.good = m.good && m.refusal == 0", "new.good = m.good"),
     ("make: form of the line not looked at", MAKING, "good: ends(line, refusal),", "good: true,"),

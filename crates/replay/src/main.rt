@@ -2,8 +2,6 @@
 // the list. It prints the number of each line that differs, malformed ones and those that ask for more than its arrays hold included, and then how many
 // calls of each kind agreed, how many lines there were, and how many differed. The list has wrong answers of every kind, so that a comparison that does
 // not compare is seen.
-mod compare;
-
 use index::Guard;
 use index::Index;
 use lines::kinds::ASSESS;
@@ -212,7 +210,7 @@ fn perform(
         pool,
         scratch,
     );
-    compare::look(
+    looks::look(
         line,
         word,
         new,

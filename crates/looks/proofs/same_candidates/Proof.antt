@@ -1,7 +1,7 @@
 use Prim.Native.Nat.{_≤_, _-_}
 use borrow.Author.Needs.{needs}
-use Rattle.replay.proofs.compare.same_candidates.Statement.{statement}
-use Rattle.replay.proofs.compare.same_candidates.Tie as tie
+use Rattle.looks.proofs.same_candidates.Statement.{statement}
+use Rattle.looks.proofs.same_candidates.Tie as tie
 
 abbrev Inv-loop : tie.InvT-loop
 Inv-loop line slots dists last₀ n i₀ last i = i ≤ n

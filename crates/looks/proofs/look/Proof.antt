@@ -1,8 +1,8 @@
 use native.Mathlib.Omega.{arith}
 use lib.ListN.{length-take}
 use borrow.Author.Needs.{needs}
-use Rattle.replay.proofs.compare.look.Statement.{statement}
-use Rattle.replay.proofs.compare.look.Tie as tie
+use Rattle.looks.proofs.look.Statement.{statement}
+use Rattle.looks.proofs.look.Tie as tie
 
 part-requires : tie.Need-part-requires
 part-requires c κs = tt

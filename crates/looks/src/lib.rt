@@ -1,4 +1,4 @@
-// The calls that leave an index as it is, each compared with the stored answer.
+// The lines of calls that leave an index as it is, each compared with the stored answer.
 use index::Index;
 use index::ScratchWords;
 use lines::kinds::READ;

@@ -1,8 +1,8 @@
 use native.Mathlib.Omega.{arith}
 use lib.ListN.{length-take}
 use borrow.Author.Needs.{needs}
-use Rattle.replay.proofs.compare.search.Statement.{statement}
-use Rattle.replay.proofs.compare.search.Tie as tie
+use Rattle.looks.proofs.search.Statement.{statement}
+use Rattle.looks.proofs.search.Tie as tie
 
 first-requires : tie.Need-first-requires
 first-requires c κs = tt

@@ -2,8 +2,8 @@ use Prim.Native.Nat.{_≤_, _-_}
 use borrow.Author.Needs.{needs}
 use native.Mathlib.Omega.{arith}
 use lib.ListN.{length}
-use Rattle.replay.proofs.compare.same_bytes.Statement.{statement}
-use Rattle.replay.proofs.compare.same_bytes.Tie as tie
+use Rattle.looks.proofs.same_bytes.Statement.{statement}
+use Rattle.looks.proofs.same_bytes.Tie as tie
 
 abbrev Inv-loop : tie.InvT-loop
 Inv-loop line got last₀ i₀ last i = i ≤ length got
