@@ -4,7 +4,7 @@ use crate::both::Both;
 use crate::finder::call;
 use crate::lent::{Lent, Piece, Rng};
 use crate::table;
-use diskann_sorted::histories::{Cloud, Rng as Numbers, Rust, cpu};
+use diskann_sorted::histories::{Cloud, Report, Rng as Numbers, Rust, cpu};
 
 const PARTS: &[(&str, fn())] = &[
     ("create", create),
@@ -143,18 +143,36 @@ impl Timed {
         let started = cpu();
         let said = self.both.rust.assess(ids).unwrap();
         self.spent[0] += cpu() - started;
-        let (mut report, mut checked, mut lost) = (Lent::junk(8, &mut self.rng), Lent::junk(64, &mut self.rng), Lent::junk(64, &mut self.rng));
+        let mut r = Reported::junk(&mut self.rng);
         let lent = self.both.six.lengths();
         let started = cpu();
         let refused = call!(
-            finder_assess, self.both, lent, ids.as_ptr(), ids.len(), checked.mut_ptr(), 64, lost.mut_ptr(), 64, self.scratch.mut_ptr(),
-            self.scratch.len(), report.mut_ptr()
+            finder_assess, self.both, lent, ids.as_ptr(), ids.len(), r.checked.mut_ptr(), 64, r.lost.mut_ptr(), 64, self.scratch.mut_ptr(),
+            self.scratch.len(), r.numbers.mut_ptr()
         );
         self.spent[1] += cpu() - started;
-        report.expect(&said.numbers);
-        checked.expect(&said.checked);
-        lost.expect(&said.lost);
-        assert!(refused == 0 && [report, checked, lost].iter_mut().all(|piece| piece.difference().is_none()));
+        assert!(refused == 0 && r.is(&said));
+    }
+    /// Deletes on both sides if the guard admits it; whether it does.
+    fn guarded_delete(&mut self, ids: &[u32]) -> bool {
+        let started = cpu();
+        let (applied, said) = self.both.rust.guarded_delete(ids, 64, 4).unwrap();
+        self.spent[0] += cpu() - started;
+        let (mut stats, mut found) = (Lent::junk(4 * ids.len(), &mut self.rng), Lent::junk(1, &mut self.rng));
+        let mut r = Reported::junk(&mut self.rng);
+        let lent = self.both.six.lengths();
+        let started = cpu();
+        let refused = call!(
+            finder_guarded_delete, self.both, lent, ids.as_ptr(), ids.len(), 64, 4, stats.mut_ptr(), ids.len(), r.checked.mut_ptr(), 64,
+            r.lost.mut_ptr(), 64, self.scratch.mut_ptr(), self.scratch.len(), found.mut_ptr(), r.numbers.mut_ptr()
+        );
+        self.spent[1] += cpu() - started;
+        let done = applied.as_deref().unwrap_or(&[]);
+        stats.expect(&done.concat());
+        found.expect(&[done.len() as u32]);
+        assert!(refused == 0 && r.is(&said) && said.numbers[0] == applied.is_some() as u32);
+        assert!(stats.difference().is_none() && found.difference().is_none());
+        applied.is_some()
     }
     /// Makes the Rust's index of what the library's slices hold. None of its slots was emptied, so that all versions are 0.
     fn hand_to_the_rust(&mut self) {
@@ -184,6 +202,26 @@ impl Timed {
     fn each(&mut self, count: usize) -> [f64; 2] {
         assert!(self.same(), "the library's index is another one than the Rust's");
         std::mem::take(&mut self.spent).map(|s| s * 1e6 / count as f64)
+    }
+}
+
+/// A report as the library gives it.
+struct Reported {
+    numbers: Lent<u32>,
+    checked: Lent<u32>,
+    lost: Lent<u32>,
+}
+
+impl Reported {
+    fn junk(rng: &mut Rng) -> Reported {
+        Reported { numbers: Lent::junk(8, rng), checked: Lent::junk(64, rng), lost: Lent::junk(64, rng) }
+    }
+    /// Whether it is the Rust's.
+    fn is(&mut self, said: &Report) -> bool {
+        self.numbers.expect(&said.numbers);
+        self.checked.expect(&said.checked);
+        self.lost.expect(&said.lost);
+        [&mut self.numbers, &mut self.checked, &mut self.lost].into_iter().all(|piece| piece.difference().is_none())
     }
 }
 
@@ -217,7 +255,7 @@ fn head(what: &str, of: &str, counted: &str) {
 }
 
 fn line(capacity: usize, of: usize, count: usize, [rust, library]: [f64; 2]) {
-    println!("{capacity:>8} {of:>10} {count:>8} {rust:>10.1} {library:>10.1} {:>6.2}", library / rust);
+    println!("{capacity:>8} {of:>10} {count:>8} {rust:>10.1} {library:>10.1} {:>6.3}", library / rust);
 }
 
 /// Makes a full index anew of what it stores.
@@ -294,9 +332,10 @@ fn delete() {
     }
 }
 
-/// Enables the guard on a full index, and assesses deletes of slots drawn at random.
+/// Enables the guard on a full index, assesses deletes of slots drawn at random, and then deletes such slots as far as the guard admits it.
 fn guard() {
     head("guard, settings 32, 4, 4096, 64; time of enabling it (0 ids) and of assessing a delete", "ids", "calls");
+    let mut guarded = Vec::new();
     for capacity in [20_000usize, 65_536] {
         let mut t = filled(capacity, &clustered(capacity));
         for _ in 0..5 {
@@ -305,10 +344,34 @@ fn guard() {
         line(capacity, 0, 5, t.each(5));
         for (count, calls) in [(1, 50), (64, 50)] {
             for _ in 0..calls {
-                let ids: Vec<u32> = (0..count).map(|_| t.rng.below(capacity as u32)).collect();
+                let ids = drawn(&mut t.rng, capacity, count);
                 t.assess(&ids);
             }
             line(capacity, count, calls, t.each(calls));
         }
+        guarded.push((capacity, guarded_deletes(&mut t, capacity)));
     }
+    head("guarded delete of 64 ids, repair beam 64, repair degree 4; time of one call that is applied (1) and of one that is deferred (0)", "applied", "calls");
+    for (capacity, outcomes) in guarded {
+        for (applied, (calls, times)) in outcomes.into_iter().enumerate().rev().filter(|(_, (calls, _))| *calls > 0) {
+            line(capacity, applied, calls, times);
+        }
+    }
+}
+
+fn drawn(rng: &mut Rng, capacity: usize, count: usize) -> Vec<u32> {
+    (0..count).map(|_| rng.below(capacity as u32)).collect()
+}
+
+/// Guarded deletes: how many are deferred and how many applied, each with the time of one.
+fn guarded_deletes(t: &mut Timed, capacity: usize) -> [(usize, [f64; 2]); 2] {
+    let mut outcomes = [(0, [0.0; 2]); 2];
+    for _ in 0..20 {
+        let ids = drawn(&mut t.rng, capacity, 64);
+        let (calls, sum) = &mut outcomes[t.guarded_delete(&ids) as usize];
+        let [rust, library] = t.each(1);
+        *calls += 1;
+        *sum = [sum[0] + rust, sum[1] + library];
+    }
+    outcomes.map(|(calls, sum)| (calls, sum.map(|s| s / calls as f64)))
 }
