@@ -22,7 +22,7 @@ STYLE = """
 def months(path):
     """The columns of the table in a file, by their heads."""
     lines = [line.strip(" |\n").split("|") for line in open(path) if line.startswith("| ")]
-    heads, *rows = [[cell.strip() for cell in line] for line in lines]
+    heads, *rows = [[cell.strip() for cell in line] for line in lines if line[0].strip() != "afresh"]
     return {head: [float(row[i]) for row in rows] for i, head in enumerate(heads) if head != "same bytes"}
 
 

@@ -35,6 +35,7 @@ fn main() {
     let mut differ = vec![0u64; KINDS.len()];
     let mut by_hand = 0u64; // how often state was written by hand
     let mut capacities = [0u64; CAPACITIES.len()]; // calls by the capacity of the index
+    let mut large = vec![0u64; KINDS.len()]; // carried out on an index of more than 4,000 slots
     for call in 1..=calls {
         if h.rng.one_in(20) {
             h.both.by_hand(&mut h.rng);
@@ -45,6 +46,7 @@ fn main() {
         let outcome = (KINDS[kind].run)(&mut h);
         counts[kind][outcome.number as usize] += 1;
         capacities[CAPACITIES.iter().position(|&most| h.both.capacity() <= most).unwrap()] += 1;
+        large[kind] += (outcome.number == 0 && h.both.capacity() > 4_000) as u64;
         if let Some(said) = outcome.differs {
             if differ.iter().all(|&n| n == 0) {
                 println!("first difference, in call {call} (to repeat: compare/histories.sh {call} {seed}):\n{said}\n");
@@ -57,6 +59,8 @@ fn main() {
     }
     let on: Vec<String> = CAPACITIES.iter().zip(capacities).map(|(most, n)| format!("{n} up to {most}")).collect();
     println!("seed {seed}, {calls} calls, by the capacity of the index: {}", on.join(", "));
+    let on: Vec<String> = KINDS.iter().zip(large).map(|(kind, n)| format!("{} {n}", kind.name)).collect();
+    println!("carried out on more than 4,000 slots: {}", on.join(", "));
     println!("state written by hand on both sides between calls: {by_hand} times");
     let numbers: Vec<usize> = (1..16).filter(|&n| counts.iter().any(|c| c[n] > 0)).collect();
     let line = |name: &str, cells: Vec<String>| println!("{name:12}{}", cells.iter().map(|c| format!("{c:>12}")).collect::<String>());

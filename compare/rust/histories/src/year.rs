@@ -206,8 +206,23 @@ impl Year {
         }
         Ok(hits.map(|hits| hits as f64 / (QUERIES * K) as f64))
     }
-    /// The line of a month.
-    fn report(&mut self, month: usize) -> Same<String> {
+    /// An index of the same live vectors, inserted one at a time in the order of their slots.
+    fn afresh(&mut self) -> Same<Year> {
+        let mut live = vec![];
+        for slot in 0..CAPACITY {
+            if self.is_live(slot)? {
+                live.push(self.vector(slot).to_vec());
+            }
+        }
+        let mut fresh = Year { index: Sound::new(DIM, CAPACITY, DEGREE, ALPHA, &live[0], Rng(self.seed)), ..Year::new(self.seed, 1) };
+        for vector in &live[1..] {
+            fresh.index.insert(std::slice::from_ref(vector), BEAM)?;
+        }
+        fresh.index.whole()?;
+        Ok(fresh)
+    }
+    /// A line of the table, with the queries of a month.
+    fn report(&mut self, name: &str, month: usize) -> Same<String> {
         let (mut live, mut emptied, mut highest) = (vec![], 0, 0);
         for slot in 0..CAPACITY {
             if self.is_live(slot)? {
@@ -226,7 +241,7 @@ impl Year {
         let n = std::mem::take(&mut self.counts);
         let row = references as f64 / live.len() as f64;
         let cells = [live.len() as u32, n.inserted, n.turned_back, n.deleted, n.guarded, n.put_off, n.left, emptied, highest].map(|n| n.to_string());
-        Ok(format!("| {month} | {} | {row:.2} | {unreached} | {a:.3} | {b:.3} | {c:.3} | yes |", cells.join(" | ")))
+        Ok(format!("| {name} | {} | {row:.2} | {unreached} | {a:.3} | {b:.3} | {c:.3} | yes |", cells.join(" | ")))
     }
 }
 
@@ -247,7 +262,7 @@ fn reached(rows: &[Vec<u32>], entry: u32) -> usize {
 
 fn run(seed: u64, batch: usize, spoil: Option<&str>) -> Same<()> {
     println!("seed {seed}; dim {DIM}, capacity {CAPACITY}, degree {DEGREE}, alpha {ALPHA}, beam {BEAM}, repair {REPAIR:?}, guard {GUARD:?}");
-    println!("at most {batch} vectors to an insert; recall at {K} of {QUERIES} queries by beam");
+    println!("vectors to an insert: {batch} at most; recall at {K} of {QUERIES} queries by beam");
     let heads = "live | inserted | turned back | deleted | guarded | put off | left | versions > 0 | highest | mean row | unreached | beam 16 | beam 64 | beam 256";
     println!("| month | {heads} | same bytes |\n|{}", "-:|".repeat(16));
     let mut year = Year::new(seed, batch);
@@ -255,7 +270,7 @@ fn run(seed: u64, batch: usize, spoil: Option<&str>) -> Same<()> {
         year.deliver(0, 1)?;
     }
     year.index.whole()?;
-    println!("{}", year.report(0)?);
+    println!("{}", year.report("0", 0)?);
     let mut day = 0;
     for (month, days) in MONTHS.into_iter().enumerate() {
         year.index.enable(GUARD)?;
@@ -263,8 +278,9 @@ fn run(seed: u64, batch: usize, spoil: Option<&str>) -> Same<()> {
             day += 1;
             year.day(day, spoil).map_err(|said| format!("day {day}: {said}"))?;
         }
-        println!("{}", year.report(month + 1)?);
+        println!("{}", year.report(&(month + 1).to_string(), month + 1)?);
     }
+    println!("{}", year.afresh()?.report("afresh", 12)?);
     println!("on each of the {day} days both sides had the same index, byte by byte");
     Ok(())
 }
