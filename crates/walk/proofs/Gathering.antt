@@ -6,14 +6,14 @@ use mathlib.Core.List.{List, [], _∷_, _++_}
 use native.Mathlib.Omega.{arith}
 use borrow.Author.Tests.{eq-eqb, ne-eqb, eqb-true, lt-ltb, le-ltb}
 use lib.Dec.{eqb, ltb}
-use lib.ListN.{length, getD, set}
-use Rattle.lists.specs.Lists.{All, Pairwise, foldl}
+use lib.ListN.{length, getD}
+use Rattle.lists.specs.Lists.{All, Pairwise}
 use Rattle.lists.proofs.All.{all-map, all-both, all-append}
 use Rattle.lists.proofs.Ranges.{foldl-append}
 use Rattle.distances.specs.contracts.Sums.{First}
 use Rattle.vectors.specs.Space.{query-distance, space, Measured}
 use Rattle.candidates.specs.Candidates.{Candidate, scored, ids}
-use Rattle.candidates.specs.contracts.Words.{pair, cand, cands, put, Outside}
+use Rattle.candidates.specs.contracts.Words.{pair, cands, put, Outside}
 use Rattle.candidates.proofs.Words.{cands-none, cands-push, put-length, outside-none, outside-wide, outside-then}
 use Rattle.slots.specs.Scratch.{marks-at, work-at}
 use Rattle.slots.specs.Store.{Arrays, is-valid}
@@ -22,7 +22,7 @@ use Rattle.slots.specs.declared.rows.Ref.{Ref}
 use Rattle.slots.specs.declared.rows.Ref.the-variants.{At, Dead}
 use Rattle.slots.proofs.Places.{live-from-at, live-from-dead, ref-inside}
 use Rattle.walk.specs.Walk.{State, enter, meet}
-use Rattle.walk.specs.contracts.Scratch.{near-of, mark-word, mark, put-mark, unmet, marks-of, state-of, with-fresh, meets, Walkable, Entered, Fresh, UnmetAt, Added, Gathered, Gathers, Stepped, Vectors}
+use Rattle.walk.specs.contracts.Scratch.{near-of, mark-word, mark, put-mark, unmet, marks-of, with-fresh, meets, Walkable, Entered, Fresh, UnmetAt, Added, Gathered, Gathers, Stepped, Vectors}
 use Rattle.walk.proofs.Ordered.{all-enter}
 use Rattle.walk.proofs.Marks.{put-mark-length, mark-same, mark-at, mark-kept, marks-set, marks-kept, outside-mark}
 use Rattle.walk.proofs.Seen.{dist-small, dist-ready}

@@ -2,7 +2,6 @@ use Prim.Native.Nat.{_+_, _*_, _<_}
 use mathlib.Core.Path.{refl}
 use native.Mathlib.Omega.{arith}
 use lib.ListN.{length}
-use borrow.Author.Needs.{needs}
 use Rattle.slots.proofs.Places.{shape-fits}
 use Rattle.walk.proofs.Gathering.{unmet-live, unmet-dead}
 use Rattle.walk.proofs.unmet_at.Statement.{statement}
