@@ -4,7 +4,7 @@
 Puts one fault at a time into a copy of the comparing program, below target/, and says in which call compare/histories.sh finds it, as a table; 20,000 calls at
 most where not given, seed 1. So it shows what that comparison can see. A fault is put into the Rust, or, since the archive is built of proved code only,
 into what the library's call has left by the time that it is compared. With words only the faults whose name has them. The exit code is 1 if one is not
-found. Run compare/histories.sh first: it builds the library. The whole takes about half an hour of one core.
+found. Run compare/histories.sh first: it builds the library. The whole takes about nine minutes of CPU time.
 """
 import os
 import re

@@ -17,7 +17,7 @@ pub struct Sound {
     scratch: Lent<u32>,
 }
 
-/// What a call that gives `refused` and leaves these pieces should have done.
+/// An error where a call gave another number than it should, or left a piece otherwise.
 fn alike(call: &str, expected: u32, refused: u32, pieces: Vec<(&str, &mut dyn Piece)>) -> Same<()> {
     if expected != refused {
         return Err(format!("{call}: expected {expected} got {refused}"));
