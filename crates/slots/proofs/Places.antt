@@ -140,6 +140,18 @@ module _ (a : Arrays) (f : RowShape (a .degree) (a .targets) (a .edges) (a .vers
   pub live-from-dead : {r : Ref} → r ≡ ref-at a s place → r ≡ Dead → live-from a s place ≡ live-from a s (place + 1)
   live-from-dead e h = live-from-step ∙ rw (← e, h)
 
+-- a live reference has the target that stands in the row
+pub ref-target : (a : Arrays) (s place : ℕ) {t : ℕ} → At t ≡ ref-at a s place → t ≡ getD (a .targets) (s * a .degree + place) 0
+unfolding ref-at
+ref-target a s place {t} = go (is-valid (a .marks) x && eqb (getD (a .edges) (s * a .degree + place) 0) (getD (a .versions) x 0))
+  where
+    x : ℕ
+    x = getD (a .targets) (s * a .degree + place) 0
+
+    go : (b : Bool) → At t ≡ ref-of b x → t ≡ x
+    go true e = cc
+    go false e = absurd (let z : _≡_ {A = ℕ} 0 1 = cc in omega arith)
+
 -- a target that is found is live, and so inside
 module _ (a : Arrays) (s place : ℕ) {r : Ref} {t : ℕ} (e : r ≡ ref-at a s place) (h : r ≡ At t) where
   pub ref-valid : is-valid (a .marks) t ≡ true

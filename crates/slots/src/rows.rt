@@ -8,6 +8,7 @@ ghost use lib.ListN.{length};
 ghost use Rattle.lists.specs.Lists.{elem};
 ghost use Rattle.slots.specs.Store.{refs-of, arrays};
 ghost use Rattle.slots.specs.contracts.Rows.{RowShape, ref-at};
+ghost use Rattle.slots.specs.declared.rows.Ref.the-variants.{At};
 
 // The target of a blank reference.
 pub const BLANK: u32 = 4294967295;
@@ -46,6 +47,14 @@ pub fn live_at(
         }
     }
     Ref::Dead
+}
+
+// The target at a place of slot `s`'s row, live or not: where `live_at` gives one, it is this.
+pub fn target_at(degree: usize, targets: &[u32], s: usize, place: usize) -> u32
+    requires { ⌜ (s * degree + degree ≤ length (now targets)) × (place < degree) ⌝ }
+    ensures { λ r. ⌜ ((dim : ℕ) (vectors edges versions marks : List ℕ) (t : ℕ) → At t ≡ ref-at (arrays dim degree vectors (now (targets .entry)) edges versions marks) s place → t ≡ r) ⌝ }
+{
+    targets[s * degree + place]
 }
 
 // Whether slot `s`'s row holds `id` with its present version, live or dead.

@@ -32,18 +32,6 @@ use Rattle.walk.proofs.Walking.{mark-cases, marked-list, marked-goes, e
 dead-live : {t : ℕ} → Dead ≡ At t → ⊥
 dead-live e = let z : _≡_ {A = ℕ} 0 1 = cc in omega arith
 
--- a live reference has the target that stands in the row
-ref-target : (a : Arrays) (s place : ℕ) {t : ℕ} → At t ≡ ref-at a s place → t ≡ getD (a .targets) (s * a .degree + place) 0
-unfolding ref-at
-ref-target a s place {t} = go (is-valid (a .marks) x && eqb (getD (a .edges) (s * a .degree + place) 0) (getD (a .versions) x 0))
-  where
-    x : ℕ
-    x = getD (a .targets) (s * a .degree + place) 0
-
-    go : (b : Bool) → At t ≡ ref-of b x → t ≡ x
-    go true e = cc
-    go false e = absurd (dead-live (sym e))
-
 module _ (capacity : ℕ) (w : List ℕ) {s id : ℕ} (q : s ≡ id) where
   pub unmet-inside : {m : ℕ} → s < capacity → m ≡ mark w s → eqb m 0 ≡ unmet capacity w id
   unmet-inside h e = rw (← q, lt-ltb s capacity h, e)
@@ -58,11 +46,11 @@ unmet-true capacity w s = go (ltb s capacity)
     go true e = eqb-true _ _ e
     go false e = let z : _≡_ {A = ℕ} 0 1 = cc in absurd (omega arith)
 
-module _ (a : Arrays) (s place : ℕ) (w : List ℕ) {b : Bool} {x : ℕ} (p : x ≡ getD (a .targets) (s * a .degree + place) 0) (o : b ≡ unmet (length (a .marks)) w x) where
+module _ (a : Arrays) (s place : ℕ) (w : List ℕ) {b : Bool} {x : ℕ} (p : (t : ℕ) → At t ≡ ref-at a s place → t ≡ x) (o : b ≡ unmet (length (a .marks)) w x) where
   pub unmet-live : {r : Ref} → b ≡ true → r ≡ ref-at a s place → UnmetAt a s place w r
   unmet-live {r} y e =
       record {
-        found = λ t q. (sym q ∙ e, rw (← (ref-target a s place (sym q ∙ e) ∙ sym p)) at (unmet-true (length (a .marks)) w x (sym o ∙ y)));
+        found = λ t q. (sym q ∙ e, rw (← (p t (sym q ∙ e))) at (unmet-true (length (a .marks)) w x (sym o ∙ y)));
         none = λ q t k _. dead-live (sym q ∙ e ∙ sym k);
       }
 
@@ -71,7 +59,7 @@ module _ (a : Arrays) (s place : ℕ) (w : List ℕ) {b : Bool} {x : ℕ} (p : x
       record {
         found = λ t q. absurd (dead-live q);
         none = λ _ t k m.
-            let q : x ≡ t = p ∙ sym (ref-target a s place k) in
+            let q : x ≡ t = sym (p t k) in
             true≢false (sym (rw (q, lt-ltb t (length (a .marks)) (ref-inside a s place k refl), m) at o) ∙ y);
       }
 

@@ -10,6 +10,7 @@ use slots::marks::is_valid;
 use slots::marks::wide;
 use slots::rows::Ref;
 use slots::rows::live_at;
+use slots::rows::target_at;
 use words::EXPANDED;
 use words::Held;
 use words::MET;
@@ -43,7 +44,7 @@ fn unmet_at(
     requires { ⌜ (s < length (now marks)) × (place < degree) × (work-at (length (now marks)) ≤ length (now scratch)) ⌝ }
     ensures { λ r. ⌜ ((dim : ℕ) (vectors : List ℕ) → UnmetAt (arrays dim degree vectors (now (targets .entry)) (now (edges .entry)) (now (versions .entry)) (now (marks .entry))) s place (now (scratch .entry)) r) ⌝ }
 {
-    let t = targets[s * degree + place];
+    let t = target_at(degree, targets, s, place);
     if words::is_unmet(scratch, marks.len(), t) {
         return live_at(degree, targets, edges, versions, marks, s, place);
     }
