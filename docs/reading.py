@@ -106,6 +106,8 @@ def functions():
         file = File(os.devnull)
         for line in re.findall(r"^ghost use (.*);$", source, re.M):
             file.use(line)
+        if re.search(r"^ +requires ", source, re.M):
+            sys.exit("a function of %s asks for something" % path)
         for name, promise in re.findall(r'#\[no_mangle\]\npub extern "C" fn (\w+)\(.*?ensures \{ λ r\. ⌜ (.*?) ⌝ \}\n', source, re.S):
             yield name.replace("_", "-"), promise, file
 
@@ -120,6 +122,8 @@ def used_up(exported):
             if contract not in premises.pop(name).split():
                 sys.exit("%s has no premise %s" % (name, contract))
             contracts.add(contract)
+        elif name != "finder-scratch-words":
+            sys.exit("no constructor: %s" % name)
     if premises:
         sys.exit("no function: %s" % ", ".join(premises))
     return contracts

@@ -20,7 +20,7 @@
  * A slice is a pointer and a length in elements. Every pointer is aligned and not null, also where the length is 0, and has that many elements behind it.
  * What a function writes must not overlap anything else that it is lent; what it only reads may overlap. Outputs, scratch and the slices of a new index
  * may hold anything before. No function keeps a pointer or allocates, and only memset is called; several threads may read one index at a time while none
- * changes it.
+ * changes it. The two deletes take less than 112 KiB of stack, the other functions less than 8.
  *
  * Every function but finder_vector returns 0 where it is carried out, else the number of the refusal. Those that apply are tested in the order of their
  * numbers, and the first that holds is returned. A call that is refused writes nothing.
