@@ -5,7 +5,7 @@ use mathlib.Core.List.{List, [], _∷_, map}
 use mathlib.Core.Option.{Option, none, some}
 use mathlib.Core.Path.{_≡_, refl, sym, ap, ap₂, _∙_, subst}
 use native.Mathlib.Omega.{arith}
-use mathlib.Core.Logic.{_⊎_, inl, inr}
+use mathlib.Core.Logic.{⊎-elim}
 use borrow.Author.Tests.{eqb-true, eq-eqb, ne-eqb}
 use lib.Dec.{eqb}
 use Rattle.slots.specs.Sizes.{Slices, lengths-of, limits}
@@ -16,7 +16,7 @@ use Rattle.calls.specs.Calls.{Making, create, read-vector, Answer, refused, cre
 use Rattle.calls.specs.Outputs.{written}
 use Rattle.calls.specs.Refusals.{first-of, or-zero, making-tests}
 use Rattle.calls.specs.State.{State, Value, state, stored, plain, shown, made}
-use Rattle.calls.specs.Step.{refusal, step}
+use Rattle.calls.specs.Step.{perform, refusal, settle, step}
 use Rattle.calls.specs.History.{hide, Few, log-after, Within}
 use Rattle.calls.specs.Runs.{slices-of, value-of, call-of, run-refusal, Meets, after-run, next}
 use Rattle.calls.specs.Runs as Runs
@@ -25,12 +25,16 @@ use Rattle.calls.proofs.Refused.{refusal-not-zero}
 use Rattle.calls.proofs.Runs.{refused-slices, run-refused, own-next, run-both, made-run-both, made-accepted, made-plain}
 use Rattle.words.specs.IndexWords.{value-words}
 use Rattle.exported.specs.Runs.{Memory, Places, Exported-run}
-use Rattle.exported.specs.Performs.{value-held, state-in, Right, call-in, put, Untouched, Performs}
+use Rattle.exported.specs.Performs.{value-held, state-in, call-in, put, Rewrites, by-create, Untouched, Performs}
 use Rattle.exported.specs.History.{Exported-lends, own, other-slices, any-memory, Event, Exported-chain, hide-version, in-hand, asked, words-in, plain-hand, plain-hands, Refused-untouched, As-plain, Exported-history}
 use Rattle.exported.proofs.Performs.{as-run, exported-performs}
 use Rattle.exported.proofs.Refused.{returns}
 
 -- ---- the words
+
+-- they are those that the index is written as
+abbrev Right : Memory → Type 0
+Right a = a .words ≡ value-words (value-held (a .words))
 
 -- those that an index is written as are those that its state shows
 words-told : (v : Value) (s : Slices) → value-words v ≡ words-in (shown stored (state v s))
@@ -109,12 +113,25 @@ module _ {r : Exported-run} (k : Performs r) where
           let b = ne-eqb (r .returned) 0 (λ e. refusal-not-zero stored (state-in (r .lent)) (call-in r) n h (sym t ∙ e)) in
           sym (ap (λ b. cond b none (some (r .returned))) b ∙ ap some t)
 
+  anew : r .left .words ≡ value-words (value-of (stepped r .0)) → Right (r .left)
+  unfolding value-of store-view
+  anew e = e ∙ ap (λ w. value-words (value-of w)) (sym (k .does .leaves))
+
   right : Right (r .lent) → Right (r .left)
-  right h = go (k .words)
+  right h = ⊎-elim (λ x. anew (x .1)) (λ x. subst (λ w. w ≡ value-words (value-held w)) (sym (x .1)) h) (k .does .words)
+
+  -- a making that is carried out writes them
+  made-answer : (m : Making) → r .operation ≡ create m → r .returned ≡ 0 → stepped r .1 ≡ created
+  unfolding step settle perform run-refusal call-of slices-of
+  made-answer m q z =
+      let h = judges m q ∙ ap (λ b. cond b none (some (r .returned))) (eq-eqb (r .returned) 0 z) in
+      ap (λ x. settle stored (state-in (r .lent)) (call-in r) x .1) h ∙ ap (λ o. perform stored (state-in (r .lent)) o .1) q
+
+  made-right : (m : Making) → r .operation ≡ create m → r .returned ≡ 0 → Right (r .left)
+  made-right m q z = ⊎-elim (λ x. anew (x .1)) (λ x. absurd (x .0 writes)) (k .does .words)
     where
-      go : (r .left .words ≡ r .lent .words) ⊎ Right (r .left) → Right (r .left)
-      go (inl e) = subst (λ w. w ≡ value-words (value-held w)) (sym e) h
-      go (inr e) = e
+      writes : Rewrites (r .operation) (stepped r .1)
+      writes = subst (λ o. Rewrites o (stepped r .1)) (sym q) (subst (Rewrites (create m)) (sym (made-answer m q z)) by-create)
 
 -- ---- where the app has its index
 
@@ -138,7 +155,7 @@ module _ (had : Memory) {r : Exported-run} (k : Performs r) where
   next-own q = ap (λ a. next (state-in a) (run r)) (sym q) ∙ own-next (run r) (meets k)
 
   right-made : Right had → (m : Making) → r .operation ≡ create m → (b : Bool) → eqb (r .returned) 0 ≡ b → Right (cond b (r .left) had)
-  right-made h m q true e = k .new-words m q (eqb-true (r .returned) 0 e)
+  right-made h m q true e = made-right k m q (eqb-true (r .returned) 0 e)
   right-made h m q false e = h
 
   module _ (log : List ℕ) (p : State View) (e : Same log (state-in had) p) where
@@ -217,11 +234,11 @@ module _ (had : Memory) (m : Making) (e : Event) (k : Performs (e .run)) (q : e 
   returns-0 = ap (λ (x : ℕ × Places). x .0) (told (e .run) k begun)
 
   first-next : {has : Memory} → Exported-lends had (e .run) has → (next (state-in had) (run (e .run)) ≡ state-in has) × Right has
-  first-next (own l) = (next-own had k l, k .new-words m q returns-0)
+  first-next (own l) = (next-own had k l, made-right k m q returns-0)
   first-next (other-slices other l n) = absurd (other m q)
   first-next (any-memory m′ l) = (
     next-made had k (judges k m q),
-    subst (λ b. Right (cond b (e .run .left) had)) (sym (eq-eqb (e .run .returned) 0 returns-0)) (k .new-words m q returns-0),
+    subst (λ b. Right (cond b (e .run .left) had)) (sym (eq-eqb (e .run .returned) 0 returns-0)) (made-right k m q returns-0),
   )
 
 pub exported-history : Exported-history

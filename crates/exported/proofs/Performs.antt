@@ -24,7 +24,6 @@ use Rattle.calls.specs.State.{State, state, stored}
 use Rattle.calls.specs.Step.{refusal, settle, step}
 use Rattle.calls.specs.Runs.{slices-of, value-of, call-of, run-refusal, Meets}
 use Rattle.calls.specs.Runs as Runs
-use Rattle.calls.proofs.Refused.{refusal-not-zero}
 use Rattle.index.specs.declared.Index.{Index}
 use Rattle.index.specs.declared.Created.{Created}
 use Rattle.index.specs.declared.Created.the-variants.{Refused as not-made, Done}
@@ -61,7 +60,7 @@ use Rattle.guarding.specs.declared.Assessed.{Assessed}
 use Rattle.guarding.specs.declared.Assessed.the-variants.{Refused as not-assessed, Assessed as Assessed-so}
 use Rattle.guarding.specs.Guarding.{standing-as, enabled-as, enabled-index, report-outputs, numbers-of, assessed-as}
 use Rattle.words.specs.GuardWords.{report-words}
-use Rattle.exported.specs.Performs.{value-held, state-in, Right, call-in, put, Gives, Untouched, Performs, Exported-performs}
+use Rattle.exported.specs.Performs.{value-held, state-in, call-in, put, Rewrites, by-create, by-insert, by-delete, by-enable, by-guarded-delete, Gives, Untouched, Performs, Exported-performs}
 
 -- ---- the index that words hold
 
@@ -88,8 +87,31 @@ same-state : held-in ≡ state-in
 unfolding state-of
 same-state = λ i a. state (same-value (a .words) i) (a .slices)
 
-right : (a : Memory) → Rightly a → Right a
+right : (a : Memory) → Rightly a → a .words ≡ value-words (value-of (state-in a))
+unfolding value-of store-view
 right a h = h ∙ ap value-words (same-value (a .words))
+
+-- ---- the words that a run leaves
+
+abbrev Words : Exported-run → Answer → Type 0
+Words r a = (Rewrites (r .operation) a × Rightly (r .left)) ⊎ ((Rewrites (r .operation) a → ⊥) × (r .left .words ≡ r .lent .words))
+
+not-refused : {o : Operation} {n : ℕ} → Rewrites o (refused n) → ⊥
+not-refused h = elim h [ ]
+
+-- a call that is turned back keeps them
+not-back : (n : ℕ) (o : Operation) → Rewrites o (refused-as n o) → ⊥
+unfolding refused-as
+not-back n (create m) h = not-refused h
+not-back n (read q) h = not-refused h
+not-back n (read-vector s) h = elim h [ ]
+not-back n (search a) h = not-refused h
+not-back n (insert a) h = not-refused h
+not-back n (delete a) h = not-refused h
+not-back n (enable c) h = not-refused h
+not-back n Answers.status h = not-refused h
+not-back n (assess a) h = not-refused h
+not-back n (guarded-delete a) h = not-refused h
 
 -- a run as the theorem over runs of the calls takes it
 abbrev pub as-run : (Memory → State Store) → Exported-run → Answer → Runs.Run
@@ -133,8 +155,20 @@ module _ (r : Exported-run) (answer : Answer) (c : Meets (as-run held-in r answe
   unfolding call-of slices-of state-of
   as-stepped = f .does
 
-  gives : Gives r stepped
-  gives = record { leaves = ap (λ (q : State Store × Answer). q .0) as-stepped; tells = t ∙ ap (λ (q : State Store × Answer). put (q .1) (r .before)) as-stepped }
+  answered : answer ≡ stepped .1
+  answered = ap (λ (q : State Store × Answer). q .1) as-stepped
+
+  gives : Words r answer → Gives r stepped
+  gives w =
+      let leaves = ap (λ (q : State Store × Answer). q .0) as-stepped in
+      record {
+        leaves = leaves;
+        tells = t ∙ ap (λ a. put a (r .before)) answered;
+        words = ⊎-elim
+            (λ x. inl (subst (Rewrites (r .operation)) answered (x .0), right (r .left) (x .1) ∙ ap (λ w. value-words (value-of w)) leaves))
+            (λ x. inr (λ h. x .0 (subst (Rewrites (r .operation)) (sym answered) h), x .1))
+            w;
+      }
 
   -- where it is turned back
   module _ (n : ℕ) (h : refusal stored (state-in (r .lent)) (call-in r) ≡ some n) where
@@ -142,39 +176,37 @@ module _ (r : Exported-run) (answer : Answer) (c : Meets (as-run held-in r answe
     unfolding step settle
     back = ap (settle stored (state-in (r .lent)) (call-in r)) h
 
-    back-told : (r .returned, r .after) ≡ put (refused-as n (r .operation)) (r .before)
-    back-told = gives .tells ∙ ap (λ (q : State Store × Answer). put (q .1) (r .before)) back
+    kept : Words r answer → r .left .words ≡ r .lent .words
+    kept (inl x) = absurd (not-back n (r .operation) (subst (Rewrites (r .operation)) (answered ∙ ap (λ (q : State Store × Answer). q .1) back) (x .0)))
+    kept (inr x) = x .1
 
-    untouched : put (refused-as n (r .operation)) (r .before) .1 ≡ r .before → r .left .words ≡ r .lent .words → Untouched r
+    untouched : put (refused-as n (r .operation)) (r .before) .1 ≡ r .before → Words r answer → Untouched r
     unfolding run-refusal call-of slices-of state-of
     untouched stays w =
+        let k = kept w in
         let s = ap (λ (q : State Store × Answer). slices-of (q .0)) (as-stepped ∙ back) in
         record {
-          memory = λ i. record { words = w i; slices = s i };
+          memory = λ i. record { words = k i; slices = s i };
           scratch = f .keeps n h;
-          places = ap (λ (x : ℕ × Places). x .1) back-told ∙ stays;
+          places = ap (λ (x : ℕ × Places). x .1) t ∙ ap (λ (q : State Store × Answer). put (q .1) (r .before) .1) (as-stepped ∙ back) ∙ stays;
         }
 
-  -- a run that returns 0 where it writes the words anew
-  numbered : ((n : ℕ) → put (refused-as n (r .operation)) (r .before) ≡ (n, r .before)) → (r .left .words ≡ r .lent .words) ⊎ ((r .returned ≡ 0) × Rightly (r .left))
-      → ((m : Making) → r .operation ≡ create m → r .returned ≡ 0 → Rightly (r .left)) → Performs r
-  numbered stays words new = record {
-    does = gives;
-    words = ⊎-elim inl (λ w. inr (right (r .left) (w .1))) words;
-    new-words = λ m q z. right (r .left) (new m q z);
-    refused = λ n h. untouched n h (ap (λ (x : ℕ × Places). x .1) (stays n)) (kept n h words);
-  }
-    where
-      kept : (n : ℕ) → refusal stored (state-in (r .lent)) (call-in r) ≡ some n → (r .left .words ≡ r .lent .words) ⊎ ((r .returned ≡ 0) × Rightly (r .left)) → r .left .words ≡ r .lent .words
-      kept n h (inl e) = e
-      kept n h (inr w) =
-          let z = sym (ap (λ (x : ℕ × Places). x .0) (back-told n h ∙ stays n)) ∙ w .0 in
-          absurd (refusal-not-zero stored (state-in (r .lent)) (call-in r) n h z)
+  performed : ((n : ℕ) → put (refused-as n (r .operation)) (r .before) .1 ≡ r .before) → Words r answer → Performs r
+  performed stays w = record { does = gives w; refused = λ n h. untouched n h (stays n) w }
 
-performs-looking : {o : Operation} {lent : Memory} {scratch scratch′ : List ℕ} {before after : Places} {returned : ℕ} → ((m : Making) → o ≡ create m → ⊥) → (answer : Answer)
-    → Meets (as-run held-in (looking o lent scratch scratch′ before after returned) answer) → (returned, after) ≡ put answer before → ((n : ℕ) → put (refused-as n o) before ≡ (n, before))
+performs-looking : {o : Operation} {lent : Memory} {scratch scratch′ : List ℕ} {before after : Places} {returned : ℕ} → ((a : Answer) → Rewrites o a → ⊥) → (answer : Answer)
+    → Meets (as-run held-in (looking o lent scratch scratch′ before after returned) answer) → (returned, after) ≡ put answer before → ((n : ℕ) → put (refused-as n o) before .1 ≡ before)
     → Performs (looking o lent scratch scratch′ before after returned)
-performs-looking other answer f t stays = numbered _ answer f t stays (inl refl) (λ m q z. absurd (other m q))
+performs-looking looks answer f t stays = performed _ answer f t stays (inr (looks answer, refl))
+
+-- the words of a call that answers `a` where the status is 0
+module _ (r : Exported-run) (status : ℕ) (a : Answer) (anew : Rewrites (r .operation) a) where
+  words-by-status : (status ≡ 0 → Rightly (r .left)) → ((status ≡ 0 → ⊥) → r .left .words ≡ r .lent .words) → Words r (by-status status a)
+  words-by-status written kept = go (eqb status 0) refl
+    where
+      go : (b : Bool) → eqb status 0 ≡ b → Words r (cond b a (refused status))
+      go true e = inl (anew, written (eqb-true status 0 e))
+      go false e = inr (not-refused, kept (eqb-false status 0 e))
 
 -- ---- making
 
@@ -211,23 +243,14 @@ module _ {m : Making} {lent left : Memory} {status : ℕ} (c : Creates-words m (
     scratch-after = [];
   }
 
-  making-words : (left .words ≡ lent .words) ⊎ ((status ≡ 0) × Rightly left)
-  making-words = go (eqb status 0) refl
-    where
-      go : (b : Bool) → eqb status 0 ≡ b → (left .words ≡ lent .words) ⊎ ((status ≡ 0) × Rightly left)
-      go true e = let z = eqb-true status 0 e in inr (z, c .written z)
-      go false e = inl (c .kept (eqb-false status 0 e))
-
   performs-making : Performs (making m lent left status)
   unfolding put refused-as
   performs-making =
-      numbered _ (by-status status created) (subst Meets made-run (create-meets (held-in lent) made (c .does)))
-      (status-tells status created nowhere nowhere (λ z. refl) (λ z. refl)) (λ n. refl) making-words (λ m q z. c .written z)
+      performed _ (by-status status created) (subst Meets made-run (create-meets (held-in lent) made (c .does)))
+      (status-tells status created nowhere nowhere (λ z. refl) (λ z. refl)) (λ n. refl)
+      (words-by-status (making m lent left status) status created by-create (c .written) (c .kept))
 
 -- ---- readings
-
-no-making : (q : Answers.Reading) (m : Making) → read q ≡ create m → ⊥
-no-making q m e = let z : _≡_ {A = ℕ} 0 1 = cc in omega arith
 
 value-as : (status : ℕ) (v : Value) (b : Bool) → answer-of (cond b v (Refused status)) ≡ cond b (answer-of v) (refused status)
 unfolding answer-of
@@ -244,7 +267,7 @@ unfolding put refused-as
 performs-reading {lent} {status} {value} {value′} {version} {version′} {alpha} {alpha′} q v c done kept =
     let before = places value alpha version [] [] no-outputs in
     let after = places value′ alpha′ version′ [] [] no-outputs in
-    performs-looking (no-making (reading-of q)) (by-status status (answer-of v))
+    performs-looking (λ a h. elim h [ ]) (by-status status (answer-of v))
     (subst (λ a. Meets (as-run held-in (looking (read (reading-of q)) lent [] [] before after status) a)) (value-as status v (eqb status 0)) (c .meets))
     (status-tells status (answer-of v) before after (λ z. done) kept)
     (λ n. refl)
@@ -255,15 +278,7 @@ performs-vector : {lent : Memory} {slot n : ℕ} → Reads-length (lent .words) 
 unfolding put refused-as index-of
 performs-vector {lent} {slot} {n} c =
     let l = bytes-from lent slot n in
-    let r = looking (read-vector slot) lent [] [] nowhere (places 0 (f32 0) 0 l [] no-outputs) n in
-    let f = c .does .meets in
-    let t : (n, places 0 (f32 0) 0 l [] no-outputs) ≡ put (vector l) nowhere = ap (λ k. (k, places 0 (f32 0) 0 l [] no-outputs)) (c .there) in
-    record {
-      does = gives r (vector l) f t;
-      words = inl refl;
-      new-words = λ m e. let z : _≡_ {A = ℕ} 0 1 = cc in absurd (omega arith);
-      refused = λ n h. untouched r (vector l) f t n h refl refl;
-    }
+    performs-looking (λ a h. elim h [ ]) (vector l) (c .does .meets) (ap (λ k. (k, places 0 (f32 0) 0 l [] no-outputs)) (c .there)) (λ n. refl)
 
 -- ---- search
 
@@ -286,7 +301,7 @@ module _ {lent : Memory} {a : Search} {slots slots′ : List ℕ} {dists dists�
       let cs = c .does .nearest in
       let e = found-answer status found′ cs (eqb status 0) in
       let f = subst (λ x. Meets (as-run held-in (looking (search a) lent scratch scratch′ before after status) x)) e (c .does .meets) in
-      performs-looking (λ m e. let z : _≡_ {A = ℕ} 0 1 = cc in omega arith) (by-status status (Answers.found cs)) f
+      performs-looking (λ a h. elim h [ ]) (by-status status (Answers.found cs)) f
       (status-tells status (Answers.found cs) before after
       (λ z.
       let b = eq-eqb status 0 z in
@@ -348,18 +363,11 @@ module _ {lent left : Memory} {a : Insert} {slots slots′ scratch scratch′ : 
       })
       (c .does .meets)
 
-  insert-words : (left .words ≡ lent .words) ⊎ ((status ≡ 0) × Rightly left)
-  insert-words = go (eqb status 0) refl
-    where
-      go : (b : Bool) → eqb status 0 ≡ b → (left .words ≡ lent .words) ⊎ ((status ≡ 0) × Rightly left)
-      go true e = let z = eqb-true status 0 e in inr (z, c .written z)
-      go false e = inl (c .kept (eqb-false status 0 e) .0)
-
   performs-insert : Performs insert-run
   unfolding put written refused-as
   performs-insert =
       let f = insert-meets in
-      numbered insert-run insert-answer f
+      performed insert-run insert-answer f
       (status-tells status (Answers.inserted filled) before-insert after-insert
       (λ z.
       let b = eq-eqb status 0 z in
@@ -370,7 +378,7 @@ module _ {lent left : Memory} {a : Insert} {slots slots′ scratch scratch′ : 
       let b = ne-eqb status 0 z in
       let o = f .writes ∙ ap (λ b. written (cond b (Answers.inserted filled) (refused status)) (insert-outputs slots)) b in
       λ i. places (c .kept z .1 i) (f32 0) 0 [] [] (o i)))
-      (λ n. refl) insert-words (λ m e z. let z : _≡_ {A = ℕ} 0 1 = cc in absurd (omega arith))
+      (λ n. refl) (words-by-status insert-run status (Answers.inserted filled) by-insert (c .written) (λ z. c .kept z .0))
 
 -- ---- delete
 
@@ -408,17 +416,17 @@ module _ {lent left : Memory} {a : Delete} {stats stats′ : List Stats} {scratc
       let f = ap (λ x. x .2) e ∙ sym many in
       λ i. (e i .0, places (f i) (f32 0) 0 [] [] (o i))
 
-  delete-words : (r : Deleted) → (status, left .words, found′) ≡ deleted-put r (lent .words) found → index-of (left .words) ≡ index-left (index-of (lent .words)) r
-      → (left .words ≡ lent .words) ⊎ ((status ≡ 0) × Rightly left)
-  unfolding deleted-put index-left
-  delete-words (not-deleted n) e g = inl (ap (λ x. x .1) e)
-  delete-words (Emptied j n) e g = inr (ap (λ x. x .0) e, ap (λ x. x .1) e ∙ ap words-of (sym g))
+  delete-words : (r : Deleted) (ts : List Stats) → (status, left .words, found′) ≡ deleted-put r (lent .words) found
+      → index-of (left .words) ≡ index-left (index-of (lent .words)) r → Words delete-run (deleted-as r ts)
+  unfolding deleted-put index-left deleted-as
+  delete-words (not-deleted n) ts e g = inr (not-refused, ap (λ x. x .1) e)
+  delete-words (Emptied j n) ts e g = inl (by-delete, ap (λ x. x .1) e ∙ ap words-of (sym g))
 
   performs-delete : Performs delete-run
   unfolding put refused-as
   performs-delete =
-      numbered delete-run delete-answer delete-meets (delete-tells (c .answer) (c .does .stats) (c .told) (c .does .words) (c .listed))
-      (λ n. refl) (delete-words (c .answer) (c .told) (c .held)) (λ m e z. let z : _≡_ {A = ℕ} 0 1 = cc in absurd (omega arith))
+      performed delete-run delete-answer delete-meets (delete-tells (c .answer) (c .does .stats) (c .told) (c .does .words) (c .listed))
+      (λ n. refl) (delete-words (c .answer) (c .does .stats) (c .told) (c .held))
 
 -- ---- the guard
 
@@ -432,7 +440,7 @@ performs-status : {lent : Memory} {place place′ : List ℕ} {status : ℕ} →
     → Performs (looking Answers.status lent [] [] (in-guard place no-outputs) (in-guard place′ no-outputs) status)
 unfolding put refused-as
 performs-status c =
-    performs-looking (λ m e. let z : _≡_ {A = ℕ} 0 1 = cc in omega arith) (standing-as (c .answer)) (c .does .meets) (standing-tells _ (c .answer) (c .told)) (λ n. refl)
+    performs-looking (λ a h. elim h [ ]) (standing-as (c .answer)) (c .does .meets) (standing-tells _ (c .answer) (c .told)) (λ n. refl)
 
 module _ {lent : Memory} {a : Assess} {checked checked′ lost lost′ scratch scratch′ place place′ : List ℕ} {status : ℕ}
     (c : Assesses-words (lent .words) (lent .slices) a (report-outputs checked lost) scratch (report-outputs checked′ lost′) scratch′ place place′ status) where
@@ -448,15 +456,15 @@ module _ {lent : Memory} {a : Assess} {checked checked′ lost lost′ scratch s
   performs-assess : Performs (looking (assess a) lent scratch scratch′ (in-guard place (report-outputs checked lost)) (in-guard place′ (report-outputs checked′ lost′)) status)
   unfolding put refused-as
   performs-assess =
-      performs-looking (λ m e. let z : _≡_ {A = ℕ} 0 1 = cc in omega arith) (assessed-as (c .answer) (c .does .report)) (c .does .meets)
+      performs-looking (λ a h. elim h [ ]) (assessed-as (c .answer) (c .does .report)) (c .does .meets)
       (assess-tells (c .answer) (c .told) (c .does .numbers) (c .does .meets .writes)) (λ n. refl)
 
 module _ {lent left : Memory} {config : Config} {scratch scratch′ place place′ : List ℕ} {status : ℕ}
     (c : Enables-words (lent .words) (lent .slices) config scratch (left .words) (left .slices) scratch′ place place′ status) where
-  abbrev enabling : Exported-run
-  enabling = changing (enable config) lent left scratch scratch′ (in-guard place no-outputs) (in-guard place′ no-outputs) status
+  abbrev enable-run : Exported-run
+  enable-run = changing (enable config) lent left scratch scratch′ (in-guard place no-outputs) (in-guard place′ no-outputs) status
 
-  enable-meets : Meets (as-run held-in enabling (enabled-as (c .answer)))
+  enable-meets : Meets (as-run held-in enable-run (enabled-as (c .answer)))
   enable-meets = subst (λ i. Meets (enabled-run i)) (sym (c .held)) (c .does .meets)
     where
       enabled-run : Index → Runs.Run
@@ -479,16 +487,15 @@ module _ {lent left : Memory} {config : Config} {scratch scratch′ place place�
   enable-tells (Enabled-with j s) e = λ i. (e i .0, in-guard (e i .2) no-outputs)
 
   enable-words : (r : Enabled) → (status, left .words, place′) ≡ enabled-put r (lent .words) place → index-of (left .words) ≡ enabled-index (index-of (lent .words)) r
-      → (left .words ≡ lent .words) ⊎ ((status ≡ 0) × Rightly left)
-  unfolding enabled-put enabled-index
-  enable-words (not-enabled n) e g = inl (ap (λ x. x .1) e)
-  enable-words (Enabled-with j s) e g = inr (ap (λ x. x .0) e, ap (λ x. x .1) e ∙ ap words-of (sym g))
+      → Words enable-run (enabled-as r)
+  unfolding enabled-put enabled-index enabled-as
+  enable-words (not-enabled n) e g = inr (not-refused, ap (λ x. x .1) e)
+  enable-words (Enabled-with j s) e g = inl (by-enable, ap (λ x. x .1) e ∙ ap words-of (sym g))
 
-  performs-enable : Performs enabling
+  performs-enable : Performs enable-run
   unfolding put refused-as
   performs-enable =
-      numbered enabling (enabled-as (c .answer)) enable-meets (enable-tells (c .answer) (c .told)) (λ n. refl) (enable-words (c .answer) (c .told) (c .held))
-      (λ m e z. let z : _≡_ {A = ℕ} 0 1 = cc in absurd (omega arith))
+      performed enable-run (enabled-as (c .answer)) enable-meets (enable-tells (c .answer) (c .told)) (λ n. refl) (enable-words (c .answer) (c .told) (c .held))
 
 -- ---- the guarded delete
 
@@ -532,19 +539,19 @@ module _ {lent left : Memory} {a : Delete} {stats stats′ : List Stats} {checke
       let p = ap (λ x. x .3) e ∙ ap report-words (h v refl) in
       λ i. (e i .0, places (e i .2) (f32 0) 0 [] (p i) (o i))
 
-  guarded-words : (r : Guarded) → (status, left .words, found′, place′) ≡ guarded-put r (lent .words) found place → index-of (left .words) ≡ index-kept (index-of (lent .words)) r
-      → (left .words ≡ lent .words) ⊎ ((status ≡ 0) × Rightly left)
-  unfolding guarded-put index-kept
-  guarded-words (not-guarded n) e g = inl (ap (λ x. x .1) e)
-  guarded-words (Applied j n v) e g = inr (ap (λ x. x .0) e, ap (λ x. x .1) e ∙ ap words-of (sym g))
-  guarded-words (Deferred v) e g = inl (ap (λ x. x .1) e)
+  guarded-words : (r : Guarded) (ts : List Stats) → (status, left .words, found′, place′) ≡ guarded-put r (lent .words) found place
+      → index-of (left .words) ≡ index-kept (index-of (lent .words)) r → Words guarded-run (guarded-as r ts (c .does .report))
+  unfolding guarded-put index-kept guarded-as
+  guarded-words (not-guarded n) ts e g = inr (not-refused, ap (λ x. x .1) e)
+  guarded-words (Applied j n v) ts e g = inl (by-guarded-delete, ap (λ x. x .1) e ∙ ap words-of (sym g))
+  guarded-words (Deferred v) ts e g = inr (λ h. elim h [ ], ap (λ x. x .1) e)
 
   performs-guarded : Performs guarded-run
   unfolding put refused-as
   performs-guarded =
-      numbered guarded-run guarded-answer guarded-meets
+      performed guarded-run guarded-answer guarded-meets
       (guarded-tells (c .answer) (c .does .stats) (c .told) (c .does .words) (c .does .numbers-applied) (c .does .numbers-deferred) (c .listed))
-      (λ n. refl) (guarded-words (c .answer) (c .told) (c .held)) (λ m e z. let z : _≡_ {A = ℕ} 0 1 = cc in absurd (omega arith))
+      (λ n. refl) (guarded-words (c .answer) (c .does .stats) (c .told) (c .held))
 
 -- ---- every exported function
 

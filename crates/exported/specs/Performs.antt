@@ -8,12 +8,13 @@ use mathlib.Core.Path.{_≡_}
 use lib.Dec.{eqb}
 use lib.ListN.{length, getD}
 use Rattle.slots.specs.Store.{Store, or-blank}
-use Rattle.guard.specs.Guard.{config, off, on, Report}
-use Rattle.calls.specs.Calls.{Making, create, Call, Answer, refused, created, number, alpha, version, vector, found, inserted, deleted, standing, assessed, applied, deferred}
+use Rattle.repair.specs.Delete.{Stats}
+use Rattle.guard.specs.Guard.{Config, config, off, on, Status, Report}
+use Rattle.calls.specs.Calls.{Making, Insert, Delete, Operation, create, insert, delete, enable, guarded-delete, Call, Answer, refused, created, number, alpha, version, vector, found, inserted, deleted, standing, assessed, applied, deferred}
 use Rattle.calls.specs.Outputs.{written}
 use Rattle.calls.specs.State.{State, Value, state, stored}
 use Rattle.calls.specs.Step.{step, refusal}
-use Rattle.calls.specs.Runs.{lent-of}
+use Rattle.calls.specs.Runs.{value-of, lent-of}
 use Rattle.words.specs.IndexWords.{alpha-of, value-words}
 use Rattle.words.specs.GuardWords.{flag, status-words}
 use Rattle.exported.specs.Runs.{Memory, Places, places, Exported-run, Exported}
@@ -31,10 +32,6 @@ value-held w =
 -- the index that its memory holds
 abbrev pub state-in : Memory → State Store
 state-in a = state (value-held (a .words)) (a .slices)
-
--- the words are those that the index is written as
-abbrev pub Right : Memory → Type 0
-Right a = a .words ≡ value-words (value-held (a .words))
 
 -- the call that is run: what is asked, with the lengths of all that is lent
 abbrev pub call-in : Exported-run → Call
@@ -61,23 +58,30 @@ put (assessed r) o = (0, places (o .value) (o .alpha) (o .version) (o .bytes) (n
 put (applied ts r) o = (0, places (length ts) (o .alpha) (o .version) (o .bytes) (numbers r) (written (applied ts r) (o .outputs)))
 put (deferred r) o = (0, places 0 (o .alpha) (o .version) (o .bytes) (numbers r) (written (deferred r) (o .outputs)))
 
+-- the calls that write the words anew, each with its answer; a delete that is deferred writes none
+pub data Rewrites : Operation → Answer → Type 0 where
+  by-create : {m : Making} → Rewrites (create m) created
+  by-insert : {a : Insert} {ss : List ℕ} → Rewrites (insert a) (inserted ss)
+  by-delete : {a : Delete} {ts : List Stats} → Rewrites (delete a) (deleted ts)
+  by-enable : {c : Config} {s : Status} → Rewrites (enable c) (standing s)
+  by-guarded-delete : {a : Delete} {ts : List Stats} {r : Report} → Rewrites (guarded-delete a) (applied ts r)
+
 -- all that is lent stays: words, slices, scratch, and what stands where an answer is written
 pub record Untouched (r : Exported-run) : Type 0 where
   pub memory : r .left ≡ r .lent
   pub scratch : r .scratch′ ≡ r .scratch
   pub places : r .after ≡ r .before
 
--- a run leaves an index, and returns and writes an answer
+-- a run leaves an index, returns and writes an answer, and leaves the words that it is lent or those that the index left is written as
 pub record Gives (r : Exported-run) (q : State Store × Answer) : Type 0 where
   pub leaves : state-in (r .left) ≡ q .0
   pub tells : (r .returned, r .after) ≡ put (q .1) (r .before)
+  pub words : (Rewrites (r .operation) (q .1) × (r .left .words ≡ value-words (value-of (q .0))))
+      ⊎ ((Rewrites (r .operation) (q .1) → ⊥) × (r .left .words ≡ r .lent .words))
 
 -- what every exported function does
 pub record Performs (r : Exported-run) : Type 0 where
   pub does : Gives r (step stored (state-in (r .lent)) (call-in r))
-  -- the words stay, or are written anew; a making that is carried out writes them
-  pub words : (r .left .words ≡ r .lent .words) ⊎ Right (r .left)
-  pub new-words : (m : Making) → r .operation ≡ create m → r .returned ≡ 0 → Right (r .left)
   -- a call that is turned back
   pub refused : (n : ℕ) → refusal stored (state-in (r .lent)) (call-in r) ≡ some n → Untouched r
 
