@@ -3,7 +3,6 @@ use Prim.Native.Nat.{ℕ}
 use mathlib.Core.Bool.{Bool, true, false}
 use mathlib.Core.Option.{Option, none, some}
 use mathlib.Core.Path.{_≡_, refl, sym, ap, _∙_, subst}
-use native.Mathlib.Omega.{arith}
 use Rattle.slots.specs.Store.{Store}
 use Rattle.guard.specs.Guard.{Report}
 use Rattle.calls.specs.Calls.{Reading, read-dim, read-capacity, read-degree, read-alpha, read-entry, read-live, read-mark, read-version, read-target, Delete, Operation, create, read, read-vector, search, insert, delete, enable, status, assess, guarded-delete, refused-as}
