@@ -157,8 +157,9 @@ uint32_t finder_search(const uint32_t words[FINDER_INDEX_WORDS], FINDER_LENT,
  * lowest. For each a walk from the entry, with a list of at most beam or degree slots, whichever is more, finds neighbours, of which pruning selects its
  * row; the rows of those selected are pruned anew with the new slot among their references. The number of the vectors is written to *found and the slots
  * that they got to the first *found places of slots, lowest first; the places after them stay. The words get the new live count; versions and pool are
- * only read. The rows of 256 vectors at a time are worked out on the index as it stands before any of them is written. While the entry is dead, walks find
- * nothing, and new slots get empty rows. The scratch is overwritten.
+ * only read. The rows of 256 vectors at a time are worked out on the index as it stands before any of them is written, so vectors of one call do not find each
+ * other: new titles are better inserted one vector to a call (docs/YEAR.md). While the entry is dead, walks find nothing, and new slots get empty rows. The
+ * scratch is overwritten.
  * Refusals, in order: 1, 2, 3 (one of the six slices, or fewer places in slots than vectors), 6, 7, 8, 9, 10.
  */
 uint32_t finder_insert(uint32_t words[FINDER_INDEX_WORDS],
