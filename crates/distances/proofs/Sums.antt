@@ -1,5 +1,5 @@
 -- Laws of sums. Assumes nothing.
-use Prim.Native.Nat.{ℕ, _+_, _-_, min, _≤_}
+use Prim.Native.Nat.{ℕ, _+_, _-_, _*_, min, _≤_, _<_}
 use mathlib.Core.List.{List}
 use mathlib.Core.Path.{_≡_}
 use native.Mathlib.Omega.{arith}
@@ -8,7 +8,7 @@ use Rattle.lists.specs.Lists.{part}
 use Rattle.vectors.specs.Distance.{distance}
 use Rattle.vectors.specs.Space.{query-distance, space, Measured}
 use Rattle.vectors.proofs.Distances.{distance-end}
-use Rattle.distances.specs.contracts.Sums.{Summed, First}
+use Rattle.distances.specs.contracts.Sums.{Summed, Bounded, First, Reached}
 
 -- a sum and the one behind it are one sum
 pub summed-join : {a b : List ℕ} {i n m r s : ℕ} → Summed a b i n r → Summed a b (i + n) m s → Summed a b i (n + m) (r + s)
@@ -28,10 +28,27 @@ module _ {dim s n : ℕ} {vectors query v : List ℕ} (e : n ≡ min 64 dim) (q 
   pub first-by : {r : ℕ} → Summed query v 0 (n - 0) r → First dim vectors query s r
   first-by p = let z : n - 0 ≡ min 64 dim = omega arith in record { sums = rw (z, q) at p }
 
-  pub whole-by : {first r : ℕ} → length query ≡ dim → dim ≤ 256 → First dim vectors query s first → Summed query v n (dim - n) r
-      → Measured (query-distance (space dim vectors) query s) (first + r)
-  unfolding query-distance space
-  whole-by {r = r} l h f p =
-      let z : min 64 dim ≡ 0 + min 64 dim = omega arith in
-      let rest : Summed query (part dim s vectors) (0 + min 64 dim) (dim - n) r = rw (← z, ← e, ← q) p in
-      summed-all (omega arith) (omega arith) (summed-join (f .sums) rest)
+  module _ (l : length query ≡ dim) (h : dim ≤ 256) {first : ℕ} (f : First dim vectors query s first) where
+    whole-by : {r : ℕ} → Summed query v n (dim - n) r → Measured (query-distance (space dim vectors) query s) (first + r)
+    unfolding query-distance space
+    whole-by {r} p =
+        let z : min 64 dim ≡ 0 + min 64 dim = omega arith in
+        let rest : Summed query (part dim s vectors) (0 + min 64 dim) (dim - n) r = rw (← z, ← e, ← q) p in
+        summed-all (omega arith) (omega arith) (summed-join (f .sums) rest)
+
+    -- what the first values leave of the distance
+    left : query-distance (space dim vectors) query s ≡ first + distance (drop n query) (drop n v)
+    unfolding query-distance space
+    left = let z : 0 + min 64 dim ≡ n = omega arith in rw (q, ← z) (omega (arith, f .sums .step))
+
+    pub reached-first : {bound : ℕ} → bound ≤ first → Reached (query-distance (space dim vectors) query s) bound first
+    reached-first b = record { below = λ k. absurd (omega arith); above = λ _. omega (arith, left); small = omega (arith, f .sums .bound) }
+
+    pub reached-by : {bound r : ℕ} → first < bound → Bounded query v n (dim - n) (bound - first) r
+        → Reached (query-distance (space dim vectors) query s) bound (first + r)
+    reached-by {bound} {r} b p =
+        record {
+          below = λ k. whole-by (p .all (omega arith)) .equals;
+          above = λ k. omega (arith, left, p .most);
+          small = omega (arith, f .sums .bound, p .small);
+        }

@@ -5,7 +5,7 @@ ghost use Prim.Native.Nat.{_+_, _*_, _-_, min, _<_, _≤_};
 ghost use lib.ListN.{length};
 ghost use Rattle.vectors.specs.Distance.{squared-difference, distance};
 ghost use Rattle.vectors.specs.Space.{slot-distance, query-distance, space, Measured};
-ghost use Rattle.distances.specs.contracts.Sums.{Summed, First};
+ghost use Rattle.distances.specs.contracts.Sums.{Summed, Bounded, First, Reached};
 ghost use Rattle.distances.specs.contracts.Kept.{Kept};
 
 // The squared difference of two bytes.
@@ -62,14 +62,20 @@ fn sixty_four(a: &[u8], b: &[u8], i: usize) -> u32
         + four(a, b, i + 60)
 }
 
-// The sum of the squared differences from place `from` up to `to`.
-fn sum(a: &[u8], b: &[u8], from: usize, to: usize) -> u32
+// A bound above every distance.
+pub const FAR: u32 = 16777216;
+
+// The sum of the squared differences from place `from` up to `to`, or of the first of them that come to `bound`.
+fn sum(a: &[u8], b: &[u8], from: usize, to: usize, bound: u32) -> u32
     requires { ⌜ (from ≤ to) × (to ≤ length (now a)) × (to ≤ length (now b)) × (to ≤ 256) ⌝ }
-    ensures { λ r. ⌜ Summed (now (a .entry)) (now (b .entry)) from (to - from) r ⌝ }
+    ensures { λ r. ⌜ Bounded (now (a .entry)) (now (b .entry)) from (to - from) bound r ⌝ }
 {
     let mut sum: u32 = 0;
     let mut i = from;
     while i < to {
+        if bound <= sum {
+            return sum;
+        }
         let left = to - i;
         if 64 <= left {
             sum += sixty_four(a, b, i);
@@ -93,7 +99,7 @@ pub fn distance(a: &[u8], b: &[u8]) -> u32
     requires { ⌜ (length (now a) ≡ length (now b)) × (length (now a) ≤ 256) ⌝ }
     ensures { λ r. ⌜ Measured (distance (now (a .entry)) (now (b .entry))) r ⌝ }
 {
-    sum(a, b, 0, a.len())
+    sum(a, b, 0, a.len(), FAR)
 }
 
 // The distance of the vectors of two slots.
@@ -154,14 +160,31 @@ pub fn first_distance(dim: usize, vectors: &[u8], query: &[u8], s: usize) -> u32
     requires { ⌜ (s * dim + dim ≤ length (now vectors)) × (length (now query) ≡ dim) × (dim ≤ 256) ⌝ }
     ensures { λ r. ⌜ First dim (now (vectors .entry)) (now (query .entry)) s r ⌝ }
 {
-    sum(query, vector(dim, vectors, s), 0, first_part(dim))
+    sum(query, vector(dim, vectors, s), 0, first_part(dim), FAR)
 }
 
-// The distance of a query and the vector of a slot, by that of their first values.
-pub fn whole_distance(dim: usize, vectors: &[u8], query: &[u8], s: usize, first: u32) -> u32
+// The distance of a query and the vector of a slot, by that of their first values; where it is not below `bound`, a part of it that is not below either.
+pub fn distance_below(
+    dim: usize,
+    vectors: &[u8],
+    query: &[u8],
+    s: usize,
+    first: u32,
+    bound: u32,
+) -> u32
     requires { ⌜ (s * dim + dim ≤ length (now vectors)) × (length (now query) ≡ dim) × (dim ≤ 256) ⌝ }
     requires { ⌜ First dim (now vectors) (now query) s first ⌝ }
-    ensures { λ r. ⌜ Measured (query-distance (space dim (now (vectors .entry))) (now (query .entry)) s) r ⌝ }
+    ensures { λ r. ⌜ Reached (query-distance (space dim (now (vectors .entry))) (now (query .entry)) s) bound r ⌝ }
 {
-    first + sum(query, vector(dim, vectors, s), first_part(dim), dim)
+    if bound <= first {
+        return first;
+    }
+    first
+        + sum(
+            query,
+            vector(dim, vectors, s),
+            first_part(dim),
+            dim,
+            bound - first,
+        )
 }

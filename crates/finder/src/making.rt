@@ -1,9 +1,21 @@
-// The size answer, and making an index.
+// The library's version, the size answer, and making an index.
 use index::ScratchWords;
 use words::put_created;
+ghost use mathlib.Core.Path.{_≡_};
 ghost use Rattle.slots.specs.Sizes.{slices};
 ghost use Rattle.index.specs.Create.{making};
 ghost use Rattle.words.specs.Given.{Sizes-scratch, Creates-words};
+
+// 10,000 for each major version, 100 for each minor one and 1 for each patch.
+const VERSION: u32 = 1_00_00;
+
+// The library's version.
+#[no_mangle]
+pub extern "C" fn finder_version() -> u32
+    ensures { λ r. ⌜ r ≡ 10000 ⌝ }
+{
+    VERSION
+}
 
 // Writes how many words of scratch the calls on an index of these sizes ask for.
 #[no_mangle]

@@ -10,8 +10,8 @@ use lib.ListN.{length, getD}
 use Rattle.lists.specs.Lists.{All, Pairwise}
 use Rattle.lists.proofs.All.{all-map, all-both, all-append}
 use Rattle.lists.proofs.Ranges.{foldl-append}
-use Rattle.distances.specs.contracts.Sums.{First}
-use Rattle.vectors.specs.Space.{query-distance, space, Measured}
+use Rattle.distances.specs.contracts.Sums.{First, Reached}
+use Rattle.vectors.specs.Space.{query-distance, space}
 use Rattle.candidates.specs.Candidates.{Candidate, scored, ids}
 use Rattle.candidates.specs.contracts.Words.{pair, cands, put, Outside}
 use Rattle.candidates.proofs.Words.{cands-none, cands-push, put-length, outside-none, outside-wide, outside-then}
@@ -22,10 +22,11 @@ use Rattle.slots.specs.declared.rows.Ref.{Ref}
 use Rattle.slots.specs.declared.rows.Ref.the-variants.{At, Dead}
 use Rattle.slots.proofs.Places.{live-from-at, live-from-dead, ref-inside}
 use Rattle.walk.specs.Walk.{State, enter, meet}
-use Rattle.walk.specs.contracts.Scratch.{near-of, mark-word, mark, put-mark, unmet, marks-of, with-fresh, meets, Walkable, Entered, Fresh, UnmetAt, Added, Gathered, Gathers, Stepped, Vectors}
+use Rattle.walk.specs.contracts.Scratch.{near-of, mark-word, mark, put-mark, unmet, marks-of, with-fresh, meets, entry-bound, Walkable, Entered, Fresh, UnmetAt, Added, Gathered, Gathers, Stepped, Vectors}
 use Rattle.walk.proofs.Ordered.{all-enter}
 use Rattle.walk.proofs.Marks.{put-mark-length, mark-same, mark-at, mark-kept, marks-set, marks-kept, outside-mark}
-use Rattle.walk.proofs.Seen.{dist-small, dist-ready}
+use Rattle.walk.proofs.Entering.{enter-reached}
+use Rattle.walk.proofs.Seen.{dist-ready}
 use Rattle.walk.proofs.Walking.{mark-cases, marked-list, marked-goes, entered-goes}
 
 -- ---- what the tests of the code say
@@ -202,7 +203,8 @@ module _ {dim capacity : ℕ} {vectors query : List ℕ} {beam : ℕ} where
         let f = rw e at (g .fresh) in
         (dist-ready v (f .inside .0) (q ∙ i), rw (q, i, k) (f .first .0))
 
-    entering-next : {x : Candidate} {ys : List Candidate} {d n′ next′ : ℕ} {w′ : List ℕ} → xs ≡ x ∷ ys → d ≡ query-distance (space dim vectors) query (x .id) → d ≤ 16777216
+    entering-next : {x : Candidate} {ys : List Candidate} {d n′ next′ : ℕ} {w′ : List ℕ} → xs ≡ x ∷ ys
+        → enter beam (cands w 0 n) (pair d (x .id)) ≡ enter beam (cands w 0 n) (pair (query-distance (space dim vectors) query (x .id)) (x .id)) → d ≤ 16777216
         → Entered beam w n next (pair d (x .id)) w′ n′ next′ → Entering dim capacity vectors query beam w₀ to w′ n′ next′ ys
     entering-next {x} {ys} {d} {n′} {next′} {w′} e q small y =
         let f : Fresh dim capacity vectors query w n (x ∷ ys) = rw e at (g .fresh) in
@@ -222,9 +224,9 @@ module _ {dim capacity : ℕ} {vectors query : List ℕ} {beam : ℕ} where
           same = outside-then 0 (work-at capacity) w₀ w w′ (g .same) (outside-wide 0 marks-at 0 (work-at capacity) w w′ (y .same) (omega arith) (omega arith));
         }
 
-    pub entering-more : {x : Candidate} {ys : List Candidate} {id s d n′ next′ : ℕ} {w′ : List ℕ} → xs ≡ x ∷ ys → id ≡ x .id → s ≡ id
-        → Measured (query-distance (space dim vectors) query s) d → Entered beam w n next (pair d id) w′ n′ next′ → Entering dim capacity vectors query beam w₀ to w′ n′ next′ ys
-    entering-more e i q m y = entering-next e (rw (q, i) at (m .equals)) (dist-small m) (rw i at y)
+    pub entering-more : {x : Candidate} {ys : List Candidate} {id s b d n′ next′ : ℕ} {w′ : List ℕ} → xs ≡ x ∷ ys → id ≡ x .id → s ≡ id → b ≡ entry-bound beam (cands w 0 n)
+        → Reached (query-distance (space dim vectors) query s) b d → Entered beam w n next (pair d id) w′ n′ next′ → Entering dim capacity vectors query beam w₀ to w′ n′ next′ ys
+    entering-more {x} e i q k m y = entering-next e (enter-reached beam (cands w 0 n) (x .id) (rw (q, i, k) at m)) (omega (arith, m .small)) (rw i at y)
 
     pub entering-done : xs ≡ [] → Stepped capacity beam w₀ to w n next
     entering-done e = record { holds = rw e at (g .holds); goes = g .goes; size = g .size; same = g .same }

@@ -3,9 +3,9 @@ mod words;
 
 use candidates::dist_at;
 use candidates::id_at;
+use distances::distance_below;
 use distances::first_distance;
 use distances::query_distance;
-use distances::whole_distance;
 use slots::marks::is_valid;
 use slots::marks::wide;
 use slots::rows::Ref;
@@ -108,7 +108,7 @@ fn gather(
     n
 }
 
-// The `n` candidates of `fresh` enter the list, each at its whole distance.
+// The `n` candidates of `fresh` enter the list, each at its whole distance, of which no more is worked out than shows that it stays out.
 fn enter_all(
     dim: usize,
     vectors: &[u8],
@@ -128,7 +128,8 @@ fn enter_all(
     let mut k: usize = 0;
     while k < n {
         let id = id_at(fresh, 0, k);
-        let dist = whole_distance(dim, vectors, query, wide(id), dist_at(fresh, 0, k));
+        let bound = words::bound(scratch, beam, now);
+        let dist = distance_below(dim, vectors, query, wide(id), dist_at(fresh, 0, k), bound);
         now = words::enter(scratch, beam, now, dist, id);
         k += 1;
     }

@@ -23,7 +23,7 @@ sum-requires c κs =
     (omega arith, omega arith, omega arith, omega arith)
 
 returns : tie.Need-returns
-returns c = first-by (c .before .first-part .ensures) (c .before .before .vector .ensures .bytes) (c .sum .ensures)
+returns c = first-by (c .before .first-part .ensures) (c .before .before .vector .ensures .bytes) (c .sum .ensures .all (omega (arith, c .sum .ensures .small, c .before .first-part .ensures)))
 
 pub first-distance-spec : {M : Type 1} → statement M
 first-distance-spec = tie.close (tie.spec vector-requires first-part-requires sum-requires returns)

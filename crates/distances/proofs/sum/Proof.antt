@@ -9,13 +9,16 @@ use Rattle.distances.proofs.sum.Statement.{statement}
 use Rattle.distances.proofs.sum.Tie as tie
 
 abbrev Inv-loop : tie.InvT-loop
-Inv-loop a b from to sum₀ i₀ sum i = (from ≤ i) × (i ≤ to) × (sum ≤ 65025 * (i - from)) × (sum + distance (drop i a) (drop i b) ≡ distance (drop from a) (drop from b))
+Inv-loop a b from to bound sum₀ i₀ sum i = (from ≤ i) × (i ≤ to) × (sum ≤ 65025 * (i - from)) × (sum + distance (drop i a) (drop i b) ≡ distance (drop from a) (drop from b))
 
 abbrev μ-loop : tie.MeasureT-loop
-μ-loop a b from to sum₀ i₀ sum i = to - i
+μ-loop a b from to bound sum₀ i₀ sum i = to - i
 
 loop-holds : tie.Need-loop-holds Inv-loop μ-loop
 loop-holds c = omega arith
+
+returns : tie.Need-returns Inv-loop μ-loop
+returns c = record { all = λ h. absurd (omega arith); most = omega arith; small = omega arith }
 
 sub-left : tie.Need-sub-left Inv-loop μ-loop
 sub-left c = omega arith
@@ -85,16 +88,16 @@ loop-less-4 c = omega arith
 
 loop-again-4 : tie.Need-loop-again-4 Inv-loop μ-loop
 loop-again-4 c =
-    let s = c .before .before .before .before .before .before .before .before .before .before .args in
-    let i = c .before .before .before .before .before .before .before .loop .i in
+    let s = c .before .before .before .before .before .before .before .before .before .before .before .args in
+    let i = c .before .before .before .before .before .before .before .before .loop .i in
     let e = square-sym (getD (s .b .now) i 0) (getD (s .a .now) i 0) in
     omega (arith, e, distance-step (s .a .now) (s .b .now) i (omega arith) (omega arith))
 
-returns : tie.Need-returns Inv-loop μ-loop
-returns c =
+returns-2 : tie.Need-returns-2 Inv-loop μ-loop
+returns-2 c =
     let s = c .before .before .before .before .args in
     let e : s .from + (s .to - s .from) ≡ c .before .loop .i = omega arith in
-    record { step = rw e (omega arith); bound = omega arith }
+    record { all = λ _. record { step = rw e (omega arith); bound = omega arith }; most = omega arith; small = omega arith }
 
 pub sum-spec : {M : Type 1} → statement M
 sum-spec =
@@ -103,6 +106,7 @@ sum-spec =
     Inv-loop
     μ-loop
     loop-holds
+    returns
     sub-left
     sixty-four-requires
     add-sum
@@ -126,4 +130,4 @@ sum-spec =
     add-i-4
     loop-less-4
     loop-again-4
-    returns)
+    returns-2)

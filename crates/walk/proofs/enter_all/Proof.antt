@@ -7,7 +7,6 @@ use Rattle.candidates.specs.contracts.Words.{cands}
 use Rattle.candidates.proofs.Words.{cands-none, cands-cons}
 use Rattle.walk.specs.contracts.Scratch.{with-fresh}
 use Rattle.walk.proofs.Gathering.{Entering, entering-none, entering-ready, entering-more, entering-done}
-use Rattle.walk.proofs.Seen.{dist-small}
 use Rattle.walk.proofs.enter_all.Statement.{statement}
 use Rattle.walk.proofs.enter_all.Tie as tie
 
@@ -22,10 +21,13 @@ abbrev μ-loop : tie.MeasureT-loop
 
 -- places before the needs below, each named by what was done last there
 abbrev start₁ : tie.After-dist-at Inv-loop μ-loop → tie.Start Inv-loop μ-loop
-start₁ c = c .before .before .before .before .before .before .before .before .before
+start₁ c = c .before .before .before .before .before .before .before .before .before .before .before
 
-abbrev loop₂ : tie.After-slice-known2 Inv-loop μ-loop → tie.At-loop Inv-loop μ-loop
-loop₂ c = c .before .before .before .before .before .before .before .before .before
+abbrev loop₁ : tie.After-id-at Inv-loop μ-loop → tie.At-loop Inv-loop μ-loop
+loop₁ c = c .before .before
+
+abbrev id-at₂ : tie.After-slice-known2 Inv-loop μ-loop → tie.After-id-at Inv-loop μ-loop
+id-at₂ c = c .before .before .before .before .before .before .before .before .before
 
 loop-holds : tie.Need-loop-holds Inv-loop μ-loop
 loop-holds c =
@@ -39,26 +41,29 @@ id-at-requires c κs = omega (arith, c .before .before .before .before .before .
 wide-requires : tie.Need-wide-requires Inv-loop μ-loop
 wide-requires c κs = search needs
 
-dist-at-requires : tie.Need-dist-at-requires Inv-loop μ-loop
-dist-at-requires c κs = omega (arith, c .before .before .before .before .before .before .before .before .pre .1 .0, c .before .before .loop-test .taken)
+bound-requires : tie.Need-bound-requires Inv-loop μ-loop
+bound-requires c κs = loop₁ (c .before) .loop .inv .1 .goes .listed
 
-whole-distance-requires : tie.Need-whole-distance-requires Inv-loop μ-loop
-whole-distance-requires c κs =
-    entering-ready (c .before .before .before .before .loop .inv .1) ((start₁ c) .pre .0 .0) (cands-cons _ 0 _ _ (c .before .before .before .loop-test .taken)) (c .before .before .id-at .ensures) (c .before .wide .ensures) (c .dist-at .ensures)
+dist-at-requires : tie.Need-dist-at-requires Inv-loop μ-loop
+dist-at-requires c κs = omega (arith, c .before .before .before .before .before .before .before .before .before .before .pre .1 .0, c .before .before .before .before .loop-test .taken)
+
+distance-below-requires : tie.Need-distance-below-requires Inv-loop μ-loop
+distance-below-requires c κs =
+    entering-ready (loop₁ (c .before .before .before .before) .loop .inv .1) ((start₁ c) .pre .0 .0) (cands-cons _ 0 _ _ (c .before .before .before .before .before .loop-test .taken)) (c .before .before .before .before .id-at .ensures) (c .before .wide .ensures) (c .dist-at .ensures)
 
 enter-requires : tie.Need-enter-requires Inv-loop μ-loop
-enter-requires c κs = let f = c .before .before .before .before .before .before .loop .inv .1 .goes in (f .listed, f .passed, dist-small (c .before .whole-distance .ensures))
+enter-requires c κs = let f = c .before .before .before .before .before .before .before .before .loop .inv .1 .goes in (f .listed, f .passed, omega (arith, c .before .distance-below .ensures .small))
 
 add-k : tie.Need-add-k Inv-loop μ-loop
-add-k c = omega (arith, c .before .before .before .before .before .before .before .before .loop-test .taken)
+add-k c = omega (arith, c .before .before .before .before .before .before .before .before .before .before .loop-test .taken)
 
 loop-less : tie.Need-loop-less Inv-loop μ-loop
-loop-less c = omega (arith, c .before .before .before .before .before .before .before .before .loop-test .taken)
+loop-less c = omega (arith, c .before .before .before .before .before .before .before .before .before .before .loop-test .taken)
 
 loop-again : tie.Need-loop-again Inv-loop μ-loop
 loop-again c =
-    let h = c .before .before .before .before .before .before .before .before .loop-test .taken in
-    (omega (arith, h), entering-more ((loop₂ c) .loop .inv .1) (cands-cons _ 0 _ _ h) (c .before .before .before .before .before .before .before .id-at .ensures) (c .before .before .before .before .before .before .wide .ensures) (c .before .before .before .before .whole-distance .ensures) (c .before .before .enter .ensures))
+    let h = c .before .before .before .before .before .before .before .before .before .before .loop-test .taken in
+    (omega (arith, h), entering-more (loop₁ (id-at₂ c) .loop .inv .1) (cands-cons _ 0 _ _ h) (id-at₂ c .id-at .ensures) (c .before .before .before .before .before .before .wide .ensures) (c .before .before .before .before .before .before .before .bound .ensures) (c .before .before .before .before .distance-below .ensures) (c .before .before .enter .ensures))
 
 same-length : tie.Need-same-length Inv-loop μ-loop
 same-length c = c .before .loop .inv .1 .size
@@ -74,9 +79,10 @@ enter-all-spec =
     μ-loop
     loop-holds
     id-at-requires
+    bound-requires
     wide-requires
     dist-at-requires
-    whole-distance-requires
+    distance-below-requires
     enter-requires
     add-k
     loop-less

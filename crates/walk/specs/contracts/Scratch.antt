@@ -1,7 +1,7 @@
 -- The walk in lent words: what its functions ask of the words, and what they leave in them. The regions are those of `slots` (Scratch): the list, and a
 -- mark for each slot. Assumes nothing.
 use Prim.Native.Nat.{ℕ, _+_, _*_, max, _≤_, _<_}
-use mathlib.Core.Bool.{Bool, true, false, not, _&&_}
+use mathlib.Core.Bool.{Bool, true, false, not, _&&_, cond}
 use mathlib.Core.List.{List, [], _∷_}
 use mathlib.Core.Path.{_≡_}
 use lib.ListN.{length, take, drop, getD, set, replicate}
@@ -15,7 +15,7 @@ use Rattle.slots.specs.Store.{Arrays, Store, is-valid, refs-of, store-view}
 use Rattle.slots.specs.contracts.Rows.{RowShape, ref-at, live-from}
 use Rattle.slots.specs.declared.rows.Ref.{Ref}
 use Rattle.slots.specs.declared.rows.Ref.the-variants.{At, Dead}
-use Rattle.walk.specs.Walk.{State, enter, ends, graph-search, search-pool}
+use Rattle.walk.specs.Walk.{State, worst, enter, ends, graph-search, search-pool}
 use Rattle.slots.specs.Scratch.{list-words, marks-at, work-at}
 use Rattle.walk.specs.Walk as Walk
 
@@ -73,6 +73,10 @@ takes-turns a query beam w n = Walk.turns beam (query-distance (space (a .dim) (
 -- the first state: the start is in the list, and it and the slots to be left out are met
 abbrev pub first-state : ℕ → List ℕ → ℕ → ℕ → State
 first-state capacity ids d start = record { list = pair d start ∷ []; marks = set (mark-all (replicate capacity 0) ids) start 1 }
+
+-- the bound below which a candidate enters the list; where there is room it is above every distance
+abbrev pub entry-bound : ℕ → List Candidate → ℕ
+entry-bound beam list = cond (ltb (length list) beam) 16777216 (worst list)
 
 -- n candidates in order, which one can enter
 pub record Listed (beam : ℕ) (w : List ℕ) (n : ℕ) : Type 0 where
