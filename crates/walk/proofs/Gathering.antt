@@ -24,10 +24,10 @@ use Rattle.slots.proofs.Places.{live-from-at, live-from-dead, ref-inside}
 use Rattle.walk.specs.Walk.{State, enter, meet}
 use Rattle.walk.specs.contracts.Scratch.{near-of, mark-word, mark, put-mark, unmet, marks-of, with-fresh, meets, entry-bound, Walkable, Entered, Fresh, UnmetAt, Added, Gathered, Gathers, Stepped, Vectors}
 use Rattle.walk.proofs.Ordered.{all-enter}
-use Rattle.walk.proofs.Marks.{put-mark-length, mark-same, mark-at, mark-kept, marks-set, marks-kept, outside-mark}
+use Rattle.walk.proofs.Marks.{put-mark-length, mark-same, mark-cases, mark-at, mark-kept, marks-set, marks-kept, outside-mark}
 use Rattle.walk.proofs.Entering.{enter-reached}
 use Rattle.walk.proofs.Seen.{dist-ready}
-use Rattle.walk.proofs.Walking.{mark-cases, marked-list, marked-goes, entered-goes}
+use Rattle.walk.proofs.Walking.{marked-list, marked-goes, entered-goes}
 
 -- ---- what the tests of the code say
 dead-live : {t : ℕ} → Dead ≡ At t → ⊥
@@ -108,7 +108,7 @@ module _ {a : Arrays} {query : List ℕ} {beam : ℕ} {w₀ : List ℕ} {n next 
   module _ {t : ℕ} {us : List ℕ} (e : ts ≡ t ∷ us) (h : t < capacity) where
     meet-old : (mark w t ≡ 0 → ⊥) → meet beam dist (near-of a) st t ≡ st
     unfolding meet
-    meet-old z = rw (ne-eqb _ 0 (λ y. z (sym (mark-at capacity w (g .goes .room) t h) ∙ y)))
+    meet-old z = rw (ne-eqb _ 0 (λ y. z (sym (mark-at capacity w t h) ∙ y)))
 
     pub gathered-met : (mark w t ≡ 0 → ⊥) → Gathered a query beam w₀ n next ts₀ us w xs
     gathered-met z =
@@ -121,13 +121,13 @@ module _ {a : Arrays} {query : List ℕ} {beam : ℕ} {w₀ : List ℕ} {n next 
 
     module _ (z : mark w t ≡ 0) where
       list : cands (put-mark w t 1) 0 n ≡ cands w 0 n
-      list = marked-list (g .goes) t 1 h n (omega arith)
+      list = marked-list (g .goes) t 1 h (omega arith) n (omega arith)
 
       meet-new : (d : ℕ) → meet beam dist (near-of a) st t ≡ with-fresh (a .dim) (a .vectors) query capacity beam (put-mark w t 1) n (xs ++ (pair d t ∷ []))
       unfolding meet
       meet-new d =
-          let e : eqb (getD (marks-of capacity w) t 0) 0 ≡ true = eq-eqb _ _ (mark-at capacity w (g .goes .room) t h ∙ z) in
-          rw (e, list, marks-set capacity w t 1 h, scored-push dist xs d t, foldl-append (enter beam) (cands w 0 n) (scored dist (ids xs)) (pair (dist t) t ∷ []))
+          let e : eqb (getD (marks-of capacity w) t 0) 0 ≡ true = eq-eqb _ _ (mark-at capacity w t h ∙ z) in
+          rw (e, list, marks-set capacity w (g .goes .room) t 1 h (omega arith), scored-push dist xs d t, foldl-append (enter beam) (cands w 0 n) (scored dist (ids xs)) (pair (dist t) t ∷ []))
 
       pub gathered-new : {d : ℕ} {ys : List Candidate} → First (a .dim) (a .vectors) query t d → ys ≡ xs ++ (pair d t ∷ [])
           → Gathered a query beam w₀ n next ts₀ us (put-mark w t 1) ys
@@ -135,11 +135,11 @@ module _ {a : Arrays} {query : List ℕ} {beam : ℕ} {w₀ : List ℕ} {n next 
           let k : mark-word t < length w = omega (arith, g .goes .room) in
           let f = g .fresh in
           let still : (s : ℕ) → (mark w s ≡ 0 → ⊥) → mark (put-mark w t 1) s ≡ 0 → ⊥ =
-          λ s m. mark-cases w t 1 s (λ x. x ≡ 0 → ⊥) k (λ _ y. omega arith) m in
-          let own : mark (put-mark w t 1) t ≡ 0 → ⊥ = λ y. omega (arith, mark-same w t 1 k) in
+          λ s m. mark-cases w t 1 k (omega arith) s (λ x. x ≡ 0 → ⊥) (λ _ y. omega arith) (λ _. m) in
+          let own : mark (put-mark w t 1) t ≡ 0 → ⊥ = λ y. omega (arith, mark-same w t 1 k (omega arith)) in
           rw q (record {
             holds = ap (λ (x : State). meets a query beam x us) (sym (meet-new d)) ∙ rw e at (g .holds);
-            goes = marked-goes (g .goes) t 1 h (omega arith) (λ y. absurd (omega arith));
+            goes = marked-goes (g .goes) t 1 h (omega arith) (omega arith) (λ y. absurd (omega arith));
             fresh = record {
               inside = all-append _ xs _ (f .inside) (h, tt);
               met = all-append _ xs _ (all-map _ _ (λ x m. still (x .id) m) xs (f .met)) (own, tt);
@@ -211,7 +211,7 @@ module _ {dim capacity : ℕ} {vectors query : List ℕ} {beam : ℕ} where
         let h : with-fresh dim vectors query capacity beam w n (x ∷ ys) ≡ to = rw e at (g .holds) in
         let keeps = mark-kept w w′ (y .same) in
         record {
-          holds = rw (y .list, marks-kept capacity w w′ (g .goes .room) (y .size) (y .same), q) h;
+          holds = rw (y .list, marks-kept capacity w w′ (y .same), q) h;
           goes = entered-goes (g .goes) (f .inside .0) small (f .met .0) (f .apart .0) y;
           fresh = record {
             inside = f .inside .1;

@@ -4,6 +4,7 @@ pub mod Amended
 pub mod Greedy
 pub mod Considers
 pub mod Cases
+pub mod Fields
 pub mod Marks
 pub mod Entering
 pub mod Walking

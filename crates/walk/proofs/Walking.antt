@@ -1,12 +1,11 @@
 -- The walk in the words, step by step: a slot is met, a candidate is expanded, and turn follows turn. Assumes nothing.
 use Prim.Native.Nat.{ℕ, zero, suc, _+_, _-_, _*_, _≤_, _<_}
-use mathlib.Core.Bool.{Bool, true, false}
+use mathlib.Core.Bool.{true, false}
 use mathlib.Core.Path.{_≡_, refl, ap, sym, _∙_}
 use mathlib.Core.List.{List, [], _∷_, _++_}
 use native.Mathlib.Decide.{decLt}
 use native.Mathlib.Omega.{arith}
-use borrow.Author.Tests.{eqb-true, eqb-false, eq-eqb, ne-eqb}
-use lib.Dec.{eqb}
+use borrow.Author.Tests.{eq-eqb, ne-eqb}
 use lib.ListN.{length, getD, set}
 use Rattle.lists.specs.Lists.{All, foldl}
 use Rattle.lists.proofs.All.{all-map, all-both, all-take}
@@ -17,22 +16,14 @@ use Rattle.walk.specs.Walk.{State, unexpanded, enter, ends, meet, expand
 use Rattle.walk.specs.contracts.Scratch.{mark-word, mark, put-mark, marks-of, state-of, Walkable, Scannable, Entered, Unexpanded, Next, Stepped}
 use Rattle.walk.proofs.Ordered.{all-enter, enter-ordered, enter-short, expanded}
 use Rattle.slots.specs.Scratch.{marks-at, work-at}
-use Rattle.walk.proofs.Marks.{put-mark-length, mark-same, mark-other, mark-kept, mark-at, marks-set, list-kept, outside-mark}
+use Rattle.walk.proofs.Marks.{put-mark-length, mark-cases, mark-kept, mark-at, marks-set, list-kept, outside-mark}
 
 -- what holds of the first n holds of the first k
 pub all-front : (P : Candidate → Type 0) (w : List ℕ) (n k : ℕ) → k ≤ n → All P (cands w 0 n) → All P (cands w 0 k)
 all-front P w n k h f = rw (cands-take w 0 n k h) at (all-take P k (cands w 0 n) f)
 
 -- ---- a slot is marked
-module _ (w : List ℕ) (s v t : ℕ) (P : ℕ → Type 0) (h : mark-word s < length w) where
-  pub mark-cases : (t ≡ s → P v) → P (mark w t) → P (mark (put-mark w s v) t)
-  mark-cases f g = go (eqb t s) refl
-    where
-      go : (b : Bool) → eqb t s ≡ b → P (mark (put-mark w s v) t)
-      go true e = let q = eqb-true t s e in rw (q, mark-same w s v h) (f q)
-      go false e = rw (mark-other w s t v (eqb-false t s e)) g
-
-module _ {capacity beam : ℕ} {w : List ℕ} {n next : ℕ} (f : Walkable capacity beam w n next) (s v : ℕ) (h : s < capacity) where
+module _ {capacity beam : ℕ} {w : List ℕ} {n next : ℕ} (f : Walkable capacity beam w n next) (s v : ℕ) (h : s < capacity) (o : v < 4) where
   at-most : n ≤ 1024
   at-most = omega (arith, f .listed)
 
@@ -40,10 +31,10 @@ module _ {capacity beam : ℕ} {w : List ℕ} {n next : ℕ} (f : Walkable capac
   marked-list k l = list-kept capacity k w (put-mark w s v) (omega (arith, at-most)) (outside-mark capacity w w s v h (outside-none marks-at capacity w))
 
   pub marked-state : state-of capacity (put-mark w s v) n ≡ record { list = cands w 0 n; marks = set (marks-of capacity w) s v }
-  marked-state = rw (marked-list n (omega arith), marks-set capacity w s v h)
+  marked-state = rw (marked-list n (omega arith), marks-set capacity w (f .room) s v h o)
 
   pub marked-goes : 1 ≤ v → (mark w s ≡ 2 → v ≡ 2) → Walkable capacity beam (put-mark w s v) n next
-  marked-goes o z =
+  marked-goes y z =
       let k : mark-word s < length w = omega (arith, f .room) in
       let e = marked-list n (omega arith) in
       record {
@@ -57,9 +48,9 @@ module _ {capacity beam : ℕ} {w : List ℕ} {n next : ℕ} (f : Walkable capac
           small = rw e (f .listed .small);
         };
         inside = rw e (f .inside);
-        met = rw e (all-map _ _ (λ c m. mark-cases w s v (c .id) (λ x. x ≡ 0 → ⊥) k (λ q y. omega arith) m) (cands w 0 n) (f .met));
+        met = rw e (all-map _ _ (λ c m. mark-cases w s v k o (c .id) (λ x. x ≡ 0 → ⊥) (λ q e. omega arith) (λ _. m)) (cands w 0 n) (f .met));
         passed = f .passed;
-        done = rw (marked-list next (f .passed)) (all-map _ _ (λ c m. mark-cases w s v (c .id) (λ x. x ≡ 2) k (λ q. z (rw q at m)) m) (cands w 0 next) (f .done));
+        done = rw (marked-list next (f .passed)) (all-map _ _ (λ c m. mark-cases w s v k o (c .id) (λ x. x ≡ 2) (λ q. z (rw q at m)) (λ _. m)) (cands w 0 next) (f .done));
       }
 
 -- ---- x enters: its slot is inside and met, and not in the list
@@ -120,7 +111,7 @@ module _ {capacity beam : ℕ} {w : List ℕ} {n next s t : ℕ} (f : Walkable c
 
   module _ {v : List ℕ} (m : v ≡ put-mark w s 2) where
     pub expands-goes : Walkable capacity beam v n next
-    expands-goes = rw m (marked-goes f s 2 expands-inside (omega arith) (λ _. refl))
+    expands-goes = rw m (marked-goes f s 2 expands-inside (omega arith) (omega arith) (λ _. refl))
 
     pub expanded-by : (dist : ℕ → ℕ) (near : ℕ → List ℕ) {w′ : List ℕ} {n′ next′ : ℕ} → Stepped capacity beam v (foldl (meet beam dist near) (state-of capacity v n) (near s)) w′ n′ next′
         → Stepped capacity beam w (expand beam dist near (state-of capacity w n) (cand w (2 * next))) w′ n′ next′
@@ -129,7 +120,7 @@ module _ {capacity beam : ℕ} {w : List ℕ} {n next s t : ℕ} (f : Walkable c
         let z : 0 + 2 * next ≡ 2 * next = omega arith in
         let i : s ≡ cand w (2 * next) .id = q ∙ rw z at p in
         record {
-          holds = g .holds ∙ ap (λ (st : State). foldl (meet beam dist near) st (near s)) (rw m (marked-state f s 2 expands-inside))
+          holds = g .holds ∙ ap (λ (st : State). foldl (meet beam dist near) st (near s)) (rw m (marked-state f s 2 expands-inside (omega arith)))
               ∙ ap (λ (x : ℕ). foldl (meet beam dist near) (record { list = cands w 0 n; marks = set (marks-of capacity w) x 2 }) (near x)) i;
           goes = g .goes;
           size = g .size ∙ rw m (put-mark-length w s 2);
@@ -157,7 +148,7 @@ module _ {capacity beam : ℕ} {w : List ℕ} {n next : ℕ} (f : Walkable capac
   passes =
       ap (unexpanded (marks-of capacity w)) (cands-split w 0 n r (x .within))
       ∙ unexpanded-skip (marks-of capacity w) (cands w 0 r) (cands w (0 + 2 * r) (n - r))
-      (all-map _ _ (λ c h. mark-at capacity w (f .room) (c .id) (h .0) ∙ h .1) (cands w 0 r)
+      (all-map _ _ (λ c h. mark-at capacity w (c .id) (h .0) ∙ h .1) (cands w 0 r)
       (all-both (λ c. c .id < capacity) (λ c. mark w (c .id) ≡ 2) (cands w 0 r) (all-front _ w n r (x .within) (f .inside)) (x .done)))
 
   next-all : r ≡ n → unexpanded (marks-of capacity w) (cands w 0 n) ≡ []
@@ -168,7 +159,7 @@ module _ {capacity beam : ℕ} {w : List ℕ} {n next : ℕ} (f : Walkable capac
       let z : 0 + 2 * r ≡ 2 * r = omega arith in
       let i : cand w (2 * r) .id < capacity = rw z at (cands-each (λ c. c .id < capacity) w 0 n (f .inside) r h) in
       passes ∙ ap (unexpanded (marks-of capacity w)) (cands-cons w 0 n r h)
-      ∙ rw z (unexpanded-here (marks-of capacity w) (cand w (2 * r)) _ (λ y. x .stops h (sym (mark-at capacity w (f .room) _ i) ∙ y)))
+      ∙ rw z (unexpanded-here (marks-of capacity w) (cand w (2 * r)) _ (λ y. x .stops h (sym (mark-at capacity w _ i) ∙ y)))
 
 -- what the search for it asks
 pub next-ready : {capacity beam : ℕ} {w : List ℕ} {n next : ℕ} → Walkable capacity beam w n next → Scannable w n next

@@ -1,5 +1,5 @@
 // What a walk keeps in the scratch (its map: slots::scratch): the list, and a mark for each slot, which is 0 before the slot is met, 1 when it is met and
-// 2 when it is expanded. The words behind the marks are not touched.
+// 2 when it is expanded. A mark takes two bits, so that a word has those of 16 slots. The words behind the marks are not touched.
 use candidates::dist_at;
 use candidates::id_at;
 use candidates::insert_ordered;
@@ -8,7 +8,7 @@ use distances::FAR;
 use slots::marks::wide;
 use slots::scratch::MARKS;
 ghost use mathlib.Core.Path.{_≡_};
-ghost use Prim.Native.Nat.{_+_, _*_, min, _<_, _≤_};
+ghost use Prim.Native.Nat.{_+_, _*_, _%_, min, _<_, _≤_};
 ghost use lib.ListN.{length};
 ghost use Rattle.candidates.specs.contracts.Words.{pair, cand, cands};
 ghost use Rattle.walk.specs.Walk as Walk;
@@ -26,20 +26,45 @@ pub struct Held {
     pub next: usize,
 }
 
+// The place of slot `s`'s mark in its word.
+fn place_of(s: usize) -> u32
+    ensures { λ r. ⌜ r ≡ s % 16 ⌝ }
+{
+    (s % 16) as u32
+}
+
+// The two bits at a place of a word.
+fn field(place: u32, word: u32) -> u32
+    requires { ⌜ place < 16 ⌝ }
+    ensures { λ r. ⌜ r ≡ Scratch.field place word ⌝ }
+{
+    (word >> (2 * place)) % 4
+}
+
+// The word with `v` at a place.
+fn put_field(place: u32, v: u32, word: u32) -> u32
+    requires { ⌜ (place < 16) × (v < 4) ⌝ }
+    ensures { λ r. ⌜ r ≡ Scratch.put-field place v word ⌝ }
+{
+    let old = field(place, word);
+    word - (old << (2 * place)) + (v << (2 * place))
+}
+
 // The mark of slot `s`.
 fn mark(scratch: &[u32], s: usize) -> u32
     requires { ⌜ mark-word s < length (now scratch) ⌝ }
     ensures { λ r. ⌜ r ≡ Scratch.mark (now (scratch .entry)) s ⌝ }
 {
-    scratch[MARKS + s]
+    field(place_of(s), scratch[MARKS + s / 16])
 }
 
 // Marks slot `s`.
 pub fn set_mark(scratch: &mut [u32], s: usize, v: u32)
-    requires { ⌜ mark-word s < length (now scratch) ⌝ }
+    requires { ⌜ (mark-word s < length (now scratch)) × (v < 4) ⌝ }
     ensures { λ _. ⌜ now (scratch .exit) ≡ put-mark (now (scratch .entry)) s v ⌝ }
 {
-    scratch[MARKS + s] = v;
+    let at = MARKS + s / 16;
+    scratch[at] = put_field(place_of(s), v, scratch[at]);
 }
 
 // Whether slot `id` is inside and not met.
@@ -66,10 +91,11 @@ fn clear(scratch: &mut [u32], capacity: usize)
     requires { ⌜ work-at capacity ≤ length (now scratch) ⌝ }
     ensures { λ _. ⌜ Cleared capacity (now (scratch .entry)) (now (scratch .exit)) ⌝ }
 {
-    let mut s: usize = 0;
-    while s < capacity {
-        scratch[MARKS + s] = 0;
-        s += 1;
+    let words = (capacity + 15) / 16;
+    let mut i: usize = 0;
+    while i < words {
+        scratch[MARKS + i] = 0;
+        i += 1;
     }
 }
 

@@ -1,12 +1,12 @@
--- The walk in lent words: what its functions ask of the words, and what they leave in them. The regions are those of `slots` (Scratch): the list, and a
--- mark for each slot. Assumes nothing.
-use Prim.Native.Nat.{ℕ, _+_, _*_, max, _≤_, _<_}
+-- The walk in lent words: what its functions ask of the words, and what they leave in them. The regions are those of `slots` (Scratch): the list, and
+-- the marks, of which a word has 16. Assumes nothing.
+use Prim.Native.Nat.{ℕ, _+_, _-_, _*_, _/_, _%_, _^_, max, _≤_, _<_}
 use mathlib.Core.Bool.{Bool, true, false, not, _&&_, cond}
-use mathlib.Core.List.{List, [], _∷_}
+use mathlib.Core.List.{List, [], _∷_, map}
 use mathlib.Core.Path.{_≡_}
-use lib.ListN.{length, take, drop, getD, set, replicate}
+use lib.ListN.{length, getD, set, replicate}
 use lib.Dec.{eqb, ltb}
-use Rattle.lists.specs.Lists.{All, Ordered, Pairwise, filter, elem, foldl}
+use Rattle.lists.specs.Lists.{All, Ordered, Pairwise, filter, elem, foldl, range}
 use Rattle.vectors.specs.Space.{query-distance, space}
 use Rattle.distances.specs.contracts.Sums.{First}
 use Rattle.candidates.specs.Candidates.{Candidate, before, scored, ids}
@@ -28,16 +28,23 @@ unfoldable pub near-but : List ℕ → Arrays → ℕ → List ℕ
 near-but ids a s = filter (λ t. not (elem t ids)) (near-of a s)
 
 -- ---- the words
+-- two bits of a word: those at place 0 are the lowest; and the word with v there
+unfoldable pub field : ℕ → ℕ → ℕ
+field place word = word / 2 ^ (2 * place) % 4
+
+unfoldable pub put-field : ℕ → ℕ → ℕ → ℕ
+put-field place v word = word - field place word * 2 ^ (2 * place) + v * 2 ^ (2 * place)
+
 -- the word that has the mark of slot s, and the mark
 abbrev pub mark-word : ℕ → ℕ
-mark-word s = marks-at + s
+mark-word s = marks-at + s / 16
 
 abbrev pub mark : List ℕ → ℕ → ℕ
-mark w s = getD w (mark-word s) 0
+mark w s = field (s % 16) (getD w (mark-word s) 0)
 
 -- the words with the mark v for slot s
 abbrev pub put-mark : List ℕ → ℕ → ℕ → List ℕ
-put-mark w s v = set w (mark-word s) v
+put-mark w s v = set w (mark-word s) (put-field (s % 16) v (getD w (mark-word s) 0))
 
 -- whether slot s is inside and not met
 abbrev pub unmet : ℕ → List ℕ → ℕ → Bool
@@ -45,7 +52,7 @@ unmet capacity w s = ltb s capacity && eqb (mark w s) 0
 
 -- the marks of all slots
 abbrev pub marks-of : ℕ → List ℕ → List ℕ
-marks-of capacity w = take capacity (drop marks-at w)
+marks-of capacity w = map (λ s. mark w s) (range 0 capacity)
 
 -- the state of the walk that the words hold: n candidates, and the marks
 abbrev pub state-of : ℕ → List ℕ → ℕ → State

@@ -1,4 +1,4 @@
--- The marks below `s` are 0.
+-- The first `i` words of marks are 0.
 use Prim.Native.Nat.{_-_}
 use native.Mathlib.Omega.{arith}
 use Rattle.walk.proofs.Marks.{Clearing, clearing-none, clearing-more, clearing-done}
@@ -6,10 +6,13 @@ use Rattle.walk.proofs.words.clear.Statement.{statement}
 use Rattle.walk.proofs.words.clear.Tie as tie
 
 abbrev Inv-loop : tie.InvT-loop
-Inv-loop scratch₀ capacity s₀ scratch s = Clearing capacity scratch₀ scratch s
+Inv-loop scratch₀ capacity words i₀ scratch i = Clearing capacity scratch₀ scratch i
 
 abbrev μ-loop : tie.MeasureT-loop
-μ-loop scratch₀ capacity s₀ scratch s = capacity - s
+μ-loop scratch₀ capacity words i₀ scratch i = words - i
+
+add-words : tie.Need-add-words Inv-loop μ-loop
+add-words c = omega arith
 
 loop-holds : tie.Need-loop-holds Inv-loop μ-loop
 loop-holds c = clearing-none _ _
@@ -23,8 +26,8 @@ mul-scratch c = omega (arith, c .before .before .good)
 slice-write-scratch : tie.Need-slice-write-scratch Inv-loop μ-loop
 slice-write-scratch c = omega (arith, c .before .loop .inv .size)
 
-add-s : tie.Need-add-s Inv-loop μ-loop
-add-s c = omega arith
+add-i : tie.Need-add-i Inv-loop μ-loop
+add-i c = omega arith
 
 loop-less : tie.Need-loop-less Inv-loop μ-loop
 loop-less c = omega arith
@@ -44,11 +47,12 @@ clear-spec =
     (tie.spec
     Inv-loop
     μ-loop
+    add-words
     loop-holds
     add-scratch
     mul-scratch
     slice-write-scratch
-    add-s
+    add-i
     loop-less
     loop-again
     same-length

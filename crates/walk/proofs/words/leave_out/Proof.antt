@@ -44,7 +44,7 @@ loop-again c =
     let l = c .before .before .before .before .loop .inv .1 in
     let h = c .before .before .before .loop-test .taken in
     ⊎-elim
-    (λ w. (omega arith, rw (w .5, w .2 .ensures) (leaving-slot l h (c .before .wide .ensures) (w .0 .taken))))
+    (λ w. (omega arith, rw (w .5, w .2 .ensures) (leaving-slot l h (c .before .wide .ensures) ((start₂ c) .pre) (w .0 .taken))))
     (λ w. (omega arith, rw (w .1) (leaving-other l h (c .before .wide .ensures) ((start₂ c) .pre) (w .0 .left))))
     (c .if1 .came)
 
