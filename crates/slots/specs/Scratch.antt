@@ -5,7 +5,7 @@ use Prim.Native.Nat.{ℕ, _+_}
 abbrev pub list-words : ℕ
 list-words = 2048
 
--- `marks`: one word for each slot
+-- `marks`: room for one word for each slot; a walk keeps its marks in the first sixteenth
 abbrev pub marks-at : ℕ
 marks-at = list-words
 
