@@ -1,11 +1,11 @@
 // The distance of two vectors, of two slots, and of a query and a slot.
 use vectors::vector;
 ghost use mathlib.Core.Path.{_≡_};
-ghost use Prim.Native.Nat.{_+_, _*_, _-_, min, _<_, _≤_};
+ghost use Prim.Native.Nat.{_+_, _*_, _<_, _≤_};
 ghost use lib.ListN.{length};
 ghost use Rattle.vectors.specs.Distance.{squared-difference, distance};
 ghost use Rattle.vectors.specs.Space.{slot-distance, query-distance, space, Measured};
-ghost use Rattle.distances.specs.contracts.Sums.{Summed, Bounded, First, Reached};
+ghost use Rattle.distances.specs.contracts.Sums.{Summed};
 ghost use Rattle.distances.specs.contracts.Kept.{Kept};
 
 // The squared difference of two bytes.
@@ -62,21 +62,15 @@ fn sixty_four(a: &[u8], b: &[u8], i: usize) -> u32
         + four(a, b, i + 60)
 }
 
-// A bound above every distance.
-pub const FAR: u32 = 16777216;
-
-// The sum of the squared differences from place `from` up to `to`, or of the first of them that come to `bound`.
-fn sum(a: &[u8], b: &[u8], from: usize, to: usize, bound: u32) -> u32
-    requires { ⌜ (from ≤ to) × (to ≤ length (now a)) × (to ≤ length (now b)) × (to ≤ 256) ⌝ }
-    ensures { λ r. ⌜ Bounded (now (a .entry)) (now (b .entry)) from (to - from) bound r ⌝ }
+// The sum of the squared differences of two vectors of one length.
+pub fn distance(a: &[u8], b: &[u8]) -> u32
+    requires { ⌜ (length (now a) ≡ length (now b)) × (length (now a) ≤ 256) ⌝ }
+    ensures { λ r. ⌜ Measured (distance (now (a .entry)) (now (b .entry))) r ⌝ }
 {
     let mut sum: u32 = 0;
-    let mut i = from;
-    while i < to {
-        if bound <= sum {
-            return sum;
-        }
-        let left = to - i;
+    let mut i: usize = 0;
+    while i < a.len() {
+        let left = a.len() - i;
         if 64 <= left {
             sum += sixty_four(a, b, i);
             i += 64;
@@ -92,14 +86,6 @@ fn sum(a: &[u8], b: &[u8], from: usize, to: usize, bound: u32) -> u32
         }
     }
     sum
-}
-
-// The sum of the squared differences of two vectors of one length.
-pub fn distance(a: &[u8], b: &[u8]) -> u32
-    requires { ⌜ (length (now a) ≡ length (now b)) × (length (now a) ≤ 256) ⌝ }
-    ensures { λ r. ⌜ Measured (distance (now (a .entry)) (now (b .entry))) r ⌝ }
-{
-    sum(a, b, 0, a.len(), FAR)
 }
 
 // The distance of the vectors of two slots.
@@ -148,43 +134,24 @@ pub fn query_distance(dim: usize, vectors: &[u8], query: &[u8], s: usize) -> u32
     distance(query, vector(dim, vectors, s))
 }
 
-// How many values of a vector are measured first: those of one line of memory, or all of fewer.
-fn first_part(dim: usize) -> usize
-    ensures { λ r. ⌜ r ≡ min 64 dim ⌝ }
+// A byte as a number.
+fn number(x: u8) -> u32
+    ensures { λ r. ⌜ r ≤ 255 ⌝ }
 {
-    if dim < 64 { dim } else { 64 }
+    x as u32
 }
 
-// The distance of a query and the vector of a slot, as far as their first values go. What is read begins the vector's way from memory.
-pub fn first_distance(dim: usize, vectors: &[u8], query: &[u8], s: usize) -> u32
-    requires { ⌜ (s * dim + dim ≤ length (now vectors)) × (length (now query) ≡ dim) × (dim ≤ 256) ⌝ }
-    ensures { λ r. ⌜ First dim (now (vectors .entry)) (now (query .entry)) s r ⌝ }
+// Reads a byte of every 64 of slot `s`'s vector, so that it is on its way from memory when it is measured. Returns their sum, which tells nothing.
+pub fn touch(dim: usize, vectors: &[u8], s: usize) -> u32
+    requires { ⌜ (s * dim + dim ≤ length (now vectors)) × (dim ≤ 256) ⌝ }
+    ensures { λ r. ⌜ r ≤ 1280 ⌝ }
 {
-    sum(query, vector(dim, vectors, s), 0, first_part(dim), FAR)
-}
-
-// The distance of a query and the vector of a slot, by that of their first values; where it is not below `bound`, a part of it that is not below either.
-pub fn distance_below(
-    dim: usize,
-    vectors: &[u8],
-    query: &[u8],
-    s: usize,
-    first: u32,
-    bound: u32,
-) -> u32
-    requires { ⌜ (s * dim + dim ≤ length (now vectors)) × (length (now query) ≡ dim) × (dim ≤ 256) ⌝ }
-    requires { ⌜ First dim (now vectors) (now query) s first ⌝ }
-    ensures { λ r. ⌜ Reached (query-distance (space dim (now (vectors .entry))) (now (query .entry)) s) bound r ⌝ }
-{
-    if bound <= first {
-        return first;
+    let from = s * dim;
+    let mut sum: u32 = 0;
+    let mut at: usize = 0;
+    while at < dim {
+        sum += number(vectors[from + at]);
+        at += 64;
     }
-    first
-        + sum(
-            query,
-            vector(dim, vectors, s),
-            first_part(dim),
-            dim,
-            bound - first,
-        )
+    sum
 }

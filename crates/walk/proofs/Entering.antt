@@ -1,22 +1,21 @@
 -- The list in the words: a candidate enters it, the first that is not expanded is looked for, and the walk's end is tested. Assumes nothing.
 use Prim.Native.Nat.{ℕ, _+_, _-_, _*_, min, _≤_, _<_}
-use mathlib.Core.Bool.{Bool, true, false}
+use mathlib.Core.Bool.{true, false}
 use mathlib.Core.Path.{_≡_, refl, ap, sym, _∙_}
 use mathlib.Core.List.{List}
 use native.Mathlib.Omega.{arith}
-use borrow.Author.Tests.{lt-ltb, le-ltb, le-leb, lt-leb, ltb-true, ltb-false}
-use lib.Dec.{ltb, leb}
-use lib.ListN.{length, take}
+use borrow.Author.Tests.{lt-ltb, le-ltb, le-leb, lt-leb}
+use lib.Dec.{leb}
+use lib.ListN.{take}
 use Rattle.lists.specs.Lists.{All, Ordered}
 use Rattle.lists.proofs.All.{all-append, all-init}
 use Rattle.lists.proofs.Ordered.{pairwise-init}
 use Rattle.candidates.specs.Candidates.{Candidate, before}
 use Rattle.candidates.specs.contracts.Words.{pair, cand, cands, Inserted, Small}
 use Rattle.candidates.proofs.Words.{cands-length, cands-take, cands-snoc, cands-init, cands-last, outside-none, outside-wide}
-use Rattle.distances.specs.contracts.Sums.{Reached}
 use Rattle.walk.specs.Walk.{worst, enter, ends}
 use Rattle.slots.specs.Scratch.{marks-at}
-use Rattle.walk.specs.contracts.Scratch.{mark, entry-bound, Listed, Entered, Unexpanded, Next}
+use Rattle.walk.specs.contracts.Scratch.{mark, Listed, Entered, Unexpanded, Next}
 
 pub worst-at : (w : List ℕ) (n : ℕ) → 0 < n → worst (cands w 0 n) ≡ cand w (0 + 2 * (n - 1)) .dist
 worst-at w n h = ap (λ (c : Candidate). c .dist) (cands-last w 0 n h (pair 0 0))
@@ -67,28 +66,6 @@ module _ {beam : ℕ} {w : List ℕ} {n next d t : ℕ} where
           size = refl;
           same = outside-none 0 marks-at w;
         }
-
--- ---- the bound below which it enters
-pub bound-room : {beam : ℕ} (w : List ℕ) {n : ℕ} → n < beam → 16777216 ≡ entry-bound beam (cands w 0 n)
-bound-room {beam} w {n} h = rw (cands-length w 0 n, lt-ltb n beam h)
-
-pub bound-full : {beam : ℕ} (w : List ℕ) {n r : ℕ} → beam ≤ n → 0 < n → r ≡ cand w (0 + 2 * (n - 1)) .dist → r ≡ entry-bound beam (cands w 0 n)
-bound-full {beam} w {n} h k e = rw (cands-length w 0 n, le-ltb n beam h, worst-at w n k) e
-
--- a distance that is only known to reach the bound serves as the distance
-pub enter-reached : (beam : ℕ) (list : List Candidate) (t : ℕ) {d r : ℕ} → Reached d (entry-bound beam list) r → enter beam list (pair r t) ≡ enter beam list (pair d t)
-unfolding enter
-enter-reached beam list t {d} {r} f = go (ltb (length list) beam) refl (ltb r (entry-bound beam list)) refl
-  where
-    out : (room : Bool) → ltb (length list) beam ≡ room → entry-bound beam list ≤ r → entry-bound beam list ≤ d → enter beam list (pair r t) ≡ enter beam list (pair d t)
-    out true e h _ = let k : 16777216 ≤ r = rw e at h in absurd (omega (arith, f .small))
-    out false e h k = rw (e, le-ltb r (worst list) (rw e at h), le-ltb d (worst list) (rw e at k))
-
-    go : (room : Bool) → ltb (length list) beam ≡ room → (below : Bool) → ltb r (entry-bound beam list) ≡ below → enter beam list (pair r t) ≡ enter beam list (pair d t)
-    go room e true k = rw (f .below (ltb-true _ _ k))
-    go room e false k =
-        let h : entry-bound beam list ≤ r = ltb-false _ _ k in
-        out room e h (f .above h)
 
 -- the list without its last
 pub less-small : {beam : ℕ} {w : List ℕ} {n : ℕ} → 0 < n → Listed beam w n → Small (cands w 0 (n - 1))

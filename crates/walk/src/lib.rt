@@ -1,11 +1,9 @@
 // The walk over the graph, in lent words: `graph_search`, the same with some slots left out, and `search_pool`.
 mod words;
 
-use candidates::dist_at;
 use candidates::id_at;
-use distances::distance_below;
-use distances::first_distance;
 use distances::query_distance;
+use distances::touch;
 use slots::marks::is_valid;
 use slots::marks::wide;
 use slots::rows::Ref;
@@ -18,9 +16,8 @@ ghost use mathlib.Core.Bool.{false};
 ghost use mathlib.Core.Path.{_≡_};
 ghost use mathlib.Core.List.{List};
 ghost use Prim.Native.Nat.{ℕ, _+_, _*_, max, _<_, _≤_};
-ghost use lib.ListN.{length};
+ghost use lib.ListN.{length, take};
 ghost use Rattle.lists.specs.Lists.{elem};
-ghost use Rattle.candidates.specs.contracts.Words.{cands};
 ghost use Rattle.slots.specs.Scratch.{work-at};
 ghost use Rattle.slots.specs.Store.{arrays};
 ghost use Rattle.slots.specs.contracts.Rows.{RowShape};
@@ -28,6 +25,9 @@ ghost use Rattle.walk.specs.contracts.Scratch.{near-of, near-but, mark-w
 
 // How many places of a row are gathered at once, at most.
 const FRESH: usize = 64;
+
+// More than the touched bytes of a part of a row sum up to.
+const TOUCHED: u32 = 1048576;
 
 // The reference at a place of slot `s`'s row, where it is live and leads to a slot that is not met. What is met needs no further test.
 fn unmet_at(
@@ -51,27 +51,27 @@ fn unmet_at(
     Ref::Dead
 }
 
-// Marks slot `id` as met and writes it behind the `n` candidates of `fresh`, at the distance of its first values.
+// Marks slot `id` as met and writes it behind the `n` slots of `fresh`. Touches its vector.
 fn add(
     dim: usize,
     vectors: &[u8],
-    query: &[u8],
     id: u32,
     n: usize,
     scratch: &mut [u32],
     fresh: &mut [u32],
-)
-    requires { ⌜ (id * dim + dim ≤ length (now vectors)) × (length (now query) ≡ dim) × (dim ≤ 256) ⌝ }
-    requires { ⌜ (mark-word id < length (now scratch)) × (2 * n + 1 < length (now fresh)) ⌝ }
-    ensures { λ _. ⌜ Added dim (now (vectors .entry)) (now (query .entry)) id n (now (scratch .entry)) (now (fresh .entry)) (now (scratch .exit)) (now (fresh .exit)) ⌝ }
+) -> u32
+    requires { ⌜ (id * dim + dim ≤ length (now vectors)) × (dim ≤ 256) ⌝ }
+    requires { ⌜ (mark-word id < length (now scratch)) × (n < length (now fresh)) ⌝ }
+    ensures { λ r. ⌜ Added id n (now (scratch .entry)) (now (fresh .entry)) (now (scratch .exit)) (now (fresh .exit)) × (r ≤ 1280) ⌝ }
 {
     let s = wide(id);
     words::set_mark(scratch, s, MET);
-    let first = first_distance(dim, vectors, query, s);
-    candidates::put(fresh, 2 * n, first, id);
+    fresh[n] = id;
+    touch(dim, vectors, s)
 }
 
-// Gathers the slots of slot `s`'s row that are live and not met, from place `from` up to `to`. Returns how many they are.
+// Gathers the slots of slot `s`'s row that are live and not met, from place `from` up to `to`. Returns how many they are; the touched bytes count for nothing,
+// but the compiler, which does not know that, reads them.
 fn gather(
     dim: usize,
     degree: usize,
@@ -80,35 +80,35 @@ fn gather(
     edges: &[u16],
     versions: &[u16],
     marks: &[u8],
-    query: &[u8],
     s: usize,
     from: usize,
     to: usize,
     scratch: &mut [u32],
     fresh: &mut [u32],
 ) -> usize
-    requires { ⌜ Lent (arrays dim degree (now vectors) (now targets) (now edges) (now versions) (now marks)) (now query) ⌝ }
-    requires { ⌜ (work-at (length (now marks)) ≤ length (now scratch)) × (length (now fresh) ≡ 128) ⌝ }
+    requires { ⌜ RowShape degree (now targets) (now edges) (now versions) (now marks) × (length (now vectors) ≡ length (now marks) * dim) × (dim ≤ 256) ⌝ }
+    requires { ⌜ (work-at (length (now marks)) ≤ length (now scratch)) × (length (now fresh) ≡ 64) ⌝ }
     requires { ⌜ (s < length (now marks)) × (from ≤ to) × (to ≤ degree) × (to ≤ from + 64) ⌝ }
-    ensures { λ r. ⌜ Gathers (arrays dim degree (now (vectors .entry)) (now (targets .entry)) (now (edges .entry)) (now (versions .entry)) (now (marks .entry))) (now (query .entry)) s from to (now (scratch .entry)) (now (scratch .exit)) (now (fresh .exit)) r ⌝ }
+    ensures { λ r. ⌜ Gathers (arrays dim degree (now (vectors .entry)) (now (targets .entry)) (now (edges .entry)) (now (versions .entry)) (now (marks .entry))) s from to (now (scratch .entry)) (now (scratch .exit)) (now (fresh .exit)) r ⌝ }
 {
     let mut n: usize = 0;
+    let mut touched: u32 = 0;
     let mut place = from;
     while place < to {
         let r = unmet_at(degree, targets, edges, versions, marks, s, place, scratch);
         match r {
             Ref::At(t) => {
-                add(dim, vectors, query, t, n, scratch, fresh);
+                touched += add(dim, vectors, t, n, scratch, fresh);
                 n += 1;
             }
             Ref::Dead => {}
         }
         place += 1;
     }
-    n
+    n + (touched / TOUCHED) as usize
 }
 
-// The `n` candidates of `fresh` enter the list, each at its whole distance, of which no more is worked out than shows that it stays out.
+// The `n` slots of `fresh` enter the list, each at its distance.
 fn enter_all(
     dim: usize,
     vectors: &[u8],
@@ -121,15 +121,14 @@ fn enter_all(
     scratch: &mut [u32],
 ) -> Held
     requires { ⌜ Vectors dim capacity (now vectors) (now query) × Walkable capacity beam (now scratch) (held .count) (held .next) ⌝ }
-    requires { ⌜ (2 * n ≤ length (now fresh)) × Fresh dim capacity (now vectors) (now query) (now scratch) (held .count) (cands (now fresh) 0 n) ⌝ }
-    ensures { λ r. ⌜ Stepped capacity beam (now (scratch .entry)) (with-fresh dim (now (vectors .entry)) (now (query .entry)) capacity beam (now (scratch .entry)) (held .count) (cands (now (fresh .entry)) 0 n)) (now (scratch .exit)) (r .count) (r .next) ⌝ }
+    requires { ⌜ (n ≤ length (now fresh)) × Fresh capacity (now scratch) (held .count) (take n (now fresh)) ⌝ }
+    ensures { λ r. ⌜ Stepped capacity beam (now (scratch .entry)) (with-fresh dim (now (vectors .entry)) (now (query .entry)) capacity beam (now (scratch .entry)) (held .count) (take n (now (fresh .entry)))) (now (scratch .exit)) (r .count) (r .next) ⌝ }
 {
     let mut now = held;
     let mut k: usize = 0;
     while k < n {
-        let id = id_at(fresh, 0, k);
-        let bound = words::bound(scratch, beam, now);
-        let dist = distance_below(dim, vectors, query, wide(id), dist_at(fresh, 0, k), bound);
+        let id = fresh[k];
+        let dist = query_distance(dim, vectors, query, wide(id));
         now = words::enter(scratch, beam, now, dist, id);
         k += 1;
     }
@@ -164,7 +163,7 @@ fn expand(
     fresh: &mut [u32],
 ) -> Held
     requires { ⌜ Lent (arrays dim degree (now vectors) (now targets) (now edges) (now versions) (now marks)) (now query) ⌝ }
-    requires { ⌜ Walkable (length (now marks)) beam (now scratch) (held .count) (held .next) × (held .next < held .count) × (length (now fresh) ≡ 128) ⌝ }
+    requires { ⌜ Walkable (length (now marks)) beam (now scratch) (held .count) (held .next) × (held .next < held .count) × (length (now fresh) ≡ 64) ⌝ }
     ensures { λ r. ⌜ Stepped (length (now (marks .entry))) beam (now (scratch .entry)) (expands (arrays dim degree (now (vectors .entry)) (now (targets .entry)) (now (edges .entry)) (now (versions .entry)) (now (marks .entry))) (now (query .entry)) beam (now (scratch .entry)) (held .count) (held .next)) (now (scratch .exit)) (r .count) (r .next) ⌝ }
 {
     let i = held.next;
@@ -182,7 +181,6 @@ fn expand(
             edges,
             versions,
             marks,
-            query,
             s,
             place,
             to,
@@ -220,7 +218,7 @@ fn take_turns(
     fresh: &mut [u32],
 ) -> usize
     requires { ⌜ Lent (arrays dim degree (now vectors) (now targets) (now edges) (now versions) (now marks)) (now query) ⌝ }
-    requires { ⌜ Walkable (length (now marks)) beam (now scratch) 1 0 × (length (now fresh) ≡ 128) ⌝ }
+    requires { ⌜ Walkable (length (now marks)) beam (now scratch) 1 0 × (length (now fresh) ≡ 64) ⌝ }
     ensures { λ r. ⌜ Stepped (length (now (marks .entry))) beam (now (scratch .entry)) (takes-turns (arrays dim degree (now (vectors .entry)) (now (targets .entry)) (now (edges .entry)) (now (versions .entry)) (now (marks .entry))) (now (query .entry)) beam (now (scratch .entry)) 1) (now (scratch .exit)) r 0 ⌝ }
 {
     let mut held = Held { count: 1, next: 0 };
@@ -277,7 +275,7 @@ pub fn residual_search(
     let width = at_least_one(beam);
     let dist = query_distance(dim, vectors, query, wide(start));
     words::begin(scratch, marks.len(), ids, dist, start);
-    let mut fresh = [0u32; 128];
+    let mut fresh = [0u32; 64];
     take_turns(
         dim,
         degree,

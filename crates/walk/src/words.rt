@@ -4,7 +4,6 @@ use candidates::dist_at;
 use candidates::id_at;
 use candidates::insert_ordered;
 use candidates::put;
-use distances::FAR;
 use slots::marks::wide;
 use slots::scratch::MARKS;
 ghost use mathlib.Core.Path.{_≡_};
@@ -14,7 +13,7 @@ ghost use Rattle.candidates.specs.contracts.Words.{pair, cand, cands};
 ghost use Rattle.walk.specs.Walk as Walk;
 ghost use Rattle.slots.specs.Scratch.{work-at};
 ghost use Rattle.walk.specs.contracts.Scratch as Scratch;
-ghost use Rattle.walk.specs.contracts.Scratch.{mark-word, put-mark, unmet, entry-bound, Listed, Scannable, Entered, Unexpanded, Next, Cleared, LeftOut, Begun};
+ghost use Rattle.walk.specs.contracts.Scratch.{mark-word, put-mark, unmet, Listed, Scannable, Entered, Unexpanded, Next, Cleared, LeftOut, Begun};
 
 pub const MET: u32 = 1;
 
@@ -166,18 +165,6 @@ pub fn next(scratch: &[u32], beam: usize, held: Held) -> usize
         return n;
     }
     i
-}
-
-// The bound below which a candidate enters the list: the distance of the worst, or one above all where there is room.
-pub fn bound(scratch: &[u32], beam: usize, held: Held) -> u32
-    requires { ⌜ Listed beam (now scratch) (held .count) ⌝ }
-    ensures { λ r. ⌜ r ≡ entry-bound beam (cands (now (scratch .entry)) 0 (held .count)) ⌝ }
-{
-    let n = held.count;
-    if beam <= n {
-        return dist_at(scratch, 0, n - 1);
-    }
-    FAR
 }
 
 // A candidate enters the list where there is room, or where it is nearer than the worst, which leaves.

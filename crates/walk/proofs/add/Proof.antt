@@ -1,4 +1,5 @@
 use native.Mathlib.Omega.{arith}
+use mathlib.Core.Path.{refl}
 use borrow.Author.Needs.{needs}
 use Rattle.walk.proofs.Gathering.{added-by}
 use Rattle.walk.proofs.add.Statement.{statement}
@@ -8,16 +9,16 @@ wide-requires : tie.Need-wide-requires
 wide-requires c κs = search needs
 
 set-mark-requires : tie.Need-set-mark-requires
-set-mark-requires c κs = omega (arith, c .before .wide .ensures, c .before .before .before .before .before .before .pre .1 .0)
+set-mark-requires c κs = search needs
 
-first-distance-requires : tie.Need-first-distance-requires
-first-distance-requires c κs = rw (c .before .before .before .before .wide .ensures) (c .before .before .before .before .before .before .before .before .before .pre .0)
+mul-fresh : tie.Need-mul-fresh
+mul-fresh c = search needs
 
-mul-put : tie.Need-mul-put
-mul-put c = search needs
+slice-write-fresh : tie.Need-slice-write-fresh
+slice-write-fresh c = search needs
 
-put-requires : tie.Need-put-requires
-put-requires c κs = search needs
+touch-requires : tie.Need-touch-requires
+touch-requires c κs = rw (c .before .before .before .before .wide .ensures) (c .before .before .before .before .before .before .before .before .pre .0)
 
 same-length : tie.Need-same-length
 same-length c = search needs
@@ -26,17 +27,7 @@ same-length-2 : tie.Need-same-length-2
 same-length-2 c = search needs
 
 returns : tie.Need-returns
-returns c = added-by (c .before .before .before .before .before .before .before .before .before .wide .ensures) (c .before .before .before .before .first-distance .ensures) (c .before .before .before .before .before .before .before .set-mark .ensures) (c .before .before .put .ensures)
+returns c = (added-by (c .before .before .before .before .before .wide .ensures) (c .before .before .before .set-mark .ensures) refl, c .touch .ensures)
 
 pub add-spec : {M : Type 1} → statement M
-add-spec =
-    tie.close
-    (tie.spec
-    wide-requires
-    set-mark-requires
-    first-distance-requires
-    mul-put
-    put-requires
-    same-length
-    same-length-2
-    returns)
+add-spec = tie.close (tie.spec wide-requires set-mark-requires mul-fresh slice-write-fresh touch-requires same-length same-length-2 returns)

@@ -19,7 +19,7 @@ use Rattle.walk.proofs.expand.Tie as tie
 abbrev Inv-loop : tie.InvT-loop
 Inv-loop dim degree vectors targets edges versions marks query beam scratch₀ fresh₀ i s now₀ place₀ scratch fresh now place =
     (place ≤ degree)
-    × (length fresh ≡ 128)
+    × (length fresh ≡ 64)
     × Meeting (length marks) beam (query-distance (space dim vectors) query) (near-of (arrays dim degree vectors targets edges versions marks)) scratch₀
     (foldl (meet beam (query-distance (space dim vectors) query) (near-of (arrays dim degree vectors targets edges versions marks))) (state-of (length marks) scratch₀ (now₀ .count)) (near-of (arrays dim degree vectors targets edges versions marks) s))
     (live-from (arrays dim degree vectors targets edges versions marks) s place) scratch (now .count) (now .next)
@@ -69,14 +69,15 @@ gather-requires c κs =
     let p = (start l) .pre in
     let v = l .loop .inv in
     let e = c .before .before .part-end .ensures in
-    (p .0, ((v .2 .goes .room, v .1), (expands-inside (p .1 .0) (p .1 .1) ((wide l) .before .id-at .ensures) ((wide l) .wide .ensures), omega (arith, e .0), e .1, e .2)))
+    let w = p .0 .vectors in
+    ((p .0 .rows, w .vectors-long, w .dim-most), ((v .2 .goes .room, v .1), (expands-inside (p .1 .0) (p .1 .1) ((wide l) .before .id-at .ensures) ((wide l) .wide .ensures), omega (arith, e .0), e .1, e .2)))
 
 enter-all-requires : tie.Need-enter-all-requires Inv-loop μ-loop
 enter-all-requires c κs =
     let l = loop₂ c in
     let v = l .loop .inv in
     let g = c .before .before .before .before .before .before .gather .ensures in
-    let h = g .each _ _ _ (v .2 .goes) in
+    let h = g .each ((start l) .args .query .now) _ _ _ (v .2 .goes) in
     (((start l) .pre .0 .vectors, h .goes), (omega (arith, v .1, g .few, c .before .before .before .before .before .before .before .before .before .part-end .ensures .2, c .before .before .before .fresh .given), h .fresh))
 
 loop-less : tie.Need-loop-less Inv-loop μ-loop
@@ -86,8 +87,8 @@ loop-again : tie.Need-loop-again Inv-loop μ-loop
 loop-again c =
     let v = (loop₃ c) .loop .inv in
     let g = c .before .before .before .before .before .before .before .before .before .gather .ensures in
-    let h = g .each _ _ _ (v .2 .goes) in
-    (c .before .before .before .before .before .before .before .before .before .before .before .before .part-end .ensures .1, c .before .before .before .before .before .before .before .before .before .gather .kept .1 .1 .1 .1 .1 .1 .1 .1 .1 .1 .1 .1 .0 ∙ v .1, meeting-part (v .2) (h .holds) (h .same) (g .size) (c .before .before .enter-all .ensures))
+    let h = g .each ((start (loop₃ c)) .args .query .now) _ _ _ (v .2 .goes) in
+    (c .before .before .before .before .before .before .before .before .before .before .before .before .part-end .ensures .1, c .before .before .before .before .before .before .before .before .before .gather .kept .1 .1 .1 .1 .1 .1 .1 .1 .1 .1 .1 .0 ∙ v .1, meeting-part (v .2) (h .holds) (h .same) (g .size) (c .before .before .enter-all .ensures))
 
 same-length : tie.Need-same-length Inv-loop μ-loop
 same-length c = let l = loop₄ c in l .loop .inv .2 .size ∙ l .before .before .before .set-mark .kept .0

@@ -12,7 +12,7 @@ use Rattle.walk.proofs.take_turns.Tie as tie
 
 abbrev Inv-loop : tie.InvT-loop
 Inv-loop dim degree vectors targets edges versions marks query beam scratch₀ fresh₀ held₀ counter₀ end scratch fresh held counter =
-    (length fresh ≡ 128)
+    (length fresh ≡ 64)
     × Walking (length marks) beam (query-distance (space dim vectors) query) (near-of (arrays dim degree vectors targets edges versions marks)) scratch₀
     (takes-turns (arrays dim degree vectors targets edges versions marks) query beam scratch₀ 1) (length marks - counter) scratch (held .count) (held .next)
 

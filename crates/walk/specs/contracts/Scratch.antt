@@ -1,21 +1,20 @@
 -- The walk in lent words: what its functions ask of the words, and what they leave in them. The regions are those of `slots` (Scratch): the list, and
 -- the marks, of which a word has 16. Assumes nothing.
 use Prim.Native.Nat.{ℕ, _+_, _-_, _*_, _/_, _%_, _^_, max, _≤_, _<_}
-use mathlib.Core.Bool.{Bool, true, false, not, _&&_, cond}
+use mathlib.Core.Bool.{Bool, true, false, not, _&&_}
 use mathlib.Core.List.{List, [], _∷_, map}
 use mathlib.Core.Path.{_≡_}
-use lib.ListN.{length, getD, set, replicate}
+use lib.ListN.{length, take, getD, set, replicate}
 use lib.Dec.{eqb, ltb}
 use Rattle.lists.specs.Lists.{All, Ordered, Pairwise, filter, elem, foldl, range}
 use Rattle.vectors.specs.Space.{query-distance, space}
-use Rattle.distances.specs.contracts.Sums.{First}
-use Rattle.candidates.specs.Candidates.{Candidate, before, scored, ids}
-use Rattle.candidates.specs.contracts.Words.{pair, cand, cands, put, Small, Outside}
+use Rattle.candidates.specs.Candidates.{Candidate, before, scored}
+use Rattle.candidates.specs.contracts.Words.{pair, cand, cands, Small, Outside}
 use Rattle.slots.specs.Store.{Arrays, Store, is-valid, refs-of, store-view}
 use Rattle.slots.specs.contracts.Rows.{RowShape, ref-at, live-from}
 use Rattle.slots.specs.declared.rows.Ref.{Ref}
 use Rattle.slots.specs.declared.rows.Ref.the-variants.{At, Dead}
-use Rattle.walk.specs.Walk.{State, worst, enter, ends, graph-search, search-pool}
+use Rattle.walk.specs.Walk.{State, enter, ends, graph-search, search-pool}
 use Rattle.slots.specs.Scratch.{list-words, marks-at, work-at}
 use Rattle.walk.specs.Walk as Walk
 
@@ -62,10 +61,10 @@ state-of capacity w n = record { list = cands w 0 n; marks = marks-of capacity w
 abbrev pub mark-all : List ℕ → List ℕ → List ℕ
 mark-all marks ids = foldl (λ m s. set m s 1) marks ids
 
--- the state when the candidates xs have entered too, each at its own distance
-abbrev pub with-fresh : ℕ → List ℕ → List ℕ → ℕ → ℕ → List ℕ → ℕ → List Candidate → State
+-- the state when the slots xs have entered too, each at its distance
+abbrev pub with-fresh : ℕ → List ℕ → List ℕ → ℕ → ℕ → List ℕ → ℕ → List ℕ → State
 with-fresh dim vectors query capacity beam w n xs =
-    record { list = foldl (enter beam) (cands w 0 n) (scored (query-distance (space dim vectors) query) (ids xs)); marks = marks-of capacity w }
+    record { list = foldl (enter beam) (cands w 0 n) (scored (query-distance (space dim vectors) query) xs); marks = marks-of capacity w }
 
 -- what the definition makes of the state in the words: slots are met, the candidate at place i is expanded, and all turns are taken
 abbrev pub meets : Arrays → List ℕ → ℕ → State → List ℕ → State
@@ -80,10 +79,6 @@ takes-turns a query beam w n = Walk.turns beam (query-distance (space (a .dim) (
 -- the first state: the start is in the list, and it and the slots to be left out are met
 abbrev pub first-state : ℕ → List ℕ → ℕ → ℕ → State
 first-state capacity ids d start = record { list = pair d start ∷ []; marks = set (mark-all (replicate capacity 0) ids) start 1 }
-
--- the bound below which a candidate enters the list; where there is room it is above every distance
-abbrev pub entry-bound : ℕ → List Candidate → ℕ
-entry-bound beam list = cond (ltb (length list) beam) 16777216 (worst list)
 
 -- n candidates in order, which one can enter
 pub record Listed (beam : ℕ) (w : List ℕ) (n : ℕ) : Type 0 where
@@ -111,13 +106,12 @@ pub record Scannable (w : List ℕ) (n next : ℕ) : Type 0 where
   pub passed : next ≤ n
   pub done : All (λ c. mark w (c .id) ≡ 2) (cands w 0 next)
 
--- fresh candidates xs, at the distances of their first values: their slots are inside and met, in the list of n is none of them, and each is there once
-pub record Fresh (dim capacity : ℕ) (vectors query w : List ℕ) (n : ℕ) (xs : List Candidate) : Type 0 where
-  pub inside : All (λ x. x .id < capacity) xs
-  pub met : All (λ x. mark w (x .id) ≡ 0 → ⊥) xs
-  pub apart : All (λ x. All (λ c. c .id ≡ x .id → ⊥) (cands w 0 n)) xs
-  pub once : Pairwise (λ x y. x .id ≡ y .id → ⊥) xs
-  pub first : All (λ x. First dim vectors query (x .id) (x .dist)) xs
+-- fresh slots xs: inside and met, in the list of n is none of them, and each is there once
+pub record Fresh (capacity : ℕ) (w : List ℕ) (n : ℕ) (xs : List ℕ) : Type 0 where
+  pub inside : All (λ s. s < capacity) xs
+  pub met : All (λ s. mark w s ≡ 0 → ⊥) xs
+  pub apart : All (λ s. All (λ c. c .id ≡ s → ⊥) (cands w 0 n)) xs
+  pub once : Pairwise (λ s t. s ≡ t → ⊥) xs
 
 -- ---- what the functions leave
 -- the reference at a place of slot s's row, where it is live and leads to a slot that is not met
@@ -125,26 +119,24 @@ pub record UnmetAt (a : Arrays) (s place : ℕ) (w : List ℕ) (r : Ref) : Type 
   pub found : (t : ℕ) → r ≡ At t → (At t ≡ ref-at a s place) × (mark w t ≡ 0)
   pub none : r ≡ Dead → (t : ℕ) → At t ≡ ref-at a s place → mark w t ≡ 0 → ⊥
 
--- slot id is met, and behind n candidates of f at the distance of its first values
-pub record Added (dim : ℕ) (vectors query : List ℕ) (id n : ℕ) (w f w′ f′ : List ℕ) : Type 0 where
-  pub dist : ℕ
-  pub first : First dim vectors query id dist
+-- slot id is met, and stands behind n slots of f
+pub record Added (id n : ℕ) (w f w′ f′ : List ℕ) : Type 0 where
   pub marks : w′ ≡ put-mark w id 1
-  pub list : f′ ≡ put f (2 * n) dist id
+  pub list : f′ ≡ set f n id
 
--- of the slots ts those that were not met are the candidates xs, and are met; the slots us are still to be met
-pub record Gathered (a : Arrays) (query : List ℕ) (beam : ℕ) (w : List ℕ) (n next : ℕ) (ts us w′ : List ℕ) (xs : List Candidate) : Type 0 where
+-- of the slots ts those that were not met are the slots xs, and are met; the slots us are still to be met
+pub record Gathered (a : Arrays) (query : List ℕ) (beam : ℕ) (w : List ℕ) (n next : ℕ) (ts us w′ xs : List ℕ) : Type 0 where
   pub holds : meets a query beam (with-fresh (a .dim) (a .vectors) query (length (a .marks)) beam w′ n xs) us ≡ meets a query beam (state-of (length (a .marks)) w n) ts
   pub goes : Walkable (length (a .marks)) beam w′ n next
-  pub fresh : Fresh (a .dim) (length (a .marks)) (a .vectors) query w′ n xs
+  pub fresh : Fresh (length (a .marks)) w′ n xs
   pub same : Outside 0 (work-at (length (a .marks))) w w′
 
--- so it is with the live targets of slot s's row, whatever the list: k of them are in f
-pub record Gathers (a : Arrays) (query : List ℕ) (s from to : ℕ) (w w′ f : List ℕ) (k : ℕ) : Type 0 where
+-- so it is with the live targets of slot s's row, whatever the query and the list: k of them are in f
+pub record Gathers (a : Arrays) (s from to : ℕ) (w w′ f : List ℕ) (k : ℕ) : Type 0 where
   pub few : from + k ≤ to
   pub size : length w′ ≡ length w
-  pub each : (beam n next : ℕ) → Walkable (length (a .marks)) beam w n next
-      → Gathered a query beam w n next (live-from a s from) (live-from a s to) w′ (cands f 0 k)
+  pub each : (query : List ℕ) (beam n next : ℕ) → Walkable (length (a .marks)) beam w n next
+      → Gathered a query beam w n next (live-from a s from) (live-from a s to) w′ (take k f)
 
 -- x enters the n candidates of w: n′ are there then; those of the first `next` that are still the first are the first next′
 pub record Entered (beam : ℕ) (w : List ℕ) (n next : ℕ) (x : Candidate) (w′ : List ℕ) (n′ next′ : ℕ) : Type 0 where
