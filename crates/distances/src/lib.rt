@@ -141,17 +141,25 @@ fn number(x: u8) -> u32
     x as u32
 }
 
+// The byte at a place of the vector that begins at `from`; 0 past its end.
+fn byte_at(dim: usize, vectors: &[u8], from: usize, place: usize) -> u32
+    requires { ⌜ from + dim ≤ length (now vectors) ⌝ }
+    ensures { λ r. ⌜ r ≤ 255 ⌝ }
+{
+    if place < dim {
+        return number(vectors[from + place]);
+    }
+    0
+}
+
 // Reads a byte of every 64 of slot `s`'s vector, so that it is on its way from memory when it is measured. Returns their sum, which tells nothing.
-pub fn touch(dim: usize, vectors: &[u8], s: usize) -> u32
-    requires { ⌜ (s * dim + dim ≤ length (now vectors)) × (dim ≤ 256) ⌝ }
-    ensures { λ r. ⌜ r ≤ 1280 ⌝ }
+pub fn touch_vector(dim: usize, vectors: &[u8], s: usize) -> u32
+    requires { ⌜ s * dim + dim ≤ length (now vectors) ⌝ }
+    ensures { λ r. ⌜ r ≤ 1020 ⌝ }
 {
     let from = s * dim;
-    let mut sum: u32 = 0;
-    let mut at: usize = 0;
-    while at < dim {
-        sum += number(vectors[from + at]);
-        at += 64;
-    }
-    sum
+    byte_at(dim, vectors, from, 0)
+        + byte_at(dim, vectors, from, 64)
+        + byte_at(dim, vectors, from, 128)
+        + byte_at(dim, vectors, from, 192)
 }

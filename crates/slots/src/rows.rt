@@ -57,6 +57,19 @@ pub fn target_at(degree: usize, targets: &[u32], s: usize, place: usize) -> u32
     targets[s * degree + place]
 }
 
+// Reads the first and the last word of slot `s`'s row, so that the row is on its way from memory when it is gone through. Returns a sum that tells nothing.
+pub fn touch_row(degree: usize, targets: &[u32], edges: &[u16], s: usize) -> u32
+    requires { ⌜ (s * degree + degree ≤ length (now targets)) × (s * degree + degree ≤ length (now edges)) ⌝ }
+    ensures { λ r. ⌜ r ≤ 1020 ⌝ }
+{
+    if degree == 0 {
+        return 0;
+    }
+    let first = s * degree;
+    let last = first + (degree - 1);
+    targets[first] % 256 + targets[last] % 256 + (edges[first] % 256) as u32
+}
+
 // Whether slot `s`'s row holds `id` with its present version, live or dead.
 pub fn holds(
     degree: usize,

@@ -149,8 +149,8 @@ module _ {a : Arrays} {query : List ℕ} {beam : ℕ} {w₀ : List ℕ} {n next 
           })
 
 -- ---- the same, place by place of a row
--- the touched bytes of a part of a row count for nothing
-pub touched-none : (n t : ℕ) → t ≤ 1280 * n → n ≤ 64 → n + t / 1048576 ≡ n
+-- what is touched counts for nothing
+pub touched-none : (n t : ℕ) → t ≤ 1020 * (n + 1) → n ≤ 64 → n + t / 1048576 ≡ n
 touched-none n t h k = omega arith
 
 pub gathers-none : (a : Arrays) (s from : ℕ) (w f : List ℕ) → Gathers a s from from w w f 0

@@ -104,10 +104,14 @@ module _ {capacity beam : ℕ} {dist : ℕ → ℕ} {near : ℕ → List ℕ} {w
   pub meeting-done : ts ≡ [] → Stepped capacity beam w₀ to w n next
   meeting-done e = record { holds = rw e at (m .meets); goes = m .goes; size = m .size; same = m .same }
 
+-- the slot of a candidate is inside
+pub placed-inside : {capacity beam : ℕ} {w : List ℕ} {n next i s t : ℕ} → Walkable capacity beam w n next → i < n → t ≡ cand w (0 + 2 * i) .id → s ≡ t → s < capacity
+placed-inside {capacity} {w = w} {n} {i = i} f h p q = rw (q, p) (cands-each (λ c. c .id < capacity) w 0 n (f .inside) i h)
+
 -- a candidate is marked as expanded, and its neighbours are met
 module _ {capacity beam : ℕ} {w : List ℕ} {n next s t : ℕ} (f : Walkable capacity beam w n next) (h : next < n) (p : t ≡ cand w (0 + 2 * next) .id) (q : s ≡ t) where
   pub expands-inside : s < capacity
-  expands-inside = rw (q, p) (cands-each (λ c. c .id < capacity) w 0 n (f .inside) next h)
+  expands-inside = placed-inside f h p q
 
   module _ {v : List ℕ} (m : v ≡ put-mark w s 2) where
     pub expands-goes : Walkable capacity beam v n next

@@ -3,12 +3,13 @@ mod words;
 
 use candidates::id_at;
 use distances::query_distance;
-use distances::touch;
+use distances::touch_vector;
 use slots::marks::is_valid;
 use slots::marks::wide;
 use slots::rows::Ref;
 use slots::rows::live_at;
 use slots::rows::target_at;
+use slots::rows::touch_row;
 use words::EXPANDED;
 use words::Held;
 use words::MET;
@@ -26,7 +27,7 @@ ghost use Rattle.walk.specs.contracts.Scratch.{near-of, near-but, mark-w
 // How many places of a row are gathered at once, at most.
 const FRESH: usize = 64;
 
-// More than the touched bytes of a part of a row sum up to.
+// More than what is touched for a part of a row sums up to.
 const TOUCHED: u32 = 1048576;
 
 // The reference at a place of slot `s`'s row, where it is live and leads to a slot that is not met. What is met needs no further test.
@@ -52,26 +53,40 @@ fn unmet_at(
 }
 
 // Marks slot `id` as met and writes it behind the `n` slots of `fresh`. Touches its vector.
-fn add(
-    dim: usize,
-    vectors: &[u8],
-    id: u32,
-    n: usize,
-    scratch: &mut [u32],
-    fresh: &mut [u32],
-) -> u32
-    requires { ⌜ (id * dim + dim ≤ length (now vectors)) × (dim ≤ 256) ⌝ }
+fn add(dim: usize, vectors: &[u8], id: u32, n: usize, scratch: &mut [u32], fresh: &mut [u32]) -> u32
+    requires { ⌜ id * dim + dim ≤ length (now vectors) ⌝ }
     requires { ⌜ (mark-word id < length (now scratch)) × (n < length (now fresh)) ⌝ }
-    ensures { λ r. ⌜ Added id n (now (scratch .entry)) (now (fresh .entry)) (now (scratch .exit)) (now (fresh .exit)) × (r ≤ 1280) ⌝ }
+    ensures { λ r. ⌜ Added id n (now (scratch .entry)) (now (fresh .entry)) (now (scratch .exit)) (now (fresh .exit)) × (r ≤ 1020) ⌝ }
 {
     let s = wide(id);
     words::set_mark(scratch, s, MET);
     fresh[n] = id;
-    touch(dim, vectors, s)
+    touch_vector(dim, vectors, s)
 }
 
-// Gathers the slots of slot `s`'s row that are live and not met, from place `from` up to `to`. Returns how many they are; the touched bytes count for nothing,
-// but the compiler, which does not know that, reads them.
+// Touches the row of the candidate behind `held.next`, which is often the one that is expanded next.
+fn touch_next(
+    degree: usize,
+    targets: &[u32],
+    edges: &[u16],
+    capacity: usize,
+    beam: usize,
+    held: Held,
+    scratch: &[u32],
+) -> u32
+    requires { ⌜ (length (now targets) ≡ capacity * degree) × (length (now edges) ≡ capacity * degree) ⌝ }
+    requires { ⌜ Walkable capacity beam (now scratch) (held .count) (held .next) × (held .next < held .count) ⌝ }
+    ensures { λ r. ⌜ r ≤ 1020 ⌝ }
+{
+    let i = held.next + 1;
+    if i < held.count {
+        return touch_row(degree, targets, edges, wide(id_at(scratch, 0, i)));
+    }
+    0
+}
+
+// Gathers the slots of slot `s`'s row that are live and not met, from place `from` up to `to`. Returns how many they are. What is
+// touched counts for nothing, nor does `ahead`, which was touched before: but the compiler, which does not know that, reads it.
 fn gather(
     dim: usize,
     degree: usize,
@@ -83,16 +98,17 @@ fn gather(
     s: usize,
     from: usize,
     to: usize,
+    ahead: u32,
     scratch: &mut [u32],
     fresh: &mut [u32],
 ) -> usize
-    requires { ⌜ RowShape degree (now targets) (now edges) (now versions) (now marks) × (length (now vectors) ≡ length (now marks) * dim) × (dim ≤ 256) ⌝ }
+    requires { ⌜ RowShape degree (now targets) (now edges) (now versions) (now marks) × (length (now vectors) ≡ length (now marks) * dim) ⌝ }
     requires { ⌜ (work-at (length (now marks)) ≤ length (now scratch)) × (length (now fresh) ≡ 64) ⌝ }
-    requires { ⌜ (s < length (now marks)) × (from ≤ to) × (to ≤ degree) × (to ≤ from + 64) ⌝ }
+    requires { ⌜ (s < length (now marks)) × (from ≤ to) × (to ≤ degree) × (to ≤ from + 64) × (ahead ≤ 1020) ⌝ }
     ensures { λ r. ⌜ Gathers (arrays dim degree (now (vectors .entry)) (now (targets .entry)) (now (edges .entry)) (now (versions .entry)) (now (marks .entry))) s from to (now (scratch .entry)) (now (scratch .exit)) (now (fresh .exit)) r ⌝ }
 {
     let mut n: usize = 0;
-    let mut touched: u32 = 0;
+    let mut touched = ahead;
     let mut place = from;
     while place < to {
         let r = unmet_at(degree, targets, edges, versions, marks, s, place, scratch);
@@ -166,6 +182,7 @@ fn expand(
     requires { ⌜ Walkable (length (now marks)) beam (now scratch) (held .count) (held .next) × (held .next < held .count) × (length (now fresh) ≡ 64) ⌝ }
     ensures { λ r. ⌜ Stepped (length (now (marks .entry))) beam (now (scratch .entry)) (expands (arrays dim degree (now (vectors .entry)) (now (targets .entry)) (now (edges .entry)) (now (versions .entry)) (now (marks .entry))) (now (query .entry)) beam (now (scratch .entry)) (held .count) (held .next)) (now (scratch .exit)) (r .count) (r .next) ⌝ }
 {
+    let ahead = touch_next(degree, targets, edges, marks.len(), beam, held, scratch);
     let i = held.next;
     let s = wide(id_at(scratch, 0, i));
     words::set_mark(scratch, s, EXPANDED);
@@ -184,6 +201,7 @@ fn expand(
             s,
             place,
             to,
+            ahead,
             scratch,
             fresh,
         );

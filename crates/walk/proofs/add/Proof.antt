@@ -17,8 +17,8 @@ mul-fresh c = search needs
 slice-write-fresh : tie.Need-slice-write-fresh
 slice-write-fresh c = search needs
 
-touch-requires : tie.Need-touch-requires
-touch-requires c κs = rw (c .before .before .before .before .wide .ensures) (c .before .before .before .before .before .before .before .before .pre .0)
+touch-vector-requires : tie.Need-touch-vector-requires
+touch-vector-requires c κs = rw (c .before .before .before .before .wide .ensures) (c .before .before .before .before .before .before .before .before .pre .0)
 
 same-length : tie.Need-same-length
 same-length c = search needs
@@ -27,7 +27,7 @@ same-length-2 : tie.Need-same-length-2
 same-length-2 c = search needs
 
 returns : tie.Need-returns
-returns c = (added-by (c .before .before .before .before .before .wide .ensures) (c .before .before .before .set-mark .ensures) refl, c .touch .ensures)
+returns c = (added-by (c .before .before .before .before .before .wide .ensures) (c .before .before .before .set-mark .ensures) refl, c .touch-vector .ensures)
 
 pub add-spec : {M : Type 1} → statement M
-add-spec = tie.close (tie.spec wide-requires set-mark-requires mul-fresh slice-write-fresh touch-requires same-length same-length-2 returns)
+add-spec = tie.close (tie.spec wide-requires set-mark-requires mul-fresh slice-write-fresh touch-vector-requires same-length same-length-2 returns)

@@ -17,7 +17,7 @@ use Rattle.walk.proofs.expand.Statement.{statement}
 use Rattle.walk.proofs.expand.Tie as tie
 
 abbrev Inv-loop : tie.InvT-loop
-Inv-loop dim degree vectors targets edges versions marks query beam scratch₀ fresh₀ i s now₀ place₀ scratch fresh now place =
+Inv-loop dim degree vectors targets edges versions marks query beam scratch₀ fresh₀ ahead i s now₀ place₀ scratch fresh now place =
     (place ≤ degree)
     × (length fresh ≡ 64)
     × Meeting (length marks) beam (query-distance (space dim vectors) query) (near-of (arrays dim degree vectors targets edges versions marks)) scratch₀
@@ -25,14 +25,14 @@ Inv-loop dim degree vectors targets edges versions marks query beam scratch₀ f
     (live-from (arrays dim degree vectors targets edges versions marks) s place) scratch (now .count) (now .next)
 
 abbrev μ-loop : tie.MeasureT-loop
-μ-loop dim degree vectors targets edges versions marks query beam scratch₀ fresh₀ i s now₀ place₀ scratch fresh now place = degree - place
+μ-loop dim degree vectors targets edges versions marks query beam scratch₀ fresh₀ ahead i s now₀ place₀ scratch fresh now place = degree - place
 
 -- places before the needs below, each named by what was done last there
 abbrev wide : tie.At-loop Inv-loop μ-loop → tie.After-wide Inv-loop μ-loop
 wide c = c .before .before .before .before .before
 
 abbrev start : tie.At-loop Inv-loop μ-loop → tie.Start Inv-loop μ-loop
-start c = wide c .before .before .before .before .before .before .before .before .before .before .before
+start c = wide c .before .before .before .before .before .before .before .before .before .before .before .before .before
 
 abbrev loop₁ : tie.After-gather-arg2 Inv-loop μ-loop → tie.At-loop Inv-loop μ-loop
 loop₁ c = c .before .before .before .before
@@ -46,18 +46,21 @@ loop₃ c = c .before .before .before .before .before .before .before .before .b
 abbrev loop₄ : tie.After-loop Inv-loop μ-loop → tie.At-loop Inv-loop μ-loop
 loop₄ c = c .before
 
+touch-next-requires : tie.Need-touch-next-requires Inv-loop μ-loop
+touch-next-requires c κs = let p = c .before .before .before .before .before .before .before .before .before .pre in ((p .0 .rows .targets-long, p .0 .rows .edges-long), (p .1 .0, p .1 .1))
+
 id-at-requires : tie.Need-id-at-requires Inv-loop μ-loop
-id-at-requires c κs = omega (arith, c .before .before .before .before .before .before .before .before .before .pre .1)
+id-at-requires c κs = omega (arith, c .before .before .before .before .before .before .before .before .before .before .before .pre .1)
 
 wide-requires : tie.Need-wide-requires Inv-loop μ-loop
 wide-requires c κs = search needs
 
 set-mark-requires : tie.Need-set-mark-requires Inv-loop μ-loop
-set-mark-requires c κs = let p = c .before .before .before .before .before .before .before .before .before .before .before .before .pre .1 in omega (arith, p .0 .room, expands-inside (p .0) (p .1) (c .before .before .id-at .ensures) (c .before .wide .ensures))
+set-mark-requires c κs = let p = c .before .before .before .before .before .before .before .before .before .before .before .before .before .before .pre .1 in omega (arith, p .0 .room, expands-inside (p .0) (p .1) (c .before .before .id-at .ensures) (c .before .wide .ensures))
 
 loop-holds : tie.Need-loop-holds Inv-loop μ-loop
 loop-holds c =
-    let p = c .before .before .before .before .before .before .before .before .before .before .before .before .before .before .before .pre .1 in
+    let p = c .before .before .before .before .before .before .before .before .before .before .before .before .before .before .before .before .before .pre .1 in
     (omega arith, p .2, meeting-none _ _ (expands-goes (p .0) (p .1) (c .before .before .before .before .before .id-at .ensures) (c .before .before .before .before .wide .ensures) (c .before .before .set-mark .ensures)) (near-from _ _))
 
 part-end-requires : tie.Need-part-end-requires Inv-loop μ-loop
@@ -70,7 +73,7 @@ gather-requires c κs =
     let v = l .loop .inv in
     let e = c .before .before .part-end .ensures in
     let w = p .0 .vectors in
-    ((p .0 .rows, w .vectors-long, w .dim-most), ((v .2 .goes .room, v .1), (expands-inside (p .1 .0) (p .1 .1) ((wide l) .before .id-at .ensures) ((wide l) .wide .ensures), omega (arith, e .0), e .1, e .2)))
+    ((p .0 .rows, w .vectors-long), ((v .2 .goes .room, v .1), (expands-inside (p .1 .0) (p .1 .1) ((wide l) .before .id-at .ensures) ((wide l) .wide .ensures), omega (arith, e .0), e .1, e .2, (wide l) .before .before .before .touch-next .ensures)))
 
 enter-all-requires : tie.Need-enter-all-requires Inv-loop μ-loop
 enter-all-requires c κs =
@@ -88,7 +91,7 @@ loop-again c =
     let v = (loop₃ c) .loop .inv in
     let g = c .before .before .before .before .before .before .before .before .before .gather .ensures in
     let h = g .each ((start (loop₃ c)) .args .query .now) _ _ _ (v .2 .goes) in
-    (c .before .before .before .before .before .before .before .before .before .before .before .before .part-end .ensures .1, c .before .before .before .before .before .before .before .before .before .gather .kept .1 .1 .1 .1 .1 .1 .1 .1 .1 .1 .1 .0 ∙ v .1, meeting-part (v .2) (h .holds) (h .same) (g .size) (c .before .before .enter-all .ensures))
+    (c .before .before .before .before .before .before .before .before .before .before .before .before .part-end .ensures .1, c .before .before .before .before .before .before .before .before .before .gather .kept .1 .1 .1 .1 .1 .1 .1 .1 .1 .1 .1 .1 .0 ∙ v .1, meeting-part (v .2) (h .holds) (h .same) (g .size) (c .before .before .enter-all .ensures))
 
 same-length : tie.Need-same-length Inv-loop μ-loop
 same-length c = let l = loop₄ c in l .loop .inv .2 .size ∙ l .before .before .before .set-mark .kept .0
@@ -108,6 +111,7 @@ expand-spec =
     (tie.spec
     Inv-loop
     μ-loop
+    touch-next-requires
     id-at-requires
     wide-requires
     set-mark-requires

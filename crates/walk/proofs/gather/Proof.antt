@@ -1,5 +1,5 @@
 -- What the row has before `place` is gathered.
-use Prim.Native.Nat.{_-_, _*_, _≤_}
+use Prim.Native.Nat.{_+_, _-_, _*_, _≤_}
 use mathlib.Core.Logic.{⊎-elim}
 use mathlib.Core.Path.{_≡_, refl, sym, _∙_}
 use native.Mathlib.Omega.{arith}
@@ -14,11 +14,11 @@ use Rattle.walk.proofs.gather.Statement.{statement}
 use Rattle.walk.proofs.gather.Tie as tie
 
 abbrev Inv-loop : tie.InvT-loop
-Inv-loop dim degree vectors targets edges versions marks s from to scratch₀ fresh₀ n₀ touched₀ place₀ scratch fresh n touched place =
-    (place ≤ to) × (length fresh ≡ 64) × (touched ≤ 1280 * n) × Gathers (arrays dim degree vectors targets edges versions marks) s from place scratch₀ scratch fresh n
+Inv-loop dim degree vectors targets edges versions marks s from to ahead scratch₀ fresh₀ n₀ touched₀ place₀ scratch fresh n touched place =
+    (place ≤ to) × (length fresh ≡ 64) × (touched ≤ 1020 * (n + 1)) × Gathers (arrays dim degree vectors targets edges versions marks) s from place scratch₀ scratch fresh n
 
 abbrev μ-loop : tie.MeasureT-loop
-μ-loop dim degree vectors targets edges versions marks s from to scratch₀ fresh₀ n₀ touched₀ place₀ scratch fresh n touched place = to - place
+μ-loop dim degree vectors targets edges versions marks s from to ahead scratch₀ fresh₀ n₀ touched₀ place₀ scratch fresh n touched place = to - place
 
 -- places before the needs below, each named by what was done last there
 abbrev start₁ : tie.After-unmet-at-arg Inv-loop μ-loop → tie.Start Inv-loop μ-loop
@@ -40,7 +40,7 @@ abbrev start₅ : tie.After-loop Inv-loop μ-loop → tie.Start Inv-loop μ-loop
 start₅ c = c .before .before .before .before .before .before .before .before .before
 
 loop-holds : tie.Need-loop-holds Inv-loop μ-loop
-loop-holds c = let p = c .before .before .before .before .before .before .before .pre in (p .1 .1 .1, p .1 .0 .1, omega arith, gathers-none _ _ _ _ _)
+loop-holds c = let p = c .before .before .before .before .before .before .before .pre in (p .1 .1 .1, p .1 .0 .1, omega (arith, p .1 .1 .4), gathers-none _ _ _ _ _)
 
 unmet-at-requires : tie.Need-unmet-at-requires Inv-loop μ-loop
 unmet-at-requires c κs =
@@ -58,7 +58,7 @@ add-requires c κs =
     let v = (loop₂ c) .loop .inv in
     let u = (c .before .before .before .before .before .unmet-at .ensures (a .dim) (a .vectors .now)) .found _ (c .before .before .before .r .given .1) in
     let i = ref-inside (arrays (a .dim) (a .degree) (a .vectors .now) (a .targets .now) (a .edges .now) (a .versions .now) (a .marks .now)) _ _ (u .0) refl in
-    ((fits-in _ _ _ _ i (p .0 .1), p .0 .2), (omega (arith, i, p .1 .0 .0, v .3 .size), omega (arith, v .1, v .3 .few, c .before .before .before .before .before .before .before .loop-test .taken, p .1 .1 .3)))
+    (fits-in _ _ _ _ i (p .0 .1), (omega (arith, i, p .1 .0 .0, v .3 .size), omega (arith, v .1, v .3 .few, c .before .before .before .before .before .before .before .loop-test .taken, p .1 .1 .3)))
 
 add-touched : tie.Need-add-touched Inv-loop μ-loop
 add-touched c = let l = add-arg₃ c in let v = loop₂ l .loop .inv in omega (arith, v .2, v .3 .few, l .before .before .before .before .before .before .before .loop-test .taken, (start₂ l) .pre .1 .1 .3, c .before .before .before .before .add .ensures .1)
