@@ -1,5 +1,5 @@
 -- The marks in the words: read one by one and all at once, cleared, and set where the walk begins. Assumes nothing.
-use Prim.Native.Nat.{ℕ, zero, suc, _+_, _/_, _%_, _≤_, _<_}
+use Prim.Native.Nat.{ℕ, zero, suc, _+_, _*_, _/_, _%_, _≤_, _<_}
 use mathlib.Core.Bool.{Bool, true, false}
 use mathlib.Core.Path.{_≡_, refl, ap, sym, _∙_}
 use mathlib.Core.List.{List, [], _∷_, map}
@@ -104,7 +104,7 @@ pub clearing-none : (capacity : ℕ) (w : List ℕ) → Clearing capacity w w 0
 clearing-none capacity w = record { zeros = λ j h. absurd (omega arith); size = refl; same = outside-none marks-at capacity w }
 
 module _ {capacity : ℕ} {w₀ w : List ℕ} {i : ℕ} (room : work-at capacity ≤ length w₀) (f : Clearing capacity w₀ w i) where
-  pub clearing-more : i < (capacity + 15) / 16 → Clearing capacity w₀ (set w (marks-at + i) 0) (i + 1)
+  pub clearing-more : i < capacity → Clearing capacity w₀ (set w (marks-at + i) 0) (i + 1)
   clearing-more h =
       record {
         zeros = λ j k. go j k (decLt j i);
@@ -116,7 +116,7 @@ module _ {capacity : ℕ} {w₀ w : List ℕ} {i : ℕ} (room : work-at capacity
       go j k (yes l) = getD-set-other w (marks-at + i) (marks-at + j) 0 0 (λ e. omega arith) ∙ f .zeros j l
       go j k (no l) = let e : j ≡ i = omega arith in rw e (getD-set-same w (marks-at + i) 0 0 (omega (arith, f .size)))
 
-  pub clearing-done : (capacity + 15) / 16 ≤ i → Cleared capacity w₀ w
+  pub clearing-done : capacity ≤ 16 * i → Cleared capacity w₀ w
   clearing-done h =
       record {
         marks = marks-by capacity w (replicate capacity 0) (length-replicate capacity 0)

@@ -33,13 +33,13 @@ loop-less : tie.Need-loop-less Inv-loop μ-loop
 loop-less c = omega arith
 
 loop-again : tie.Need-loop-again Inv-loop μ-loop
-loop-again c = clearing-more (c .before .before .pre) (c .before .loop .inv) (c .loop-test .taken)
+loop-again c = clearing-more (c .before .before .pre) (c .before .loop .inv) (omega arith)
 
 same-length : tie.Need-same-length Inv-loop μ-loop
 same-length c = c .before .loop .inv .size
 
 returns : tie.Need-returns Inv-loop μ-loop
-returns c = clearing-done (c .before .before .pre) (c .before .loop .inv) (c .loop-test .left)
+returns c = clearing-done (c .before .before .pre) (c .before .loop .inv) (omega arith)
 
 pub clear-spec : {M : Type 1} → statement M
 clear-spec =
