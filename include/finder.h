@@ -1,34 +1,38 @@
 /*
  * The picture finder for C and C++: a vector index over memory that the caller lends.
  *
- * An index is FINDER_INDEX_WORDS words beside six slices, which the caller owns. The words:
+ * An index is a struct finder over one block of memory. In short (examples/c/first.c is a whole program, finder.hpp a class for C++):
  *
- *     0 dim        1 capacity      2 degree     3 alpha's bits
- *     4 entry      5 live count    6 guard: 0 is off, any other value on
- *     7 landmark count    8 multiplier    9 sample    10 beam    11 length of the landmark pool
+ *     struct finder_layout n;
+ *     struct finder f;
+ *     struct finder_scratch s;
+ *     finder_lengths(256, 1000, 32, &n);                                       the sizes: dim, capacity, degree
+ *     finder_place(&f, malloc(n.block_bytes), n.block_bytes, 256, 1000, 32);
+ *     finder_place_scratch(&s, malloc(n.scratch_bytes), n.scratch_bytes);
+ *     finder_create_in(&f, 1.2f, 0, 0, NULL, 0, NULL, 0);                      alpha 1.2, no vector yet
+ *     finder_insert_in(&f, grey, 256, 64, &slot, 1, s, &found);                one vector, beam 64; it got the slot
+ *     finder_search_in(&f, query, 256, 10, 64, slots, dists, s, &found);       the 10 nearest, beam 64
  *
- * Words 7 to 11 count only where the guard is on. A function that writes the words writes 1 to word 6 where the guard is on, else 0 to words 6 to 11.
- * The six slices, in the order of the parameters:
+ * Each of these returns 0 where it is carried out, else the number of the refusal; the compiler warns where that is not looked at.
  *
- *     vectors   capacity * dim       the bytes of each slot's vector
- *     targets   capacity * degree    the references of each slot's row; FINDER_BLANK is no reference
- *     edges     capacity * degree    a version for each reference
- *     versions  capacity             a version for each slot
- *     marks     capacity             not 0 where the slot is live
- *     pool      FINDER_POOL          the landmark pool
+ * The names: finder_X is a call on an index in parts, twelve words and six slices; finder_X_in is the same call on a struct finder. What a call does is told at
+ * finder_X. The functions finder_X are in the archive and are proved (docs/CLAIMS.md); the inline ones of this header pass parts on and are not.
  *
- * A slice is a pointer and a length in elements. Every pointer is aligned and not null, also where the length is 0, and has that many elements behind it.
- * What a function writes must not overlap anything else that it is lent; what it only reads may overlap. Outputs, scratch and the slices of a new index
- * may hold anything before. No function keeps a pointer or allocates, and only memset is called; several threads may read one index at a time while none
- * changes it. The two deletes take less than 112 KiB of stack, the other functions less than 8.
+ * For all of them:
  *
- * Every function but finder_vector returns 0 where it is carried out, else the number of the refusal. Those that apply are tested in the order of their
- * numbers, and the first that holds is returned. A call that is refused writes nothing.
+ * - A call that is refused writes nothing. The refusals that apply are tested in the order of their numbers, and the first that holds is returned.
+ * - What a function writes must not overlap anything else that it is lent; what it only reads may overlap. Outputs, scratch and the memory of a new index may
+ *   hold anything before.
+ * - No function allocates, and none of the archive keeps a pointer or calls anything but memset. Several threads may read one index at a time while none changes
+ *   it; each has its own scratch and its own outputs.
+ * - The two deletes take less than 112 KiB of stack, the other functions less than 8.
+ * - Floats are rounded to nearest, as they are in a program that does not change it.
+ * - Each call tests anew what the refusals name, whoever wrote the words and the slices. The words of one index with the slices of another of the same sizes
+ *   and live count are not told apart.
  *
- * Each call tests anew what the refusals name, whoever wrote the words and the slices; the words may be stored and copied like any others. The words of
- * one index with the slices of another of the same sizes and live count are not told apart.
- *
- * size_t has 64 bits.
+ * What a call costs in the capacity, beside its work on the graph (docs/BENCHMARKS.md has times): every call on an index counts the marks, a byte for each slot,
+ * so reading slot after slot costs the capacity squared. Making writes all slices. A walk clears a word of scratch for each slot: a search walks once, an insert
+ * once for each vector, a delete once for each slot, an assessment twice for each landmark. An insert also goes over all slots for every 256 vectors or fewer.
  */
 #ifndef FINDER_H
 #define FINDER_H
@@ -36,11 +40,51 @@
 #include <stddef.h>
 #include <stdint.h>
 
+#if SIZE_MAX != UINT64_MAX
+#error "finder.h: size_t must have 64 bits"
+#endif
+
 #ifdef __cplusplus
 extern "C" {
 #endif
 
+/* The version of this header. */
+#define FINDER_VERSION_MAJOR 1
+#define FINDER_VERSION_MINOR 0
+#define FINDER_VERSION_PATCH 0
+#define FINDER_VERSION (FINDER_VERSION_MAJOR * 10000 + FINDER_VERSION_MINOR * 100 + FINDER_VERSION_PATCH)
+
+/* Before a function whose answer must be looked at. */
+#if defined(__cplusplus) && __cplusplus >= 201703L
+#define FINDER_CHECKED [[nodiscard]]
+#elif defined(__GNUC__)
+#define FINDER_CHECKED __attribute__((warn_unused_result))
+#else
+#define FINDER_CHECKED
+#endif
+
+/* ---- Numbers and names ---- */
+
+/* The words of an index. */
 #define FINDER_INDEX_WORDS 12
+
+/* Their names. The last five count only where the guard is on. */
+enum finder_word {
+    FINDER_WORD_DIM,
+    FINDER_WORD_CAPACITY,
+    FINDER_WORD_DEGREE,
+    FINDER_WORD_ALPHA,          /* its bits */
+    FINDER_WORD_ENTRY,
+    FINDER_WORD_LIVE,           /* the live count */
+    FINDER_WORD_GUARD,          /* 0 where it is off, any other value on; a function that writes the words writes 1, or 0 here and to those that follow */
+    FINDER_WORD_LANDMARK_COUNT,
+    FINDER_WORD_MULTIPLIER,
+    FINDER_WORD_SAMPLE,
+    FINDER_WORD_BEAM,
+    FINDER_WORD_POOL            /* the length of the landmark pool */
+};
+
+/* The places of the landmark pool. */
 #define FINDER_POOL 1024
 
 /* No slot: an empty place of a row. */
@@ -64,110 +108,31 @@ extern "C" {
 #define FINDER_MAX_REPAIR_BEAM 256
 #define FINDER_MAX_REPAIR_DEGREE 16
 
-/* The six slices, as every function takes them that only reads them. */
-#define FINDER_LENT \
-    const uint8_t *vectors, size_t vectors_len, const uint32_t *targets, size_t targets_len, const uint16_t *edges, size_t edges_len, \
-    const uint16_t *versions, size_t versions_len, const uint8_t *marks, size_t marks_len, const uint32_t *pool, size_t pool_len
+/* The refusals: number, name, text. */
+#define FINDER_REFUSALS(REFUSAL) \
+    REFUSAL(0, FINDER_OK, "carried out") \
+    REFUSAL(1, FINDER_BAD_SIZES, "dim, capacity or degree is outside its range") \
+    REFUSAL(2, FINDER_BAD_ALPHA, "alpha is outside 1.0 to 2.0, or NaN") \
+    REFUSAL(3, FINDER_BAD_LENGTH, "a slice or another list has another length than it must") \
+    REFUSAL(4, FINDER_TOO_MANY, "more vectors are given than there are slots") \
+    REFUSAL(5, FINDER_BAD_GIVEN, "a given row names neither blank nor a given slot, or the entry is not given (0 where none is given)") \
+    REFUSAL(6, FINDER_BAD_INDEX, "the live count differs from the marks, the entry is not below capacity, or the guard is on with a setting or a pool outside its range") \
+    REFUSAL(7, FINDER_OVER_LIMIT, "a beam, a repair degree or a setting of the guard over its limit, k over the length of an output, or too many ids") \
+    REFUSAL(8, FINDER_SHORT_SCRATCH, "the scratch is shorter than the sizes ask for") \
+    REFUSAL(9, FINDER_BAD_BATCH, "the bytes to be inserted are no whole number of vectors") \
+    REFUSAL(10, FINDER_FULL, "fewer slots are free than vectors are to be inserted") \
+    REFUSAL(11, FINDER_GUARD_OFF, "the guard is off") \
+    REFUSAL(12, FINDER_NO_LIVE, "no slot is live, so there is nothing to guard") \
+    REFUSAL(13, FINDER_NO_LANDMARK, "one slot alone is live, so there is no landmark beside the entry")
 
-/* The refusals. */
-#define FINDER_OK 0
-#define FINDER_BAD_SIZES 1      /* dim, capacity or degree is outside its range */
-#define FINDER_BAD_ALPHA 2      /* alpha is outside 1.0 to 2.0, or NaN */
-#define FINDER_BAD_LENGTH 3     /* a slice has another length than it must */
-#define FINDER_TOO_MANY 4       /* more vectors are given than there are slots */
-#define FINDER_BAD_GIVEN 5      /* a given row names neither blank nor a given slot, or the entry is not given (0 where none is given) */
-#define FINDER_BAD_INDEX 6      /* the live count differs from the marks, the entry is not below capacity, or the guard is on with a setting or a pool outside its range */
-#define FINDER_OVER_LIMIT 7     /* a beam, a repair degree or a setting of the guard over its limit, k over the length of an output, or more than FINDER_MAX_IDS ids */
-#define FINDER_SHORT_SCRATCH 8  /* the scratch is shorter than finder_scratch_words says */
-#define FINDER_BAD_BATCH 9      /* the bytes to be inserted are no whole number of vectors */
-#define FINDER_FULL 10          /* fewer slots are free than vectors are to be inserted */
-#define FINDER_GUARD_OFF 11     /* the guard is off */
-#define FINDER_NO_LIVE 12       /* no slot is live, so there is nothing to guard */
-#define FINDER_NO_LANDMARK 13   /* one slot alone is live, so there is no landmark beside the entry */
+#define FINDER_REFUSAL_NAME(number, name, text) name = number,
+enum finder_refusal { FINDER_REFUSALS(FINDER_REFUSAL_NAME) };
+#undef FINDER_REFUSAL_NAME
 
-/*
- * How many words of scratch the calls on an index of these sizes ask for, at most 8,388,608. Written to *size.
- * Refusals: 1.
- */
-uint32_t finder_scratch_words(uint32_t dim, uint32_t capacity, uint32_t degree, uint32_t *size);
+/* The text of a refusal. */
+static inline const char *finder_refusal_text(uint32_t refusal);
 
-/*
- * Makes an index of which the first count slots are given: bytes has the vectors (count * dim), rows the references (count * degree, each FINDER_BLANK or
- * a given slot). Whatever the six slices held, they are written whole, and so are the index's words. The guard is off.
- * Refusals, in order: 1, 2, 3 (one of the six slices, bytes or rows), 4, 5.
- */
-uint32_t finder_create(uint32_t dim, uint32_t capacity, uint32_t degree, float alpha, uint32_t entry, uint32_t count,
-    const uint8_t *bytes, size_t bytes_len, const uint32_t *rows, size_t rows_len,
-    uint8_t *vectors, size_t vectors_len, uint32_t *targets, size_t targets_len, uint16_t *edges, size_t edges_len,
-    uint16_t *versions, size_t versions_len, uint8_t *marks, size_t marks_len, uint32_t *pool, size_t pool_len,
-    uint32_t words[FINDER_INDEX_WORDS]);
-
-/*
- * Readings. Each writes what it read to *value.
- * Refusals, in order: 1, 2, 3, 6.
- */
-
-/* The dim. */
-uint32_t finder_dim(const uint32_t words[FINDER_INDEX_WORDS], FINDER_LENT, uint32_t *value);
-
-/* The capacity. */
-uint32_t finder_capacity(const uint32_t words[FINDER_INDEX_WORDS], FINDER_LENT, uint32_t *value);
-
-/* The degree. */
-uint32_t finder_degree(const uint32_t words[FINDER_INDEX_WORDS], FINDER_LENT, uint32_t *value);
-
-/* Alpha. */
-uint32_t finder_alpha(const uint32_t words[FINDER_INDEX_WORDS], FINDER_LENT, float *value);
-
-/* The slot at which a search starts. */
-uint32_t finder_entry(const uint32_t words[FINDER_INDEX_WORDS], FINDER_LENT, uint32_t *value);
-
-/* How many slots are live. */
-uint32_t finder_live(const uint32_t words[FINDER_INDEX_WORDS], FINDER_LENT, uint32_t *value);
-
-/* The mark of a slot: 1 where it is live, 0 where it is dead or outside. */
-uint32_t finder_mark(const uint32_t words[FINDER_INDEX_WORDS], FINDER_LENT, uint32_t slot, uint32_t *value);
-
-/* The version of a slot, 0 to 65,535; 0 for a slot outside. */
-uint32_t finder_slot_version(const uint32_t words[FINDER_INDEX_WORDS], FINDER_LENT, uint32_t slot, uint32_t *value);
-
-/* The target at a place, from 0, among the live ones of a slot's row; FINDER_BLANK past the last and for a slot outside. */
-uint32_t finder_target(const uint32_t words[FINDER_INDEX_WORDS], FINDER_LENT, uint32_t slot, uint32_t place, uint32_t *value);
-
-/*
- * How many bytes the vector of a slot has: dim where the slot is live, and they begin at vectors + (size_t)slot * dim; 0 where it is dead or outside, and
- * where the call is refused, with 1, 2, 3 or 6, which is not told.
- */
-size_t finder_vector(const uint32_t words[FINDER_INDEX_WORDS], FINDER_LENT, uint32_t slot);
-
-/*
- * Walks the graph from the entry with a list of at most beam slots (0 acts as 1) and gives the k nearest to the query that it finds, nearest first, of
- * equals the lower slot first. Their number is written to *found: at most k, at most beam, and 0 where the entry is dead. The slots and the distances
- * (sums of squared differences, whole numbers) are written to the first *found places of the outputs; the places after them stay. The scratch is
- * overwritten.
- * Refusals, in order: 1, 2, 3 (one of the six slices, or a query that is not dim long), 6, 7, 8.
- */
-uint32_t finder_search(const uint32_t words[FINDER_INDEX_WORDS], FINDER_LENT,
-    const uint8_t *query, size_t query_len, uint32_t k, uint32_t beam,
-    uint32_t *slots, size_t slots_len, float *dists, size_t dists_len, uint32_t *scratch, size_t scratch_len,
-    uint32_t *found);
-
-/*
- * Inserts a batch: bytes has the vectors, one after the other, bytes_len / dim of them. They go into the lowest free slots, the first vector into the
- * lowest. For each a walk from the entry, with a list of at most beam or degree slots, whichever is more, finds neighbours, of which pruning selects its
- * row; the rows of those selected are pruned anew with the new slot among their references. The number of the vectors is written to *found and the slots
- * that they got to the first *found places of slots, lowest first; the places after them stay. The words get the new live count; versions and pool are
- * only read. The rows of 256 vectors at a time are worked out on the index as it stands before any of them is written, so vectors of one call do not find each
- * other: new titles are better inserted one vector to a call (docs/YEAR.md). While the entry is dead, walks find nothing, and new slots get empty rows. The
- * scratch is overwritten.
- * Refusals, in order: 1, 2, 3 (one of the six slices, or fewer places in slots than vectors), 6, 7, 8, 9, 10.
- */
-uint32_t finder_insert(uint32_t words[FINDER_INDEX_WORDS],
-    uint8_t *vectors, size_t vectors_len, uint32_t *targets, size_t targets_len, uint16_t *edges, size_t edges_len,
-    const uint16_t *versions, size_t versions_len, uint8_t *marks, size_t marks_len, const uint32_t *pool, size_t pool_len,
-    const uint8_t *bytes, size_t bytes_len, uint32_t beam,
-    uint32_t *slots, size_t slots_len, uint32_t *scratch, size_t scratch_len,
-    uint32_t *found);
+/* What some calls write. */
 
 /* The counts of one slot that a delete emptied. */
 struct finder_stats {
@@ -177,28 +142,8 @@ struct finder_stats {
     uint32_t repair_edges_attempted; /* the links put between them, one each way */
 };
 
-/*
- * Deletes the slots that ids name and repairs the rows around them; an id that is dead or outside, or that stood there before, is skipped. The slots are
- * emptied in rising order: their marks are cleared, the live ones that were near are linked with each other (by walks with a list of at most repair_beam
- * slots, and with at most repair_degree links for each), their rows are emptied and their versions step on by 1 (after 65,535 comes 0), which outdates
- * what still refers to them. Where the entry is deleted, the lowest live slot becomes the entry; if none is left it stays. The guard is not asked. The
- * number of the slots is written to *found and their counts to the first *found places of stats, in the order of the slots; the places after them stay.
- * The words get the new live count and entry; vectors and pool are only read. The scratch is overwritten.
- * Refusals, in order: 1, 2, 3 (one of the six slices, or fewer places in stats than ids), 6, 7, 8.
- */
-uint32_t finder_delete(uint32_t words[FINDER_INDEX_WORDS],
-    const uint8_t *vectors, size_t vectors_len, uint32_t *targets, size_t targets_len, uint16_t *edges, size_t edges_len,
-    uint16_t *versions, size_t versions_len, uint8_t *marks, size_t marks_len, const uint32_t *pool, size_t pool_len,
-    const uint32_t *ids, size_t ids_len, uint32_t repair_beam, uint32_t repair_degree,
-    struct finder_stats *stats, size_t stats_len, uint32_t *scratch, size_t scratch_len,
-    uint32_t *found);
-
-/*
- * The guard. It keeps a pool of landmarks, live slots far from the entry and from each other, and assesses a delete by trial walks to them.
- */
-
 /* The guard's status; all 0 where it is off. */
-struct finder_guard_status {
+struct finder_status {
     uint32_t enabled;        /* 1 where it is on, else 0 */
     uint32_t pool_size;      /* how many landmarks the pool holds */
     uint32_t live_landmarks; /* how many of them are live */
@@ -218,23 +163,254 @@ struct finder_report {
     uint32_t supplemental; /* how many of those looked at were chosen beside the pool */
 };
 
+/* ---- An index as a struct ---- */
+
+/*
+ * An index. finder_place or finder_load fills it, after which it is passed by address and neither changed by hand nor used as a copy: the lengths of the slices
+ * are worked out from its words.
+ *
+ * Words and block are the whole index. To store it, write the words and the block's first finder_lengths_in(f).block_bytes bytes; to have it again, finder_load. Both
+ * are in the machine's byte order, and the block is as finder_place of this major version lays it out.
+ */
+struct finder {
+    uint32_t words[FINDER_INDEX_WORDS];
+    uint8_t *vectors;   /* capacity * dim: the bytes of each slot's vector */
+    uint32_t *targets;  /* capacity * degree: the references of each slot's row; FINDER_BLANK is no reference */
+    uint16_t *edges;    /* capacity * degree: a version for each reference */
+    uint16_t *versions; /* capacity: a version for each slot */
+    uint8_t *marks;     /* capacity: not 0 where the slot is live */
+    uint32_t *pool;     /* FINDER_POOL: the landmark pool */
+};
+
+/* What the calls work in: one for each thread, for all indexes whose sizes ask for no more. */
+struct finder_scratch {
+    uint32_t *words;
+    size_t length;
+};
+
+/* The lengths of the six slices in elements, and what a block and a scratch have in bytes. */
+struct finder_layout {
+    size_t vectors;
+    size_t targets;
+    size_t edges;
+    size_t versions;
+    size_t marks;
+    size_t pool;
+    size_t block_bytes;
+    size_t scratch_bytes;
+};
+
+/* A report with its lists: the first report.checked places of checked and the first report.lost places of lost. */
+struct finder_assessment {
+    struct finder_report report;
+    uint32_t checked[FINDER_MAX_LANDMARKS];
+    uint32_t lost[FINDER_MAX_LANDMARKS];
+};
+
+/*
+ * Writes the lengths for these sizes to *lengths.
+ * Refusals: 1.
+ */
+FINDER_CHECKED static inline uint32_t finder_lengths(uint32_t dim, uint32_t capacity, uint32_t degree, struct finder_layout *lengths);
+
+/*
+ * Lays the six slices out in the block, which stays the caller's and is not written. Every call is refused, with 2, until finder_create_in was carried out.
+ * Refusals, in order: 1, 3 (the block is null, not aligned for uint32_t, or shorter than block_bytes of finder_lengths).
+ */
+FINDER_CHECKED static inline uint32_t finder_place(struct finder *f, void *block, size_t block_bytes, uint32_t dim, uint32_t capacity, uint32_t degree);
+
+/*
+ * An index that was stored: its words, and the block with the bytes that were stored. What the refusals do not name is not tested.
+ * Refusals, in order: those of finder_place, 2, 6.
+ */
+FINDER_CHECKED static inline uint32_t finder_load(struct finder *f, const uint32_t words[FINDER_INDEX_WORDS], void *block, size_t block_bytes);
+
+/*
+ * A scratch in the block, which stays the caller's.
+ * Refusals: 8 (the block is null, not aligned for uint32_t, or shorter than a word). Whether it is long enough for an index is tested by the calls.
+ */
+FINDER_CHECKED static inline uint32_t finder_place_scratch(struct finder_scratch *scratch, void *block, size_t block_bytes);
+
+/* The lengths of an index; all 0 where its sizes are outside their ranges. */
+static inline struct finder_layout finder_lengths_in(const struct finder *f);
+
+/*
+ * The calls. Lists come with their lengths, but for these: slots and dists of a search have k places, and stats has ids_len. A null pointer counts as an empty list, whatever
+ * its length says. Other pointers are not null.
+ */
+
+FINDER_CHECKED static inline uint32_t finder_create_in(struct finder *f, float alpha, uint32_t entry, uint32_t count,
+    const uint8_t *bytes, size_t bytes_len, const uint32_t *rows, size_t rows_len);
+
+FINDER_CHECKED static inline uint32_t finder_dim_in(const struct finder *f, uint32_t *value);
+FINDER_CHECKED static inline uint32_t finder_capacity_in(const struct finder *f, uint32_t *value);
+FINDER_CHECKED static inline uint32_t finder_degree_in(const struct finder *f, uint32_t *value);
+FINDER_CHECKED static inline uint32_t finder_alpha_in(const struct finder *f, float *value);
+FINDER_CHECKED static inline uint32_t finder_entry_in(const struct finder *f, uint32_t *value);
+FINDER_CHECKED static inline uint32_t finder_live_in(const struct finder *f, uint32_t *value);
+FINDER_CHECKED static inline uint32_t finder_mark_in(const struct finder *f, uint32_t slot, uint32_t *value);
+FINDER_CHECKED static inline uint32_t finder_slot_version_in(const struct finder *f, uint32_t slot, uint32_t *value);
+FINDER_CHECKED static inline uint32_t finder_target_in(const struct finder *f, uint32_t slot, uint32_t place, uint32_t *value);
+
+/* The dim bytes of the slot's vector, or NULL where finder_vector gives 0. */
+static inline const uint8_t *finder_vector_in(const struct finder *f, uint32_t slot);
+
+FINDER_CHECKED static inline uint32_t finder_search_in(const struct finder *f, const uint8_t *query, size_t query_len, uint32_t k, uint32_t beam,
+    uint32_t *slots, float *dists, struct finder_scratch scratch, uint32_t *found);
+
+FINDER_CHECKED static inline uint32_t finder_insert_in(struct finder *f, const uint8_t *bytes, size_t bytes_len, uint32_t beam,
+    uint32_t *slots, size_t slots_len, struct finder_scratch scratch, uint32_t *found);
+
+FINDER_CHECKED static inline uint32_t finder_delete_in(struct finder *f, const uint32_t *ids, size_t ids_len, uint32_t repair_beam, uint32_t repair_degree,
+    struct finder_stats *stats, struct finder_scratch scratch, uint32_t *found);
+
+FINDER_CHECKED static inline uint32_t finder_guard_enable_in(struct finder *f, uint32_t landmark_count, uint32_t multiplier, uint32_t sample, uint32_t beam,
+    struct finder_scratch scratch, struct finder_status *status);
+
+FINDER_CHECKED static inline uint32_t finder_guard_status_in(const struct finder *f, struct finder_status *status);
+
+FINDER_CHECKED static inline uint32_t finder_assess_in(const struct finder *f, const uint32_t *ids, size_t ids_len,
+    struct finder_scratch scratch, struct finder_assessment *assessment);
+
+FINDER_CHECKED static inline uint32_t finder_guarded_delete_in(struct finder *f, const uint32_t *ids, size_t ids_len, uint32_t repair_beam, uint32_t repair_degree,
+    struct finder_stats *stats, struct finder_scratch scratch, uint32_t *found, struct finder_assessment *assessment);
+
+/* ---- An index in parts: the functions of the archive ---- */
+
+/*
+ * They take the words, then the six slices in the order of struct finder, which tells their lengths. Every pointer is aligned and not null, also where the
+ * length is 0, and has that many elements behind it.
+ */
+
+/* The six slices as parameters: const those that are only read. */
+#define FINDER_LENT(VECTORS, TARGETS, EDGES, VERSIONS, MARKS, POOL) \
+    VECTORS uint8_t *vectors, size_t vectors_len, TARGETS uint32_t *targets, size_t targets_len, EDGES uint16_t *edges, size_t edges_len, \
+    VERSIONS uint16_t *versions, size_t versions_len, MARKS uint8_t *marks, size_t marks_len, POOL uint32_t *pool, size_t pool_len
+#define FINDER_LENT_READ FINDER_LENT(const, const, const, const, const, const)
+#define FINDER_LENT_CREATE FINDER_LENT(, , , , , )
+#define FINDER_LENT_INSERT FINDER_LENT(, , , const, , const)
+#define FINDER_LENT_DELETE FINDER_LENT(const, , , , , const)
+#define FINDER_LENT_ENABLE FINDER_LENT(const, const, const, const, const, )
+
+/* The version of the archive: FINDER_VERSION of the header that belongs to it. */
+uint32_t finder_version(void);
+
+/*
+ * How many words of scratch the calls on an index of these sizes ask for, at most 8,388,608. Written to *size.
+ * Refusals: 1.
+ */
+FINDER_CHECKED uint32_t finder_scratch_words(uint32_t dim, uint32_t capacity, uint32_t degree, uint32_t *size);
+
+/*
+ * Makes an index of which the first count slots are given: bytes has the vectors (count * dim), rows the references (count * degree, each FINDER_BLANK or
+ * a given slot). Whatever the six slices held, they are written whole, and so are the index's words. The guard is off.
+ * Alpha says how full pruning leaves the rows: going from near to far, it drops a candidate whose distance to the row's slot is more than alpha times that to a
+ * reference taken before, so a larger alpha keeps more references. 1.2 is the usual value, and the one that was measured; 1.0 keeps the fewest.
+ * Refusals, in order: 1, 2, 3 (one of the six slices, bytes or rows), 4, 5.
+ */
+FINDER_CHECKED uint32_t finder_create(uint32_t dim, uint32_t capacity, uint32_t degree, float alpha, uint32_t entry, uint32_t count,
+    const uint8_t *bytes, size_t bytes_len, const uint32_t *rows, size_t rows_len, FINDER_LENT_CREATE, uint32_t words[FINDER_INDEX_WORDS]);
+
+/*
+ * Readings. Each writes what it read to *value.
+ * Refusals, in order: 1, 2, 3, 6.
+ */
+
+/* The dim. */
+FINDER_CHECKED uint32_t finder_dim(const uint32_t words[FINDER_INDEX_WORDS], FINDER_LENT_READ, uint32_t *value);
+
+/* The capacity. */
+FINDER_CHECKED uint32_t finder_capacity(const uint32_t words[FINDER_INDEX_WORDS], FINDER_LENT_READ, uint32_t *value);
+
+/* The degree. */
+FINDER_CHECKED uint32_t finder_degree(const uint32_t words[FINDER_INDEX_WORDS], FINDER_LENT_READ, uint32_t *value);
+
+/* Alpha. */
+FINDER_CHECKED uint32_t finder_alpha(const uint32_t words[FINDER_INDEX_WORDS], FINDER_LENT_READ, float *value);
+
+/* The slot at which a search starts. */
+FINDER_CHECKED uint32_t finder_entry(const uint32_t words[FINDER_INDEX_WORDS], FINDER_LENT_READ, uint32_t *value);
+
+/* How many slots are live. */
+FINDER_CHECKED uint32_t finder_live(const uint32_t words[FINDER_INDEX_WORDS], FINDER_LENT_READ, uint32_t *value);
+
+/* The mark of a slot: 1 where it is live, 0 where it is dead or outside. */
+FINDER_CHECKED uint32_t finder_mark(const uint32_t words[FINDER_INDEX_WORDS], FINDER_LENT_READ, uint32_t slot, uint32_t *value);
+
+/* The version of a slot, 0 to 65,535; 0 for a slot outside. */
+FINDER_CHECKED uint32_t finder_slot_version(const uint32_t words[FINDER_INDEX_WORDS], FINDER_LENT_READ, uint32_t slot, uint32_t *value);
+
+/* The target at a place, from 0, among the live ones of a slot's row; FINDER_BLANK past the last and for a slot outside. */
+FINDER_CHECKED uint32_t finder_target(const uint32_t words[FINDER_INDEX_WORDS], FINDER_LENT_READ, uint32_t slot, uint32_t place, uint32_t *value);
+
+/*
+ * How many bytes the vector of a slot has: dim where the slot is live, and they begin at vectors + (size_t)slot * dim; 0 where it is dead or outside, and
+ * where the call is refused, with 1, 2, 3 or 6, which is not told.
+ */
+FINDER_CHECKED size_t finder_vector(const uint32_t words[FINDER_INDEX_WORDS], FINDER_LENT_READ, uint32_t slot);
+
+/*
+ * Walks the graph from the entry with a list of at most beam slots and gives the k nearest to the query that it finds, nearest first, of equals the lower slot
+ * first. Their number is written to *found: at most k, at most beam, and 0 where the entry is dead. The slots and the distances (sums of squared differences,
+ * whole numbers; no root is taken) are written to the first *found places of the outputs; the places after them stay. The scratch is overwritten.
+ * A larger beam finds more and takes longer; 0 and 1 give the entry alone. Take at least k. With 15,000 vectors 16, 64 and 256 found 96, 99.6 and 99.9 of 100 true
+ * neighbours (docs/YEAR.md): 64 is a good beam to begin with.
+ * Refusals, in order: 1, 2, 3 (one of the six slices, or a query that is not dim long), 6, 7, 8.
+ */
+FINDER_CHECKED uint32_t finder_search(const uint32_t words[FINDER_INDEX_WORDS], FINDER_LENT_READ,
+    const uint8_t *query, size_t query_len, uint32_t k, uint32_t beam,
+    uint32_t *slots, size_t slots_len, float *dists, size_t dists_len, uint32_t *scratch, size_t scratch_len,
+    uint32_t *found);
+
+/*
+ * Inserts a batch: bytes has the vectors, one after the other, bytes_len / dim of them. They go into the lowest free slots, the first vector into the
+ * lowest. For each a walk from the entry, with a list of at most beam or degree slots, whichever is more, finds neighbours, of which pruning selects its
+ * row; the rows of those selected are pruned anew with the new slot among their references. The number of the vectors is written to *found and the slots
+ * that they got to the first *found places of slots, lowest first; the places after them stay. The words get the new live count; versions and pool are
+ * only read. The rows of 256 vectors at a time are worked out on the index as it stands before any of them is written, so vectors of one call do not find each
+ * other: new titles are better inserted one vector to a call (docs/YEAR.md). While the entry is dead, walks find nothing, and new slots get empty rows: an index
+ * of which all was deleted is better made anew. The scratch is overwritten.
+ * Refusals, in order: 1, 2, 3 (one of the six slices, or fewer places in slots than vectors), 6, 7, 8, 9, 10.
+ */
+FINDER_CHECKED uint32_t finder_insert(uint32_t words[FINDER_INDEX_WORDS], FINDER_LENT_INSERT,
+    const uint8_t *bytes, size_t bytes_len, uint32_t beam,
+    uint32_t *slots, size_t slots_len, uint32_t *scratch, size_t scratch_len,
+    uint32_t *found);
+
+/*
+ * Deletes the slots that ids name and repairs the rows around them; an id that is dead or outside, or that stood there before, is skipped. The slots are
+ * emptied in rising order: their marks are cleared, the live ones that were near are linked with each other (by walks with a list of at most repair_beam
+ * slots, and with at most repair_degree links for each), their rows are emptied and their versions step on by 1 (after 65,535 comes 0), which outdates
+ * what still refers to them. Where the entry is deleted, the lowest live slot becomes the entry; if none is left it stays. The guard is not asked. The
+ * number of the slots is written to *found and their counts to the first *found places of stats, in the order of the slots; the places after them stay.
+ * The words get the new live count and entry; vectors and pool are only read. The scratch is overwritten.
+ * A later insert gives an emptied slot to another vector: a table of the caller's that leads from slots to figures is brought up to date at each delete.
+ * Refusals, in order: 1, 2, 3 (one of the six slices, or fewer places in stats than ids), 6, 7, 8.
+ */
+FINDER_CHECKED uint32_t finder_delete(uint32_t words[FINDER_INDEX_WORDS], FINDER_LENT_DELETE,
+    const uint32_t *ids, size_t ids_len, uint32_t repair_beam, uint32_t repair_degree,
+    struct finder_stats *stats, size_t stats_len, uint32_t *scratch, size_t scratch_len,
+    uint32_t *found);
+
+/*
+ * The guard. It keeps a pool of landmarks, live slots far from the entry and from each other, and assesses a delete by trial walks to them.
+ */
+
 /*
  * Enables the guard, which may be on already. Chooses landmark_count * multiplier landmarks at most, writes them to the front of pool (the places after them
  * stay), and writes the index's words and *status. They are chosen out of the live ones of every n-th slot, n being capacity / sample, at least 1; if these are
  * fewer than wanted, out of all live slots. In each of the four settings 0 acts as 1, and is stored so. The scratch is overwritten.
  * Refusals, in order: 1, 2, 3, 6, 7, 8, 12, 13.
  */
-uint32_t finder_guard_enable(uint32_t words[FINDER_INDEX_WORDS],
-    const uint8_t *vectors, size_t vectors_len, const uint32_t *targets, size_t targets_len, const uint16_t *edges, size_t edges_len,
-    const uint16_t *versions, size_t versions_len, const uint8_t *marks, size_t marks_len, uint32_t *pool, size_t pool_len,
+FINDER_CHECKED uint32_t finder_guard_enable(uint32_t words[FINDER_INDEX_WORDS], FINDER_LENT_ENABLE,
     uint32_t landmark_count, uint32_t multiplier, uint32_t sample, uint32_t beam, uint32_t *scratch, size_t scratch_len,
-    struct finder_guard_status *status);
+    struct finder_status *status);
 
 /*
  * Writes the guard's status to *status.
  * Refusals, in order: 1, 2, 3, 6.
  */
-uint32_t finder_guard_status(const uint32_t words[FINDER_INDEX_WORDS], FINDER_LENT, struct finder_guard_status *status);
+FINDER_CHECKED uint32_t finder_guard_status(const uint32_t words[FINDER_INDEX_WORDS], FINDER_LENT_READ, struct finder_status *status);
 
 /*
  * Assesses a delete of the slots that ids name, and deletes nothing; an id that is dead or outside, or that stood there before, does not count. The
@@ -243,7 +419,7 @@ uint32_t finder_guard_status(const uint32_t words[FINDER_INDEX_WORDS], FINDER_LE
  * named. The scratch is overwritten.
  * Refusals, in order: 1, 2, 3 (one of the six slices, or a list that is too short), 6, 7, 8, 11.
  */
-uint32_t finder_assess(const uint32_t words[FINDER_INDEX_WORDS], FINDER_LENT, const uint32_t *ids, size_t ids_len,
+FINDER_CHECKED uint32_t finder_assess(const uint32_t words[FINDER_INDEX_WORDS], FINDER_LENT_READ, const uint32_t *ids, size_t ids_len,
     uint32_t *checked, size_t checked_len, uint32_t *lost, size_t lost_len, uint32_t *scratch, size_t scratch_len, struct finder_report *report);
 
 /*
@@ -252,12 +428,240 @@ uint32_t finder_assess(const uint32_t words[FINDER_INDEX_WORDS], FINDER_LENT, co
  * of lost, and the numbers to *report. Where no live slot is named the delete is admitted, and empties none. The scratch is overwritten.
  * Refusals, in order: 1, 2, 3 (one of the six slices, fewer places in stats than ids, or a list that is too short), 6, 7, 8, 11.
  */
-uint32_t finder_guarded_delete(uint32_t words[FINDER_INDEX_WORDS],
-    const uint8_t *vectors, size_t vectors_len, uint32_t *targets, size_t targets_len, uint16_t *edges, size_t edges_len,
-    uint16_t *versions, size_t versions_len, uint8_t *marks, size_t marks_len, const uint32_t *pool, size_t pool_len,
+FINDER_CHECKED uint32_t finder_guarded_delete(uint32_t words[FINDER_INDEX_WORDS], FINDER_LENT_DELETE,
     const uint32_t *ids, size_t ids_len, uint32_t repair_beam, uint32_t repair_degree,
     struct finder_stats *stats, size_t stats_len, uint32_t *checked, size_t checked_len, uint32_t *lost, size_t lost_len,
     uint32_t *scratch, size_t scratch_len, uint32_t *found, struct finder_report *report);
+
+/* ---- The inline functions ---- */
+
+static inline const char *finder_refusal_text(uint32_t refusal)
+{
+#define FINDER_REFUSAL_TEXT(number, name, text) case number: return text;
+    switch (refusal) {
+        FINDER_REFUSALS(FINDER_REFUSAL_TEXT)
+        default: return "no refusal has this number";
+    }
+#undef FINDER_REFUSAL_TEXT
+}
+
+static inline uint32_t finder_lengths(uint32_t dim, uint32_t capacity, uint32_t degree, struct finder_layout *lengths)
+{
+    uint32_t scratch = 0;
+    uint32_t refusal = finder_scratch_words(dim, capacity, degree, &scratch);
+    if (refusal)
+        return refusal;
+    lengths->vectors = (size_t)capacity * dim;
+    lengths->targets = (size_t)capacity * degree;
+    lengths->edges = (size_t)capacity * degree;
+    lengths->versions = capacity;
+    lengths->marks = capacity;
+    lengths->pool = FINDER_POOL;
+    lengths->block_bytes = (lengths->targets + lengths->pool) * sizeof(uint32_t) + (lengths->edges + lengths->versions) * sizeof(uint16_t)
+        + lengths->vectors + lengths->marks;
+    lengths->scratch_bytes = scratch * sizeof(uint32_t);
+    return FINDER_OK;
+}
+
+static inline struct finder_layout finder_lengths_in(const struct finder *f)
+{
+    struct finder_layout lengths = { 0, 0, 0, 0, 0, 0, 0, 0 };
+    uint32_t refusal = finder_lengths(f->words[FINDER_WORD_DIM], f->words[FINDER_WORD_CAPACITY], f->words[FINDER_WORD_DEGREE], &lengths);
+    (void)refusal; /* which has left the zeros */
+    return lengths;
+}
+
+/* The slices of four bytes come first, then those of two, then those of one: each is aligned where the block is. */
+static inline uint32_t finder_place(struct finder *f, void *block, size_t block_bytes, uint32_t dim, uint32_t capacity, uint32_t degree)
+{
+    struct finder_layout n;
+    uint32_t refusal = finder_lengths(dim, capacity, degree, &n);
+    int i;
+    if (refusal)
+        return refusal;
+    if (!block || (uintptr_t)block % sizeof(uint32_t) != 0 || block_bytes < n.block_bytes)
+        return FINDER_BAD_LENGTH;
+    for (i = 0; i < FINDER_INDEX_WORDS; i++)
+        f->words[i] = 0;
+    f->words[FINDER_WORD_DIM] = dim;
+    f->words[FINDER_WORD_CAPACITY] = capacity;
+    f->words[FINDER_WORD_DEGREE] = degree;
+    f->targets = (uint32_t *)block;
+    f->pool = f->targets + n.targets;
+    f->edges = (uint16_t *)(f->pool + n.pool);
+    f->versions = f->edges + n.edges;
+    f->vectors = (uint8_t *)(f->versions + n.versions);
+    f->marks = f->vectors + n.vectors;
+    return FINDER_OK;
+}
+
+static inline uint32_t finder_load(struct finder *f, const uint32_t words[FINDER_INDEX_WORDS], void *block, size_t block_bytes)
+{
+    struct finder stored;
+    uint32_t refusal = finder_place(&stored, block, block_bytes, words[FINDER_WORD_DIM], words[FINDER_WORD_CAPACITY], words[FINDER_WORD_DEGREE]);
+    uint32_t live;
+    int i;
+    if (refusal)
+        return refusal;
+    for (i = 0; i < FINDER_INDEX_WORDS; i++)
+        stored.words[i] = words[i];
+    refusal = finder_live_in(&stored, &live);
+    if (refusal)
+        return refusal;
+    *f = stored;
+    return FINDER_OK;
+}
+
+static inline uint32_t finder_place_scratch(struct finder_scratch *scratch, void *block, size_t block_bytes)
+{
+    if (!block || (uintptr_t)block % sizeof(uint32_t) != 0 || block_bytes < sizeof(uint32_t))
+        return FINDER_SHORT_SCRATCH;
+    scratch->words = (uint32_t *)block;
+    scratch->length = block_bytes / sizeof(uint32_t);
+    return FINDER_OK;
+}
+
+/* A list as two arguments; a null one is passed as an empty list at the address of `none`. */
+#define FINDER_LIST(type, list, len) (list) ? (list) : (type *)&none, (list) ? (len) : 0
+
+/* The six slices of f as arguments, n being its lengths. */
+#define FINDER_SLICES \
+    FINDER_LIST(uint8_t, f->vectors, n.vectors), FINDER_LIST(uint32_t, f->targets, n.targets), FINDER_LIST(uint16_t, f->edges, n.edges), \
+    FINDER_LIST(uint16_t, f->versions, n.versions), FINDER_LIST(uint8_t, f->marks, n.marks), FINDER_LIST(uint32_t, f->pool, n.pool)
+
+/* What these two name. */
+#define FINDER_PARTS \
+    const struct finder_layout n = finder_lengths_in(f); \
+    uint32_t none = 0
+
+static inline uint32_t finder_create_in(struct finder *f, float alpha, uint32_t entry, uint32_t count,
+    const uint8_t *bytes, size_t bytes_len, const uint32_t *rows, size_t rows_len)
+{
+    FINDER_PARTS;
+    return finder_create(f->words[FINDER_WORD_DIM], f->words[FINDER_WORD_CAPACITY], f->words[FINDER_WORD_DEGREE], alpha, entry, count,
+        FINDER_LIST(const uint8_t, bytes, bytes_len), FINDER_LIST(const uint32_t, rows, rows_len), FINDER_SLICES, f->words);
+}
+
+static inline uint32_t finder_dim_in(const struct finder *f, uint32_t *value)
+{
+    FINDER_PARTS;
+    return finder_dim(f->words, FINDER_SLICES, value);
+}
+
+static inline uint32_t finder_capacity_in(const struct finder *f, uint32_t *value)
+{
+    FINDER_PARTS;
+    return finder_capacity(f->words, FINDER_SLICES, value);
+}
+
+static inline uint32_t finder_degree_in(const struct finder *f, uint32_t *value)
+{
+    FINDER_PARTS;
+    return finder_degree(f->words, FINDER_SLICES, value);
+}
+
+static inline uint32_t finder_alpha_in(const struct finder *f, float *value)
+{
+    FINDER_PARTS;
+    return finder_alpha(f->words, FINDER_SLICES, value);
+}
+
+static inline uint32_t finder_entry_in(const struct finder *f, uint32_t *value)
+{
+    FINDER_PARTS;
+    return finder_entry(f->words, FINDER_SLICES, value);
+}
+
+static inline uint32_t finder_live_in(const struct finder *f, uint32_t *value)
+{
+    FINDER_PARTS;
+    return finder_live(f->words, FINDER_SLICES, value);
+}
+
+static inline uint32_t finder_mark_in(const struct finder *f, uint32_t slot, uint32_t *value)
+{
+    FINDER_PARTS;
+    return finder_mark(f->words, FINDER_SLICES, slot, value);
+}
+
+static inline uint32_t finder_slot_version_in(const struct finder *f, uint32_t slot, uint32_t *value)
+{
+    FINDER_PARTS;
+    return finder_slot_version(f->words, FINDER_SLICES, slot, value);
+}
+
+static inline uint32_t finder_target_in(const struct finder *f, uint32_t slot, uint32_t place, uint32_t *value)
+{
+    FINDER_PARTS;
+    return finder_target(f->words, FINDER_SLICES, slot, place, value);
+}
+
+static inline const uint8_t *finder_vector_in(const struct finder *f, uint32_t slot)
+{
+    FINDER_PARTS;
+    size_t dim = finder_vector(f->words, FINDER_SLICES, slot);
+    return dim ? f->vectors + slot * dim : NULL;
+}
+
+static inline uint32_t finder_search_in(const struct finder *f, const uint8_t *query, size_t query_len, uint32_t k, uint32_t beam,
+    uint32_t *slots, float *dists, struct finder_scratch scratch, uint32_t *found)
+{
+    FINDER_PARTS;
+    return finder_search(f->words, FINDER_SLICES, FINDER_LIST(const uint8_t, query, query_len), k, beam,
+        FINDER_LIST(uint32_t, slots, k), FINDER_LIST(float, dists, k), FINDER_LIST(uint32_t, scratch.words, scratch.length), found);
+}
+
+static inline uint32_t finder_insert_in(struct finder *f, const uint8_t *bytes, size_t bytes_len, uint32_t beam,
+    uint32_t *slots, size_t slots_len, struct finder_scratch scratch, uint32_t *found)
+{
+    FINDER_PARTS;
+    return finder_insert(f->words, FINDER_SLICES, FINDER_LIST(const uint8_t, bytes, bytes_len), beam,
+        FINDER_LIST(uint32_t, slots, slots_len), FINDER_LIST(uint32_t, scratch.words, scratch.length), found);
+}
+
+static inline uint32_t finder_delete_in(struct finder *f, const uint32_t *ids, size_t ids_len, uint32_t repair_beam, uint32_t repair_degree,
+    struct finder_stats *stats, struct finder_scratch scratch, uint32_t *found)
+{
+    FINDER_PARTS;
+    return finder_delete(f->words, FINDER_SLICES, FINDER_LIST(const uint32_t, ids, ids_len), repair_beam, repair_degree,
+        FINDER_LIST(struct finder_stats, stats, ids_len), FINDER_LIST(uint32_t, scratch.words, scratch.length), found);
+}
+
+static inline uint32_t finder_guard_enable_in(struct finder *f, uint32_t landmark_count, uint32_t multiplier, uint32_t sample, uint32_t beam,
+    struct finder_scratch scratch, struct finder_status *status)
+{
+    FINDER_PARTS;
+    return finder_guard_enable(f->words, FINDER_SLICES, landmark_count, multiplier, sample, beam,
+        FINDER_LIST(uint32_t, scratch.words, scratch.length), status);
+}
+
+static inline uint32_t finder_guard_status_in(const struct finder *f, struct finder_status *status)
+{
+    FINDER_PARTS;
+    return finder_guard_status(f->words, FINDER_SLICES, status);
+}
+
+static inline uint32_t finder_assess_in(const struct finder *f, const uint32_t *ids, size_t ids_len,
+    struct finder_scratch scratch, struct finder_assessment *assessment)
+{
+    FINDER_PARTS;
+    return finder_assess(f->words, FINDER_SLICES, FINDER_LIST(const uint32_t, ids, ids_len),
+        assessment->checked, FINDER_MAX_LANDMARKS, assessment->lost, FINDER_MAX_LANDMARKS,
+        FINDER_LIST(uint32_t, scratch.words, scratch.length), &assessment->report);
+}
+
+static inline uint32_t finder_guarded_delete_in(struct finder *f, const uint32_t *ids, size_t ids_len, uint32_t repair_beam, uint32_t repair_degree,
+    struct finder_stats *stats, struct finder_scratch scratch, uint32_t *found, struct finder_assessment *assessment)
+{
+    FINDER_PARTS;
+    return finder_guarded_delete(f->words, FINDER_SLICES, FINDER_LIST(const uint32_t, ids, ids_len), repair_beam, repair_degree,
+        FINDER_LIST(struct finder_stats, stats, ids_len), assessment->checked, FINDER_MAX_LANDMARKS, assessment->lost, FINDER_MAX_LANDMARKS,
+        FINDER_LIST(uint32_t, scratch.words, scratch.length), found, &assessment->report);
+}
+
+#undef FINDER_LIST
+#undef FINDER_SLICES
+#undef FINDER_PARTS
 
 #ifdef __cplusplus
 }

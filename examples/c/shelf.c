@@ -1,53 +1,14 @@
-/* A small index: dim 1, capacity 4, degree 2, the values 0, 3, 10 in slots 0 to 2. Every value is checked; a wrong one ends the program with 1. */
+/*
+ * Every call of the header, on a small index: dim 1, capacity 4, degree 2, the values 0, 3, 10 in slots 0 to 2. Every value is checked; a wrong one ends the
+ * program with 1. first.c is the example to begin with.
+ */
 #include "finder.h"
 
 #include <stdio.h>
 #include <stdlib.h>
+#include <string.h>
 
 enum { DIM = 1, CAPACITY = 4, DEGREE = 2, COUNT = 3 };
-
-/* Each slice is a block of its own of exactly its length, and not written before making, so that valgrind sees a read or a write that is out of place. */
-static uint32_t *words;
-static uint8_t *vectors;
-static uint32_t *targets;
-static uint16_t *edges;
-static uint16_t *versions;
-static uint8_t *marks;
-static uint32_t *pool;
-
-/* The six slices, as every call takes them. */
-#define SLICES \
-    vectors, CAPACITY * DIM, targets, CAPACITY * DEGREE, edges, CAPACITY * DEGREE, versions, CAPACITY, marks, CAPACITY, pool, FINDER_POOL
-
-static void *block(size_t bytes)
-{
-    void *p = malloc(bytes);
-    if (!p)
-        exit(1);
-    return p;
-}
-
-static void lend(void)
-{
-    words = block(FINDER_INDEX_WORDS * sizeof *words);
-    vectors = block(CAPACITY * DIM);
-    targets = block(CAPACITY * DEGREE * sizeof *targets);
-    edges = block(CAPACITY * DEGREE * sizeof *edges);
-    versions = block(CAPACITY * sizeof *versions);
-    marks = block(CAPACITY);
-    pool = block(FINDER_POOL * sizeof *pool);
-}
-
-static void take_back(void)
-{
-    free(words);
-    free(vectors);
-    free(targets);
-    free(edges);
-    free(versions);
-    free(marks);
-    free(pool);
-}
 
 #define CHECK(fact) \
     do { \
@@ -57,121 +18,212 @@ static void take_back(void)
         } \
     } while (0)
 
-static uint32_t make(float alpha)
+/* The second time round nothing is told. */
+static int telling = 1;
+#define TELL(...) \
+    do { \
+        if (telling) \
+            printf(__VA_ARGS__); \
+    } while (0)
+
+/* Five, eight and four words, as the library writes them. */
+typedef char status_has_five_words[sizeof(struct finder_status) == 5 * sizeof(uint32_t) ? 1 : -1];
+typedef char report_has_eight_words[sizeof(struct finder_report) == 8 * sizeof(uint32_t) ? 1 : -1];
+typedef char stats_have_four_words[sizeof(struct finder_stats) == 4 * sizeof(uint32_t) ? 1 : -1];
+typedef char words_are_twelve[FINDER_WORD_POOL + 1 == FINDER_INDEX_WORDS ? 1 : -1];
+
+static struct finder f;
+static struct finder_scratch scratch;
+
+/* The index in parts, as the functions of the archive take it. */
+#define SLICES \
+    f.vectors, CAPACITY * DIM, f.targets, CAPACITY * DEGREE, f.edges, CAPACITY * DEGREE, f.versions, CAPACITY, f.marks, CAPACITY, f.pool, FINDER_POOL
+#define SCRATCH scratch.words, scratch.length
+
+/* All memory is allocated for exactly what it is for, and not written before, so that valgrind sees a read or a write that is out of place. */
+static void *taken[64];
+static int taken_count;
+
+static void *block(size_t bytes)
 {
-    static const uint8_t bytes[COUNT * DIM] = { 0, 3, 10 };
-    static const uint32_t rows[COUNT * DEGREE] = { 1, FINDER_BLANK, 0, 2, 1, FINDER_BLANK };
-    return finder_create(DIM, CAPACITY, DEGREE, alpha, 1, COUNT, bytes, sizeof bytes, rows, COUNT * DEGREE, SLICES, words);
+    void *p = malloc(bytes);
+    if (!p || taken_count == 64)
+        exit(1);
+    taken[taken_count++] = p;
+    return p;
+}
+
+static void take_back(void)
+{
+    while (taken_count)
+        free(taken[--taken_count]);
+}
+
+static int lend_scratch(void)
+{
+    struct finder_layout n;
+    CHECK(finder_lengths(DIM, CAPACITY, DEGREE, &n) == 0);
+    CHECK(finder_place_scratch(&scratch, block(n.scratch_bytes), n.scratch_bytes) == 0);
+    return 0;
+}
+
+/* One block, as an app lends it. */
+static int lend_block(void)
+{
+    struct finder_layout n;
+    CHECK(finder_lengths(DIM, CAPACITY, DEGREE, &n) == 0);
+    CHECK(finder_place(&f, block(n.block_bytes), n.block_bytes, DIM, CAPACITY, DEGREE) == 0);
+    return lend_scratch();
+}
+
+/* A block for each slice, so that valgrind sees where one ends. */
+static int lend_slices(void)
+{
+    if (lend_block())
+        return 1;
+    f.vectors = block(CAPACITY * DIM);
+    f.targets = block(CAPACITY * DEGREE * sizeof *f.targets);
+    f.edges = block(CAPACITY * DEGREE * sizeof *f.edges);
+    f.versions = block(CAPACITY * sizeof *f.versions);
+    f.marks = block(CAPACITY);
+    f.pool = block(FINDER_POOL * sizeof *f.pool);
+    return 0;
+}
+
+static const uint8_t given_bytes[COUNT * DIM] = { 0, 3, 10 };
+static const uint32_t given_rows[COUNT * DEGREE] = { 1, FINDER_BLANK, 0, 2, 1, FINDER_BLANK };
+
+static int make(void)
+{
+    uint32_t n = 77;
+    CHECK(finder_live_in(&f, &n) == FINDER_BAD_ALPHA && n == 77);
+    CHECK(finder_create_in(&f, 3.0f, 1, COUNT, given_bytes, COUNT, given_rows, COUNT * DEGREE) == FINDER_BAD_ALPHA);
+    CHECK(finder_create_in(&f, 1.0f, 1, COUNT, given_bytes, COUNT - 1, given_rows, COUNT * DEGREE) == FINDER_BAD_LENGTH);
+    CHECK(finder_create_in(&f, 1.0f, 1, COUNT, given_bytes, COUNT, NULL, COUNT * DEGREE) == FINDER_BAD_LENGTH);
+    CHECK(finder_create_in(&f, 1.0f, 3, COUNT, given_bytes, COUNT, given_rows, COUNT * DEGREE) == FINDER_BAD_GIVEN);
+    CHECK(f.words[FINDER_WORD_ALPHA] == 0);
+    CHECK(finder_create_in(&f, 1.0f, 1, COUNT, given_bytes, COUNT, given_rows, COUNT * DEGREE) == 0);
+    return 0;
 }
 
 static int read_all(void)
 {
     uint32_t n = 77;
     float alpha = 0;
-    CHECK(finder_dim(words, SLICES, &n) == 0 && n == DIM);
-    CHECK(finder_capacity(words, SLICES, &n) == 0 && n == CAPACITY);
-    CHECK(finder_degree(words, SLICES, &n) == 0 && n == DEGREE);
-    CHECK(finder_alpha(words, SLICES, &alpha) == 0 && alpha == 1.0f);
-    CHECK(finder_entry(words, SLICES, &n) == 0 && n == 1);
-    CHECK(finder_live(words, SLICES, &n) == 0 && n == COUNT);
-    CHECK(finder_mark(words, SLICES, 2, &n) == 0 && n == 1);
-    CHECK(finder_mark(words, SLICES, 3, &n) == 0 && n == 0);
-    CHECK(finder_slot_version(words, SLICES, 2, &n) == 0 && n == 0);
-    CHECK(finder_target(words, SLICES, 1, 0, &n) == 0 && n == 0);
-    CHECK(finder_target(words, SLICES, 1, 1, &n) == 0 && n == 2);
-    CHECK(finder_target(words, SLICES, 1, 2, &n) == 0 && n == FINDER_BLANK);
-    CHECK(finder_vector(words, SLICES, 2) == DIM && vectors[2 * DIM] == 10);
-    CHECK(finder_vector(words, SLICES, 3) == 0);
+    CHECK(finder_dim_in(&f, &n) == 0 && n == DIM);
+    CHECK(finder_capacity_in(&f, &n) == 0 && n == CAPACITY);
+    CHECK(finder_degree_in(&f, &n) == 0 && n == DEGREE);
+    CHECK(finder_alpha_in(&f, &alpha) == 0 && alpha == 1.0f);
+    CHECK(finder_entry_in(&f, &n) == 0 && n == 1);
+    CHECK(finder_live_in(&f, &n) == 0 && n == COUNT);
+    CHECK(finder_mark_in(&f, 2, &n) == 0 && n == 1);
+    CHECK(finder_mark_in(&f, 3, &n) == 0 && n == 0);
+    CHECK(finder_slot_version_in(&f, 2, &n) == 0 && n == 0);
+    CHECK(finder_target_in(&f, 1, 0, &n) == 0 && n == 0);
+    CHECK(finder_target_in(&f, 1, 1, &n) == 0 && n == 2);
+    CHECK(finder_target_in(&f, 1, 2, &n) == 0 && n == FINDER_BLANK);
+    CHECK(finder_vector_in(&f, 2) == f.vectors + 2 * DIM && *finder_vector_in(&f, 2) == 10);
+    CHECK(finder_vector_in(&f, 3) == NULL && finder_vector_in(&f, 4) == NULL);
     return 0;
 }
 
 static int search(void)
 {
-    uint32_t size = 0;
     uint32_t found = 77;
-    CHECK(finder_scratch_words(DIM, CAPACITY, DEGREE, &size) == 0 && size > 0);
     uint8_t *query = block(DIM);
     uint32_t *slots = block(2 * sizeof *slots);
     float *dists = block(2 * sizeof *dists);
-    uint32_t *scratch = block(size * sizeof *scratch);
     *query = 2;
-    CHECK(finder_search(words, SLICES, query, DIM, 2, 2, slots, 1, dists, 2, scratch, size, &found) == FINDER_OVER_LIMIT && found == 77);
-    CHECK(finder_search(words, SLICES, query, DIM, 2, 2, slots, 2, dists, 2, scratch, size, &found) == 0 && found == 2);
+    CHECK(finder_search(f.words, SLICES, query, DIM, 2, 2, slots, 1, dists, 2, SCRATCH, &found) == FINDER_OVER_LIMIT && found == 77);
+    CHECK(finder_search_in(&f, query, 0, 2, 2, slots, dists, scratch, &found) == FINDER_BAD_LENGTH && found == 77);
+    CHECK(finder_search_in(&f, query, DIM, 2, FINDER_MAX_BEAM + 1, slots, dists, scratch, &found) == FINDER_OVER_LIMIT && found == 77);
+    CHECK(finder_search_in(&f, query, DIM, 2, 2, slots, dists, scratch, &found) == 0 && found == 2);
     CHECK(slots[0] == 1 && dists[0] == 1.0f && slots[1] == 0 && dists[1] == 4.0f);
-    printf("nearest to 2: slot %u at %g, slot %u at %g\n", (unsigned)slots[0], dists[0], (unsigned)slots[1], dists[1]);
-    free(query);
-    free(slots);
-    free(dists);
-    free(scratch);
+    TELL("nearest to 2: slot %u at %g, slot %u at %g\n", (unsigned)slots[0], (double)dists[0], (unsigned)slots[1], (double)dists[1]);
+    CHECK(finder_search_in(&f, query, DIM, 2, 1, slots, dists, scratch, &found) == 0 && found == 1 && slots[0] == 1);
+    CHECK(finder_search_in(&f, query, DIM, 0, 2, NULL, NULL, scratch, &found) == 0 && found == 0);
     return 0;
 }
 
-/* Five, eight and four words, as the library writes them. */
-_Static_assert(sizeof(struct finder_guard_status) == 5 * sizeof(uint32_t), "five words");
-_Static_assert(sizeof(struct finder_report) == 8 * sizeof(uint32_t), "eight words");
-_Static_assert(sizeof(struct finder_stats) == 4 * sizeof(uint32_t), "four words");
+/* What the calls do with null: an empty list, whatever its length. */
+static int nulls(void)
+{
+    static const struct finder nothing;
+    static const struct finder_scratch no_scratch;
+    struct finder none = nothing;
+    struct finder_assessment a;
+    uint8_t query = 2;
+    uint32_t slots[2];
+    float dists[2];
+    uint32_t found = 77;
+    CHECK(finder_search_in(&f, NULL, DIM, 2, 2, slots, dists, scratch, &found) == FINDER_BAD_LENGTH);
+    CHECK(finder_search_in(&f, &query, DIM, 2, 2, NULL, dists, scratch, &found) == FINDER_OVER_LIMIT);
+    CHECK(finder_search_in(&f, &query, DIM, 2, 2, slots, NULL, scratch, &found) == FINDER_OVER_LIMIT);
+    CHECK(finder_search_in(&f, &query, DIM, 2, 2, slots, dists, no_scratch, &found) == FINDER_SHORT_SCRATCH);
+    CHECK(finder_insert_in(&f, &query, DIM, 2, NULL, 1, scratch, &found) == FINDER_BAD_LENGTH);
+    CHECK(finder_delete_in(&f, slots, 1, 2, 1, NULL, scratch, &found) == FINDER_BAD_LENGTH && found == 77);
+    CHECK(finder_insert_in(&f, NULL, DIM, 2, NULL, 1, scratch, &found) == 0 && found == 0);
+    CHECK(finder_delete_in(&f, NULL, 1, 2, 1, NULL, scratch, &found) == 0 && found == 0);
+    CHECK(finder_assess_in(&f, NULL, 1, scratch, &a) == FINDER_GUARD_OFF);
+    CHECK(finder_lengths_in(&none).vectors == 0 && finder_lengths_in(&none).block_bytes == 0);
+    CHECK(finder_live_in(&none, &found) == FINDER_BAD_SIZES && finder_vector_in(&none, 0) == NULL);
+    CHECK(finder_create_in(&none, 1.0f, 0, 0, NULL, 0, NULL, 0) == FINDER_BAD_SIZES);
+    CHECK(finder_search_in(&none, &query, DIM, 2, 2, slots, dists, no_scratch, &found) == FINDER_BAD_SIZES);
+    none.words[FINDER_WORD_DIM] = DIM;
+    none.words[FINDER_WORD_CAPACITY] = CAPACITY;
+    none.words[FINDER_WORD_DEGREE] = DEGREE;
+    CHECK(finder_create_in(&none, 1.0f, 0, 0, NULL, 0, NULL, 0) == FINDER_BAD_LENGTH);
+    return 0;
+}
 
 /* The guard: landmarks are slot 2 and then slot 0; without slot 1 a walk from slot 0 meets no slot 2. */
 static int guard(void)
 {
     static const uint32_t ids[3] = { 1, 1, 9 };
-    uint32_t size = 0;
-    CHECK(finder_scratch_words(DIM, CAPACITY, DEGREE, &size) == 0);
-    struct finder_guard_status *status = block(sizeof *status);
-    struct finder_report *report = block(sizeof *report);
-    uint32_t *checked = block(FINDER_MAX_LANDMARKS * sizeof *checked);
-    uint32_t *lost = block(FINDER_MAX_LANDMARKS * sizeof *lost);
-    uint32_t *scratch = block(size * sizeof *scratch);
-    CHECK(finder_guard_status(words, SLICES, status) == 0 && status->enabled == 0 && status->pool_size == 0);
-    CHECK(finder_assess(words, SLICES, ids, 3, checked, FINDER_MAX_LANDMARKS, lost, FINDER_MAX_LANDMARKS, scratch, size, report) == FINDER_GUARD_OFF);
-    CHECK(finder_guard_enable(words, SLICES, 65, 1, 4, 4, scratch, size, status) == FINDER_OVER_LIMIT && words[6] == 0);
-    CHECK(finder_guard_enable(words, SLICES, 2, 0, 4, 4, scratch, size, status) == 0 && words[6] == 1 && words[11] == 2);
+    struct finder_status *status = block(sizeof *status);
+    struct finder_assessment *a = block(sizeof *a);
+    CHECK(finder_guard_status_in(&f, status) == 0 && status->enabled == 0 && status->pool_size == 0);
+    CHECK(finder_assess_in(&f, ids, 3, scratch, a) == FINDER_GUARD_OFF);
+    CHECK(finder_guard_enable_in(&f, 65, 1, 4, 4, scratch, status) == FINDER_OVER_LIMIT && f.words[FINDER_WORD_GUARD] == 0);
+    CHECK(finder_guard_enable_in(&f, 2, 0, 4, 4, scratch, status) == 0 && f.words[FINDER_WORD_GUARD] == 1);
+    CHECK(f.words[FINDER_WORD_LANDMARK_COUNT] == 2 && f.words[FINDER_WORD_MULTIPLIER] == 1 && f.words[FINDER_WORD_SAMPLE] == 4);
+    CHECK(f.words[FINDER_WORD_BEAM] == 4 && f.words[FINDER_WORD_POOL] == 2);
     CHECK(status->enabled == 1 && status->pool_size == 2 && status->live_landmarks == 2 && status->landmark_count == 2 && status->beam == 4);
-    CHECK(pool[0] == 2 && pool[1] == 0);
-    CHECK(finder_assess(words, SLICES, ids, 3, checked, 63, lost, FINDER_MAX_LANDMARKS, scratch, size, report) == FINDER_BAD_LENGTH);
-    CHECK(finder_assess(words, SLICES, ids, 3, checked, FINDER_MAX_LANDMARKS, lost, FINDER_MAX_LANDMARKS, scratch, size, report) == 0);
-    CHECK(report->admitted == 0 && report->requested == 1 && report->entry == 0 && report->checked == 2 && report->baseline == 2);
-    CHECK(report->residual == 1 && report->lost == 1 && report->supplemental == 0 && checked[0] == 2 && checked[1] == 0 && lost[0] == 2);
-    printf("deleting slot 1: %s, %u of %u landmarks lost\n", report->admitted ? "admitted" : "not admitted", (unsigned)report->lost, (unsigned)report->checked);
-    free(status);
-    free(report);
-    free(checked);
-    free(lost);
-    free(scratch);
+    CHECK(f.pool[0] == 2 && f.pool[1] == 0);
+    CHECK(finder_assess(f.words, SLICES, ids, 3, a->checked, 63, a->lost, FINDER_MAX_LANDMARKS, SCRATCH, &a->report) == FINDER_BAD_LENGTH);
+    CHECK(finder_assess_in(&f, ids, 3, scratch, a) == 0);
+    CHECK(a->report.admitted == 0 && a->report.requested == 1 && a->report.entry == 0 && a->report.checked == 2 && a->report.baseline == 2);
+    CHECK(a->report.residual == 1 && a->report.lost == 1 && a->report.supplemental == 0);
+    CHECK(a->checked[0] == 2 && a->checked[1] == 0 && a->lost[0] == 2);
+    TELL("deleting slot 1: %s, %u of %u landmarks lost\n", a->report.admitted ? "admitted" : "not admitted", (unsigned)a->report.lost, (unsigned)a->report.checked);
     return 0;
 }
 
 static int insert(void)
 {
-    uint32_t size = 0;
     uint32_t found = 77;
     uint32_t n = 77;
-    CHECK(finder_scratch_words(DIM, CAPACITY, DEGREE, &size) == 0);
     uint8_t *bytes = block(2 * DIM);
     uint32_t *slots = block(2 * sizeof *slots);
-    uint32_t *scratch = block(size * sizeof *scratch);
     bytes[0] = 6;
     bytes[1] = 7;
     slots[0] = 77;
     slots[1] = 77;
-    CHECK(finder_insert(words, SLICES, bytes, 2 * DIM, 2, slots, 1, scratch, size, &found) == FINDER_BAD_LENGTH);
-    CHECK(finder_insert(words, SLICES, bytes, 2 * DIM, 2, slots, 2, scratch, size, &found) == FINDER_FULL);
-    CHECK(found == 77 && slots[0] == 77 && marks[3] == 0 && words[5] == COUNT);
-    CHECK(finder_insert(words, SLICES, bytes, DIM, 2, slots, 2, scratch, size, &found) == 0);
+    CHECK(finder_insert_in(&f, bytes, 2 * DIM, 2, slots, 1, scratch, &found) == FINDER_BAD_LENGTH);
+    CHECK(finder_insert_in(&f, bytes, 2 * DIM, 2, slots, 2, scratch, &found) == FINDER_FULL);
+    CHECK(found == 77 && slots[0] == 77 && f.marks[3] == 0 && f.words[FINDER_WORD_LIVE] == COUNT);
+    CHECK(finder_insert_in(&f, bytes, DIM, 2, slots, 2, scratch, &found) == 0);
     CHECK(found == 1 && slots[0] == 3 && slots[1] == 77);
-    CHECK(finder_live(words, SLICES, &n) == 0 && n == CAPACITY);
-    CHECK(finder_vector(words, SLICES, 3) == DIM && vectors[3 * DIM] == 6);
-    CHECK(finder_target(words, SLICES, 3, 0, &n) == 0 && n == 1);
-    CHECK(finder_target(words, SLICES, 3, 1, &n) == 0 && n == 2);
-    CHECK(finder_target(words, SLICES, 1, 0, &n) == 0 && n == 0);
-    CHECK(finder_target(words, SLICES, 1, 1, &n) == 0 && n == 3);
-    CHECK(finder_target(words, SLICES, 2, 0, &n) == 0 && n == 3);
-    CHECK(finder_target(words, SLICES, 2, 1, &n) == 0 && n == FINDER_BLANK);
-    printf("6 is inserted into slot %u\n", (unsigned)slots[0]);
-    CHECK(finder_insert(words, SLICES, bytes, DIM, 2, slots, 2, scratch, size, &found) == FINDER_FULL && found == 1);
-    free(bytes);
-    free(slots);
-    free(scratch);
+    CHECK(finder_live_in(&f, &n) == 0 && n == CAPACITY);
+    CHECK(*finder_vector_in(&f, 3) == 6);
+    CHECK(finder_target_in(&f, 3, 0, &n) == 0 && n == 1);
+    CHECK(finder_target_in(&f, 3, 1, &n) == 0 && n == 2);
+    CHECK(finder_target_in(&f, 1, 0, &n) == 0 && n == 0);
+    CHECK(finder_target_in(&f, 1, 1, &n) == 0 && n == 3);
+    CHECK(finder_target_in(&f, 2, 0, &n) == 0 && n == 3);
+    CHECK(finder_target_in(&f, 2, 1, &n) == 0 && n == FINDER_BLANK);
+    TELL("6 is inserted into slot %u\n", (unsigned)slots[0]);
+    CHECK(finder_insert_in(&f, bytes, DIM, 2, slots, 2, scratch, &found) == FINDER_FULL && found == 1);
     return 0;
 }
 
@@ -180,83 +232,70 @@ static int delete(void)
 {
     static const uint32_t ids[3] = { 1, 9, 1 };
     static const uint32_t left[CAPACITY][3] = { { 1, 3, FINDER_BLANK }, { 0, FINDER_BLANK, FINDER_BLANK }, { 1, 3, FINDER_BLANK }, { 1, 2, 0 } };
-    uint32_t size = 0;
     uint32_t found = 77;
     uint32_t n = 77;
-    CHECK(finder_scratch_words(DIM, CAPACITY, DEGREE, &size) == 0);
     struct finder_stats *stats = block(3 * sizeof *stats);
-    uint32_t *scratch = block(size * sizeof *scratch);
     stats[0].outgoing_seeds = 77;
     stats[1].outgoing_seeds = 77;
-    CHECK(finder_delete(words, SLICES, ids, 3, 2, 1, stats, 2, scratch, size, &found) == FINDER_BAD_LENGTH);
-    CHECK(finder_delete(words, SLICES, ids, 3, 2, FINDER_MAX_REPAIR_DEGREE + 1, stats, 3, scratch, size, &found) == FINDER_OVER_LIMIT);
-    CHECK(found == 77 && stats[0].outgoing_seeds == 77 && marks[1] != 0 && words[5] == CAPACITY);
-    CHECK(finder_delete(words, SLICES, ids, 3, 2, 1, stats, 3, scratch, size, &found) == 0 && found == 1);
+    CHECK(finder_delete(f.words, SLICES, ids, 3, 2, 1, stats, 2, SCRATCH, &found) == FINDER_BAD_LENGTH);
+    CHECK(finder_delete_in(&f, ids, 3, 2, FINDER_MAX_REPAIR_DEGREE + 1, stats, scratch, &found) == FINDER_OVER_LIMIT);
+    CHECK(found == 77 && stats[0].outgoing_seeds == 77 && f.marks[1] != 0 && f.words[FINDER_WORD_LIVE] == CAPACITY);
+    CHECK(finder_delete_in(&f, ids, 3, 2, 1, stats, scratch, &found) == 0 && found == 1);
     CHECK(stats[0].outgoing_seeds == 2 && stats[0].recovered_in_neighbors == 1 && stats[0].repair_candidates == 2 && stats[0].repair_edges_attempted == 2);
     CHECK(stats[1].outgoing_seeds == 77);
-    CHECK(finder_entry(words, SLICES, &n) == 0 && n == 0);
-    CHECK(finder_live(words, SLICES, &n) == 0 && n == COUNT);
+    CHECK(finder_entry_in(&f, &n) == 0 && n == 0 && f.words[FINDER_WORD_ENTRY] == 0);
+    CHECK(finder_live_in(&f, &n) == 0 && n == COUNT);
     for (uint32_t slot = 0; slot < CAPACITY; slot++) {
-        CHECK(finder_mark(words, SLICES, slot, &n) == 0 && n == left[slot][0]);
-        CHECK(finder_slot_version(words, SLICES, slot, &n) == 0 && n == (slot == 1));
-        CHECK(finder_target(words, SLICES, slot, 0, &n) == 0 && n == left[slot][1]);
-        CHECK(finder_target(words, SLICES, slot, 1, &n) == 0 && n == left[slot][2]);
+        CHECK(finder_mark_in(&f, slot, &n) == 0 && n == left[slot][0]);
+        CHECK(finder_slot_version_in(&f, slot, &n) == 0 && n == (slot == 1));
+        CHECK(finder_target_in(&f, slot, 0, &n) == 0 && n == left[slot][1]);
+        CHECK(finder_target_in(&f, slot, 1, &n) == 0 && n == left[slot][2]);
     }
-    printf("slot 1 is deleted: entry %u, %u links\n", (unsigned)words[4], (unsigned)stats[0].repair_edges_attempted);
-    CHECK(finder_delete(words, SLICES, ids, 3, 2, 1, stats, 3, scratch, size, &found) == 0 && found == 0);
-    free(stats);
-    free(scratch);
+    TELL("slot 1 is deleted: entry %u, %u links\n", (unsigned)f.words[FINDER_WORD_ENTRY], (unsigned)stats[0].repair_edges_attempted);
+    CHECK(finder_delete_in(&f, ids, 3, 2, 1, stats, scratch, &found) == 0 && found == 0);
     return 0;
 }
 
-/* What a guarded delete writes beside words and slices. */
-static struct finder_report *report;
+/* What a guarded delete writes beside the index. */
+static struct finder_assessment *a;
 static struct finder_stats *stats;
-static uint32_t *checked;
-static uint32_t *lost;
 static uint32_t found;
 
-/* A guarded delete with repair beam 2 and repair degree 1, for a list of so many stats. */
-static uint32_t guarded_delete(const uint32_t *ids, size_t count, size_t room)
+/* A guarded delete with repair beam 2 and repair degree 1. */
+static uint32_t guarded_delete(const uint32_t *ids, size_t count)
 {
-    uint32_t size = 0;
-    finder_scratch_words(DIM, CAPACITY, DEGREE, &size);
-    uint32_t *scratch = block(size * sizeof *scratch);
-    uint32_t refused = finder_guarded_delete(words, SLICES, ids, count, 2, 1, stats, room, checked, FINDER_MAX_LANDMARKS, lost, FINDER_MAX_LANDMARKS,
-        scratch, size, &found, report);
-    free(scratch);
-    return refused;
+    return finder_guarded_delete_in(&f, ids, count, 2, 1, stats, scratch, &found, a);
 }
 
 /* Slot 3, without which a walk from slot 0 meets no slot 2. No error: the report is written, and words, slices and stats stay. */
 static int deferred(void)
 {
     static const uint32_t ids[1] = { 3 };
-    CHECK(guarded_delete(ids, 1, 1) == 0 && report->admitted == 0 && found == 0);
-    CHECK(report->requested == 1 && report->entry == 0 && report->checked == 2 && report->baseline == 2 && report->residual == 1);
-    CHECK(report->lost == 1 && report->supplemental == 0);
-    CHECK(checked[0] == 2 && checked[1] == 0 && checked[2] == 77 && lost[0] == 2 && lost[1] == 77 && stats[0].outgoing_seeds == 77);
-    CHECK(words[4] == 0 && words[5] == COUNT && marks[3] != 0 && versions[3] == 0);
-    printf("deleting slot 3: deferred, landmark %u would be lost\n", (unsigned)lost[0]);
+    CHECK(guarded_delete(ids, 1) == 0 && a->report.admitted == 0 && found == 0);
+    CHECK(a->report.requested == 1 && a->report.entry == 0 && a->report.checked == 2 && a->report.baseline == 2 && a->report.residual == 1);
+    CHECK(a->report.lost == 1 && a->report.supplemental == 0);
+    CHECK(a->checked[0] == 2 && a->checked[1] == 0 && a->checked[2] == 77 && a->lost[0] == 2 && a->lost[1] == 77 && stats[0].outgoing_seeds == 77);
+    CHECK(f.words[FINDER_WORD_ENTRY] == 0 && f.words[FINDER_WORD_LIVE] == COUNT && f.marks[3] != 0 && f.versions[3] == 0);
+    TELL("deleting slot 3: deferred, landmark %u would be lost\n", (unsigned)a->lost[0]);
     return 0;
 }
 
-/* Slot 2, itself a landmark. The report and the stats are written, and words and slices are those that finder_delete leaves. */
+/* Slot 2, itself a landmark. The report and the stats are written, and words and slices are those that a delete leaves. */
 static int applied(void)
 {
     static const uint32_t ids[3] = { 2, 9, 2 };
     uint32_t n = 77;
-    CHECK(guarded_delete(ids, 3, 3) == 0 && report->admitted == 1 && found == 1);
-    CHECK(report->requested == 1 && report->entry == 0 && report->checked == 2 && report->baseline == 2 && report->residual == 2);
-    CHECK(report->lost == 0 && report->supplemental == 1 && checked[0] == 0 && checked[1] == 3 && checked[2] == 77 && lost[0] == 2);
+    CHECK(guarded_delete(ids, 3) == 0 && a->report.admitted == 1 && found == 1);
+    CHECK(a->report.requested == 1 && a->report.entry == 0 && a->report.checked == 2 && a->report.baseline == 2 && a->report.residual == 2);
+    CHECK(a->report.lost == 0 && a->report.supplemental == 1 && a->checked[0] == 0 && a->checked[1] == 3 && a->checked[2] == 77 && a->lost[0] == 2);
     CHECK(stats[0].outgoing_seeds == 1 && stats[0].recovered_in_neighbors == 1 && stats[0].repair_candidates == 1 && stats[0].repair_edges_attempted == 0);
     CHECK(stats[1].outgoing_seeds == 77);
-    CHECK(finder_live(words, SLICES, &n) == 0 && n == COUNT - 1);
-    CHECK(finder_mark(words, SLICES, 2, &n) == 0 && n == 0);
-    CHECK(finder_slot_version(words, SLICES, 2, &n) == 0 && n == 1);
-    CHECK(finder_target(words, SLICES, 3, 0, &n) == 0 && n == 0);
-    CHECK(finder_target(words, SLICES, 3, 1, &n) == 0 && n == FINDER_BLANK);
-    printf("deleting slot 2: applied, %u of %u landmarks lost\n", (unsigned)report->lost, (unsigned)report->checked);
+    CHECK(finder_live_in(&f, &n) == 0 && n == COUNT - 1);
+    CHECK(finder_mark_in(&f, 2, &n) == 0 && n == 0);
+    CHECK(finder_slot_version_in(&f, 2, &n) == 0 && n == 1);
+    CHECK(finder_target_in(&f, 3, 0, &n) == 0 && n == 0);
+    CHECK(finder_target_in(&f, 3, 1, &n) == 0 && n == FINDER_BLANK);
+    TELL("deleting slot 2: applied, %u of %u landmarks lost\n", (unsigned)a->report.lost, (unsigned)a->report.checked);
     return 0;
 }
 
@@ -264,28 +303,101 @@ static int applied(void)
 static int guarded(void)
 {
     static const uint32_t ids[2] = { 0, 3 };
-    struct finder_guard_status status;
-    report = block(sizeof *report);
+    struct finder_status status;
+    a = block(sizeof *a);
     stats = block(3 * sizeof *stats);
-    checked = block(FINDER_MAX_LANDMARKS * sizeof *checked);
-    lost = block(FINDER_MAX_LANDMARKS * sizeof *lost);
     found = 77;
     for (int i = 0; i < 3; i++)
-        stats[i].outgoing_seeds = checked[i] = lost[i] = 77;
-    CHECK(guarded_delete(ids, 2, 1) == FINDER_BAD_LENGTH);
-    words[6] = 0;
-    CHECK(guarded_delete(ids, 2, 2) == FINDER_GUARD_OFF);
-    words[6] = 1;
-    CHECK(found == 77 && stats[0].outgoing_seeds == 77 && checked[0] == 77 && lost[0] == 77 && words[5] == COUNT);
+        stats[i].outgoing_seeds = a->checked[i] = a->lost[i] = 77;
+    CHECK(finder_guarded_delete(f.words, SLICES, ids, 2, 2, 1, stats, 1, a->checked, FINDER_MAX_LANDMARKS, a->lost, FINDER_MAX_LANDMARKS, SCRATCH, &found,
+        &a->report) == FINDER_BAD_LENGTH);
+    f.words[FINDER_WORD_GUARD] = 0;
+    CHECK(guarded_delete(ids, 2) == FINDER_GUARD_OFF);
+    f.words[FINDER_WORD_GUARD] = 1;
+    CHECK(found == 77 && stats[0].outgoing_seeds == 77 && a->checked[0] == 77 && a->lost[0] == 77 && f.words[FINDER_WORD_LIVE] == COUNT);
     if (deferred() || applied())
         return 1;
-    CHECK(finder_guard_status(words, SLICES, &status) == 0 && status.enabled == 1 && status.pool_size == 2 && status.live_landmarks == 1);
-    CHECK(guarded_delete(ids, 0, 0) == 0 && found == 0 && report->admitted == 1 && report->requested == 0 && report->entry == FINDER_BLANK);
-    CHECK(guarded_delete(ids, 2, 2) == 0 && found == 0 && report->admitted == 0 && report->requested == 2 && report->entry == FINDER_BLANK);
-    free(report);
-    free(stats);
-    free(checked);
-    free(lost);
+    CHECK(finder_guard_status_in(&f, &status) == 0 && status.enabled == 1 && status.pool_size == 2 && status.live_landmarks == 1);
+    CHECK(guarded_delete(NULL, 0) == 0 && found == 0 && a->report.admitted == 1 && a->report.requested == 0 && a->report.entry == FINDER_BLANK);
+    CHECK(guarded_delete(ids, 2) == 0 && found == 0 && a->report.admitted == 0 && a->report.requested == 2 && a->report.entry == FINDER_BLANK);
+    return 0;
+}
+
+/* The readings on the index in parts, and a slice that is one element short. */
+static int parts(void)
+{
+    uint32_t n = 77;
+    float alpha = 0;
+    CHECK(finder_dim(f.words, SLICES, &n) == 0 && n == DIM);
+    CHECK(finder_capacity(f.words, SLICES, &n) == 0 && n == CAPACITY);
+    CHECK(finder_degree(f.words, SLICES, &n) == 0 && n == DEGREE);
+    CHECK(finder_alpha(f.words, SLICES, &alpha) == 0 && alpha == 1.0f);
+    CHECK(finder_entry(f.words, SLICES, &n) == 0 && n == 0);
+    CHECK(finder_live(f.words, SLICES, &n) == 0 && n == 2);
+    CHECK(finder_mark(f.words, SLICES, 3, &n) == 0 && n == 1);
+    CHECK(finder_slot_version(f.words, SLICES, 2, &n) == 0 && n == 1);
+    CHECK(finder_target(f.words, SLICES, 3, 0, &n) == 0 && n == 0);
+    CHECK(finder_vector(f.words, SLICES, 3) == DIM && finder_vector(f.words, SLICES, 2) == 0);
+    CHECK(finder_dim(f.words, f.vectors, CAPACITY * DIM - 1, f.targets, CAPACITY * DEGREE, f.edges, CAPACITY * DEGREE, f.versions, CAPACITY, f.marks, CAPACITY,
+        f.pool, FINDER_POOL, &n) == FINDER_BAD_LENGTH);
+    return 0;
+}
+
+/* Words and block to another place, as through a file: the same index, to the byte. */
+static int store_and_load(void)
+{
+    struct finder again;
+    struct finder_layout n = finder_lengths_in(&f);
+    uint32_t words[FINDER_INDEX_WORDS];
+    uint8_t *copy = block(n.block_bytes);
+    uint8_t *unaligned = block(n.block_bytes + 1);
+    uint32_t live = 77;
+    CHECK(n.block_bytes == (size_t)((uint8_t *)f.marks + n.marks - (uint8_t *)f.targets));
+    memcpy(words, f.words, sizeof words);
+    memcpy(copy, f.targets, n.block_bytes);
+    again.words[0] = 77;
+    CHECK(finder_load(&again, words, copy, n.block_bytes - 1) == FINDER_BAD_LENGTH);
+    CHECK(finder_load(&again, words, NULL, n.block_bytes) == FINDER_BAD_LENGTH);
+    CHECK(finder_load(&again, words, unaligned + 1, n.block_bytes) == FINDER_BAD_LENGTH);
+    words[FINDER_WORD_LIVE]++;
+    CHECK(finder_load(&again, words, copy, n.block_bytes) == FINDER_BAD_INDEX);
+    words[FINDER_WORD_LIVE]--;
+    words[FINDER_WORD_DIM] = 0;
+    CHECK(finder_load(&again, words, copy, n.block_bytes) == FINDER_BAD_SIZES && again.words[0] == 77);
+    words[FINDER_WORD_DIM] = DIM;
+    CHECK(finder_load(&again, words, copy, n.block_bytes) == 0);
+    CHECK(memcmp(again.words, f.words, sizeof words) == 0 && memcmp(again.targets, f.targets, n.block_bytes) == 0);
+    CHECK(finder_live_in(&again, &live) == 0 && live == f.words[FINDER_WORD_LIVE]);
+    CHECK(*finder_vector_in(&again, 3) == 6 && finder_vector_in(&again, 2) == NULL);
+    return 0;
+}
+
+/* Lengths and layout, at the limits too. */
+static int lengths(void)
+{
+    struct finder_layout n = { 77, 0, 0, 0, 0, 0, 0, 0 };
+    struct finder g;
+    struct finder_scratch s;
+    uint32_t size = 77;
+    uint32_t *words = block(3 * sizeof *words);
+    uint8_t *most;
+    CHECK(finder_lengths(257, CAPACITY, DEGREE, &n) == FINDER_BAD_SIZES && n.vectors == 77);
+    CHECK(finder_lengths(FINDER_MAX_DIM, FINDER_MAX_CAPACITY, FINDER_MAX_DEGREE, &n) == 0);
+    CHECK(n.vectors == 65536 * 256 && n.targets == 65536 * 64 && n.edges == n.targets && n.versions == 65536 && n.marks == 65536 && n.pool == FINDER_POOL);
+    CHECK(n.block_bytes == n.vectors + 6 * n.targets + 3 * n.versions + 4 * FINDER_POOL);
+    CHECK(finder_scratch_words(FINDER_MAX_DIM, FINDER_MAX_CAPACITY, FINDER_MAX_DEGREE, &size) == 0 && n.scratch_bytes == 4 * (size_t)size);
+    most = block(n.block_bytes);
+    CHECK(finder_place(&g, most, n.block_bytes, FINDER_MAX_DIM, FINDER_MAX_CAPACITY, FINDER_MAX_DEGREE) == 0);
+    CHECK((uint8_t *)g.targets == most && g.pool == g.targets + n.targets && (void *)g.edges == (void *)(g.pool + n.pool));
+    CHECK(g.versions == g.edges + n.edges && (void *)g.vectors == (void *)(g.versions + n.versions) && g.marks == g.vectors + n.vectors);
+    CHECK(g.marks + n.marks == most + n.block_bytes);
+    CHECK(finder_place(&g, most, n.block_bytes - 1, FINDER_MAX_DIM, FINDER_MAX_CAPACITY, FINDER_MAX_DEGREE) == FINDER_BAD_LENGTH);
+    CHECK(finder_place(&g, most + 2, n.block_bytes, DIM, CAPACITY, DEGREE) == FINDER_BAD_LENGTH);
+    CHECK(finder_place(&g, NULL, n.block_bytes, DIM, CAPACITY, DEGREE) == FINDER_BAD_LENGTH);
+    CHECK(finder_place(&g, most, n.block_bytes, DIM, CAPACITY, 0) == FINDER_BAD_SIZES);
+    CHECK(finder_place_scratch(&s, NULL, 4) == FINDER_SHORT_SCRATCH && finder_place_scratch(&s, words, 3) == FINDER_SHORT_SCRATCH);
+    CHECK(finder_place_scratch(&s, (uint8_t *)words + 1, 8) == FINDER_SHORT_SCRATCH);
+    CHECK(finder_place_scratch(&s, words, 11) == 0 && s.words == words && s.length == 2);
     return 0;
 }
 
@@ -293,22 +405,50 @@ static int refuse(void)
 {
     uint32_t n = 77;
     CHECK(finder_scratch_words(257, CAPACITY, DEGREE, &n) == FINDER_BAD_SIZES && n == 77);
-    CHECK(make(0.5f) == FINDER_BAD_ALPHA && words[0] == DIM);
-    words[5] = 3;
-    CHECK(finder_dim(words, SLICES, &n) == FINDER_BAD_INDEX && n == 77);
-    CHECK(finder_vector(words, SLICES, 3) == 0);
-    printf("an index with a live count of 3 and two marks: refused with %d\n", FINDER_BAD_INDEX);
-    words[3] = 0x7fc00000u;
-    CHECK(finder_dim(words, SLICES, &n) == FINDER_BAD_ALPHA && n == 77);
+    CHECK(finder_create_in(&f, 0.5f, 1, COUNT, given_bytes, COUNT, given_rows, COUNT * DEGREE) == FINDER_BAD_ALPHA && f.words[FINDER_WORD_DIM] == DIM);
+    f.words[FINDER_WORD_LIVE] = 3;
+    CHECK(finder_dim_in(&f, &n) == FINDER_BAD_INDEX && n == 77);
+    CHECK(finder_vector_in(&f, 3) == NULL);
+    TELL("an index with a live count of 3 and two marks: refused with %d, %s\n", FINDER_BAD_INDEX, finder_refusal_text(FINDER_BAD_INDEX));
+    f.words[FINDER_WORD_ALPHA] = 0x7fc00000u;
+    CHECK(finder_dim_in(&f, &n) == FINDER_BAD_ALPHA && n == 77);
+    f.words[FINDER_WORD_CAPACITY] = 0xffffffffu;
+    CHECK(finder_dim_in(&f, &n) == FINDER_BAD_SIZES && n == 77);
     return 0;
+}
+
+/* A name and a text of its own for each number. */
+static int texts(void)
+{
+    CHECK(FINDER_OK == 0 && FINDER_BAD_SIZES == 1 && FINDER_BAD_INDEX == 6 && FINDER_FULL == 10 && FINDER_NO_LANDMARK == 13);
+    for (uint32_t i = 0; i <= 14; i++)
+        for (uint32_t j = 0; j < i; j++)
+            CHECK(strcmp(finder_refusal_text(i), finder_refusal_text(j)) != 0);
+    CHECK(strcmp(finder_refusal_text(14), finder_refusal_text(0xffffffffu)) == 0);
+    CHECK(strcmp(finder_refusal_text(FINDER_GUARD_OFF), "the guard is off") == 0);
+    return 0;
+}
+
+static int version(void)
+{
+    CHECK(FINDER_VERSION == 10000 * FINDER_VERSION_MAJOR + 100 * FINDER_VERSION_MINOR + FINDER_VERSION_PATCH);
+#ifdef HAVE_FINDER_VERSION
+    CHECK(finder_version() == FINDER_VERSION);
+#endif
+    return 0;
+}
+
+static int all_calls(void)
+{
+    return make() || read_all() || search() || nulls() || guard() || insert() || delete() || guarded() || parts();
 }
 
 int main(void)
 {
-    lend();
-    CHECK(make(3.0f) == FINDER_BAD_ALPHA);
-    CHECK(make(1.0f) == 0);
-    int wrong = read_all() || search() || guard() || insert() || delete() || guarded() || refuse();
+    int wrong = texts() || version() || lengths() || lend_block() || all_calls() || store_and_load() || refuse();
+    take_back();
+    telling = 0;
+    wrong = wrong || lend_slices() || all_calls() || refuse();
     take_back();
     return wrong;
 }
