@@ -1,6 +1,8 @@
 #!/bin/sh
-# Builds the archive of the crate `finder`, and runs the examples that link it: the one in C under valgrind, the one in Rust as its tests. Prints a line for
-# each. Needs the Rattle kit, gcc, valgrind and cargo; everything is written below target/.
+# Builds the archive of the crate `finder`, compiles the headers every way (headers.sh), and runs the examples that link it: those in C and C++ under valgrind and
+# with the sanitizers of gcc and clang, and as programs outside the tree against an installed library (installed/run.sh), the one in Rust as its tests. Prints a
+# line for each. Needs the Rattle kit, gcc, g++, clang, libclang-rt-dev, valgrind, pkg-config, cmake and cargo. Everything is written below target/, but what is
+# built outside the tree, which is removed. None of it is part of the proof.
 set -eu
 cd "$(dirname "$0")/.."
 out=$PWD/target/examples
@@ -21,8 +23,33 @@ step() {
 
 step archive rt staticlib finder
 step only-memset sh -c "nm -u target/staticlib/libfinder.a | awk '/ U / && \$2 != \"memset\" { print; bad = 1 } END { exit bad }'"
-step c-build gcc -std=c11 -Wall -Wextra -Werror -Iinclude -o "$out/shelf" examples/c/shelf.c target/staticlib/libfinder.a
-step c-run valgrind --error-exitcode=1 --leak-check=full -q "$out/shelf"
-sed 's/^/  /' "$out/c-run.log"
+step headers examples/headers.sh
+sed 's/^/  /' "$out/headers.log"
+
+# example NAME COMPILER CLANG FILE: built and run under valgrind, then with the sanitizers of both compilers
+lib=target/staticlib/libfinder.a
+strict="-Wall -Wextra -pedantic -Werror -Iinclude -g"
+sanitize="-fsanitize=address,undefined -fno-sanitize-recover=all"
+if nm "$lib" | grep -q ' T finder_version$'; then
+    strict="$strict -DHAVE_FINDER_VERSION"
+else
+    echo "version: not tested, the archive has no finder_version"
+fi
+example() {
+    step "$1-build" $2 $strict -o "$out/$1" "$4" "$lib"
+    step "$1" valgrind --error-exitcode=1 --leak-check=full -q "$out/$1"
+    sed 's/^/  /' "$out/$1.log"
+    for compiler in "$2" "$3"; do
+        short=${compiler%% *}
+        step "$1-$short-build" $compiler $strict $sanitize -o "$out/$1-$short" "$4" "$lib"
+        step "$1-$short-sanitizers" "$out/$1-$short"
+    done
+}
+example c-first "gcc -std=c99" "clang -std=c99" examples/c/first.c
+example c-shelf "gcc -std=c99" "clang -std=c99" examples/c/shelf.c
+example cpp-first "g++ -std=c++11" "clang++ -std=c++11" examples/cpp/first.cpp
+example cpp-test "g++ -std=c++11" "clang++ -std=c++11" examples/cpp/test.cpp
+
+step installed examples/installed/run.sh
 step rust-test cargo test --offline --manifest-path examples/rust/Cargo.toml --target-dir "$out/rust"
 sed -n 's/^test result: /  /p' "$out/rust-test.log" | sed 1q
