@@ -28,7 +28,7 @@ sed 's/^/  /' "$out/headers.log"
 
 # example NAME COMPILER CLANG FILE: built and run under valgrind, then with the sanitizers of both compilers
 lib=target/staticlib/libfinder.a
-strict="-Wall -Wextra -pedantic -Werror -Iinclude -g"
+strict="-Wall -Wextra -pedantic -Werror -Iinclude -g -pthread"
 sanitize="-fsanitize=address,undefined -fno-sanitize-recover=all"
 if nm "$lib" | grep -q ' T finder_version$'; then
     strict="$strict -DHAVE_FINDER_VERSION"
@@ -49,6 +49,7 @@ example c-first "gcc -std=c99" "clang -std=c99" examples/c/first.c
 example c-shelf "gcc -std=c99" "clang -std=c99" examples/c/shelf.c
 example cpp-first "g++ -std=c++11" "clang++ -std=c++11" examples/cpp/first.cpp
 example cpp-test "g++ -std=c++11" "clang++ -std=c++11" examples/cpp/test.cpp
+step cpp-test-threads valgrind --tool=helgrind --error-exitcode=1 -q "$out/cpp-test"
 
 step installed examples/installed/run.sh
 step rust-test cargo test --offline --manifest-path examples/rust/Cargo.toml --target-dir "$out/rust"

@@ -108,6 +108,11 @@ enum finder_word {
 #define FINDER_MAX_REPAIR_BEAM 256
 #define FINDER_MAX_REPAIR_DEGREE 16
 
+/*
+ * Values to begin with, those of docs/YEAR.md: degree 32, alpha 1.2, beam 64 for searches and inserts, repair beam 64 and repair degree 4, and for the guard 64
+ * landmarks, multiplier 1, sample 1,024 and beam 16.
+ */
+
 /* The refusals: number, name, text. */
 #define FINDER_REFUSALS(REFUSAL) \
     REFUSAL(0, FINDER_OK, "carried out") \
@@ -116,7 +121,8 @@ enum finder_word {
     REFUSAL(3, FINDER_BAD_LENGTH, "a slice or another list has another length than it must") \
     REFUSAL(4, FINDER_TOO_MANY, "more vectors are given than there are slots") \
     REFUSAL(5, FINDER_BAD_GIVEN, "a given row names neither blank nor a given slot, or the entry is not given (0 where none is given)") \
-    REFUSAL(6, FINDER_BAD_INDEX, "the live count differs from the marks, the entry is not below capacity, or the guard is on with a setting or a pool outside its range") \
+    REFUSAL(6, FINDER_BAD_INDEX, "the live count differs from the marks, the entry is not below capacity, or the guard is on with a setting or a pool " \
+        "outside its range") \
     REFUSAL(7, FINDER_OVER_LIMIT, "a beam, a repair degree or a setting of the guard over its limit, k over the length of an output, or too many ids") \
     REFUSAL(8, FINDER_SHORT_SCRATCH, "the scratch is shorter than the sizes ask for") \
     REFUSAL(9, FINDER_BAD_BATCH, "the bytes to be inserted are no whole number of vectors") \
@@ -169,8 +175,8 @@ struct finder_report {
  * An index. finder_place or finder_load fills it, after which it is passed by address and neither changed by hand nor used as a copy: the lengths of the slices
  * are worked out from its words.
  *
- * Words and block are the whole index. To store it, write the words and the block's first finder_lengths_in(f).block_bytes bytes; to have it again, finder_load. Both
- * are in the machine's byte order, and the block is as finder_place of this major version lays it out.
+ * Words and block are the whole index. To store it, write the words and the first finder_lengths_in(f).block_bytes bytes of the block; to have it again, call
+ * finder_load. Both are in the machine's byte order, and the block is laid out as finder_place of this major version does.
  */
 struct finder {
     uint32_t words[FINDER_INDEX_WORDS];
@@ -235,8 +241,8 @@ FINDER_CHECKED static inline uint32_t finder_place_scratch(struct finder_scratch
 static inline struct finder_layout finder_lengths_in(const struct finder *f);
 
 /*
- * The calls. Lists come with their lengths, but for these: slots and dists of a search have k places, and stats has ids_len. A null pointer counts as an empty list, whatever
- * its length says. Other pointers are not null.
+ * The calls. Lists come with their lengths, but for these: slots and dists of a search have k places, and stats has ids_len. A null pointer counts as an empty
+ * list, whatever its length says; pointers to what is no list are not null.
  */
 
 FINDER_CHECKED static inline uint32_t finder_create_in(struct finder *f, float alpha, uint32_t entry, uint32_t count,
@@ -304,8 +310,8 @@ FINDER_CHECKED uint32_t finder_scratch_words(uint32_t dim, uint32_t capacity, ui
 /*
  * Makes an index of which the first count slots are given: bytes has the vectors (count * dim), rows the references (count * degree, each FINDER_BLANK or
  * a given slot). Whatever the six slices held, they are written whole, and so are the index's words. The guard is off.
- * Alpha says how full pruning leaves the rows: going from near to far, it drops a candidate whose distance to the row's slot is more than alpha times that to a
- * reference taken before, so a larger alpha keeps more references. 1.2 is the usual value, and the one that was measured; 1.0 keeps the fewest.
+ * Alpha says how full pruning leaves the rows: going from near to far, it drops a candidate whose (squared) distance to the row's slot is more than alpha
+ * times that to a reference taken before, so a larger alpha keeps more references. 1.0 keeps the fewest; 1.2 is usual, and what was measured.
  * Refusals, in order: 1, 2, 3 (one of the six slices, bytes or rows), 4, 5.
  */
 FINDER_CHECKED uint32_t finder_create(uint32_t dim, uint32_t capacity, uint32_t degree, float alpha, uint32_t entry, uint32_t count,
@@ -353,8 +359,8 @@ FINDER_CHECKED size_t finder_vector(const uint32_t words[FINDER_INDEX_WORDS], FI
  * Walks the graph from the entry with a list of at most beam slots and gives the k nearest to the query that it finds, nearest first, of equals the lower slot
  * first. Their number is written to *found: at most k, at most beam, and 0 where the entry is dead. The slots and the distances (sums of squared differences,
  * whole numbers; no root is taken) are written to the first *found places of the outputs; the places after them stay. The scratch is overwritten.
- * A larger beam finds more and takes longer; 0 and 1 give the entry alone. Take at least k. With 15,000 vectors 16, 64 and 256 found 96, 99.6 and 99.9 of 100 true
- * neighbours (docs/YEAR.md): 64 is a good beam to begin with.
+ * A larger beam finds more and takes longer; 0 and 1 give the entry alone. Take at least k. With 15,000 vectors 16, 64 and 256 found 95.9, 99.6 and 99.9 of 100
+ * true neighbours (docs/YEAR.md).
  * Refusals, in order: 1, 2, 3 (one of the six slices, or a query that is not dim long), 6, 7, 8.
  */
 FINDER_CHECKED uint32_t finder_search(const uint32_t words[FINDER_INDEX_WORDS], FINDER_LENT_READ,

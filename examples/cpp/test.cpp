@@ -4,6 +4,7 @@
 #include <array>
 #include <cstdio>
 #include <cstring>
+#include <thread>
 #include <type_traits>
 #include <vector>
 
@@ -139,6 +140,44 @@ int moves()
     return 0;
 }
 
+/* Threads that read one index, each with its own scratch and outputs, find what one alone finds. */
+int threads()
+{
+    const uint32_t dim = 8, count = 60, asked = 40;
+    Index filling(dim, count, 4);
+    Scratch scratch(filling);
+    CHECK(filling && scratch && filling.create(1.2f) == FINDER_OK);
+    for (uint32_t i = 0; i < count; i++) {
+        std::array<uint8_t, dim> grey;
+        std::array<uint32_t, 1> slot;
+        for (uint32_t j = 0; j < dim; j++)
+            grey[j] = static_cast<uint8_t>(i * 37 + j * j * 11);
+        CHECK(is(filling.insert(grey, 16, slot, scratch), 1u) && slot[0] == i);
+    }
+    const Index &index = filling;
+    std::array<uint32_t, 4> sums = { { 0, 0, 0, 0 } };
+    auto ask = [&index](uint32_t *sum) {
+        Scratch own(index);
+        for (uint32_t i = 0; i < asked; i++) {
+            std::array<uint32_t, 5> slots = { { 0, 0, 0, 0, 0 } };
+            std::array<float, 5> dists;
+            auto near = index.search(index.vector(i), 5, 16, slots, dists, own);
+            if (!near || near.value != 5 || dists[0] != 0)
+                return;
+            for (uint32_t slot : slots)
+                *sum = *sum * 31 + slot;
+        }
+    };
+    std::array<std::thread, 3> others;
+    for (size_t t = 0; t < others.size(); t++)
+        others[t] = std::thread(ask, &sums[t]);
+    ask(&sums[3]);
+    for (std::thread &other : others)
+        other.join();
+    CHECK(sums[3] != 0 && sums[0] == sums[3] && sums[1] == sums[3] && sums[2] == sums[3]);
+    return 0;
+}
+
 int nothing()
 {
     Index none;
@@ -173,7 +212,7 @@ int stored()
 
 int main()
 {
-    int wrong = lists() || readings() || changes() || guard() || moves() || nothing() || stored();
+    int wrong = lists() || readings() || changes() || guard() || moves() || threads() || nothing() || stored();
     if (!wrong)
         std::printf("all of finder.hpp is as it must be\n");
     return wrong;

@@ -18,8 +18,8 @@ fi
 
 PKG_CONFIG_PATH=$work/prefix/lib/pkgconfig
 export PKG_CONFIG_PATH
-header=$(sed -n 's/^#define FINDER_VERSION_M[A-Z]* //p' prefix/include/finder.h | paste -sd.)
-test "$(pkg-config --modversion finder | cut -d. -f1,2)" = "$header"
+header=$(sed -n 's/^#define FINDER_VERSION_[A-Z]* //p' prefix/include/finder.h | paste -sd.)
+test "$(pkg-config --modversion finder)" = "$header"
 gcc -std=c99 -o first-c first.c $(pkg-config --cflags --libs finder)
 g++ -std=c++11 -o first-cpp first.cpp $(pkg-config --cflags --libs finder)
 ./first-c
