@@ -63,6 +63,13 @@ extern "C" {
 #define FINDER_CHECKED
 #endif
 
+/* Before a function of the archive: its answer must be looked at, and no pointer is null. */
+#if defined(__GNUC__)
+#define FINDER_CALL FINDER_CHECKED __attribute__((nonnull))
+#else
+#define FINDER_CALL FINDER_CHECKED
+#endif
+
 /* ---- Numbers and names ---- */
 
 /* The words of an index. */
@@ -123,7 +130,7 @@ enum finder_word {
     REFUSAL(5, FINDER_BAD_GIVEN, "a given row names neither blank nor a given slot, or the entry is not given (0 where none is given)") \
     REFUSAL(6, FINDER_BAD_INDEX, "the live count differs from the marks, the entry is not below capacity, or the guard is on with a setting or a pool " \
         "outside its range") \
-    REFUSAL(7, FINDER_OVER_LIMIT, "a beam, a repair degree or a setting of the guard over its limit, k over the length of an output, or too many ids") \
+    REFUSAL(7, FINDER_OVER_LIMIT, "a beam, a repair degree or a setting of the guard over its limit, k over the length of an output, or more ids than a call may name") \
     REFUSAL(8, FINDER_SHORT_SCRATCH, "the scratch is shorter than the sizes ask for") \
     REFUSAL(9, FINDER_BAD_BATCH, "the bytes to be inserted are no whole number of vectors") \
     REFUSAL(10, FINDER_FULL, "fewer slots are free than vectors are to be inserted") \
@@ -305,7 +312,7 @@ uint32_t finder_version(void);
  * How many words of scratch the calls on an index of these sizes ask for, at most 8,388,608. Written to *size.
  * Refusals: 1.
  */
-FINDER_CHECKED uint32_t finder_scratch_words(uint32_t dim, uint32_t capacity, uint32_t degree, uint32_t *size);
+FINDER_CALL uint32_t finder_scratch_words(uint32_t dim, uint32_t capacity, uint32_t degree, uint32_t *size);
 
 /*
  * Makes an index of which the first count slots are given: bytes has the vectors (count * dim), rows the references (count * degree, each FINDER_BLANK or
@@ -314,7 +321,7 @@ FINDER_CHECKED uint32_t finder_scratch_words(uint32_t dim, uint32_t capacity, ui
  * times that to a reference taken before, so a larger alpha keeps more references. 1.0 keeps the fewest; 1.2 is usual, and what was measured.
  * Refusals, in order: 1, 2, 3 (one of the six slices, bytes or rows), 4, 5.
  */
-FINDER_CHECKED uint32_t finder_create(uint32_t dim, uint32_t capacity, uint32_t degree, float alpha, uint32_t entry, uint32_t count,
+FINDER_CALL uint32_t finder_create(uint32_t dim, uint32_t capacity, uint32_t degree, float alpha, uint32_t entry, uint32_t count,
     const uint8_t *bytes, size_t bytes_len, const uint32_t *rows, size_t rows_len, FINDER_LENT_CREATE, uint32_t words[FINDER_INDEX_WORDS]);
 
 /*
@@ -323,37 +330,37 @@ FINDER_CHECKED uint32_t finder_create(uint32_t dim, uint32_t capacity, uint32_t 
  */
 
 /* The dim. */
-FINDER_CHECKED uint32_t finder_dim(const uint32_t words[FINDER_INDEX_WORDS], FINDER_LENT_READ, uint32_t *value);
+FINDER_CALL uint32_t finder_dim(const uint32_t words[FINDER_INDEX_WORDS], FINDER_LENT_READ, uint32_t *value);
 
 /* The capacity. */
-FINDER_CHECKED uint32_t finder_capacity(const uint32_t words[FINDER_INDEX_WORDS], FINDER_LENT_READ, uint32_t *value);
+FINDER_CALL uint32_t finder_capacity(const uint32_t words[FINDER_INDEX_WORDS], FINDER_LENT_READ, uint32_t *value);
 
 /* The degree. */
-FINDER_CHECKED uint32_t finder_degree(const uint32_t words[FINDER_INDEX_WORDS], FINDER_LENT_READ, uint32_t *value);
+FINDER_CALL uint32_t finder_degree(const uint32_t words[FINDER_INDEX_WORDS], FINDER_LENT_READ, uint32_t *value);
 
 /* Alpha. */
-FINDER_CHECKED uint32_t finder_alpha(const uint32_t words[FINDER_INDEX_WORDS], FINDER_LENT_READ, float *value);
+FINDER_CALL uint32_t finder_alpha(const uint32_t words[FINDER_INDEX_WORDS], FINDER_LENT_READ, float *value);
 
 /* The slot at which a search starts. */
-FINDER_CHECKED uint32_t finder_entry(const uint32_t words[FINDER_INDEX_WORDS], FINDER_LENT_READ, uint32_t *value);
+FINDER_CALL uint32_t finder_entry(const uint32_t words[FINDER_INDEX_WORDS], FINDER_LENT_READ, uint32_t *value);
 
 /* How many slots are live. */
-FINDER_CHECKED uint32_t finder_live(const uint32_t words[FINDER_INDEX_WORDS], FINDER_LENT_READ, uint32_t *value);
+FINDER_CALL uint32_t finder_live(const uint32_t words[FINDER_INDEX_WORDS], FINDER_LENT_READ, uint32_t *value);
 
 /* The mark of a slot: 1 where it is live, 0 where it is dead or outside. */
-FINDER_CHECKED uint32_t finder_mark(const uint32_t words[FINDER_INDEX_WORDS], FINDER_LENT_READ, uint32_t slot, uint32_t *value);
+FINDER_CALL uint32_t finder_mark(const uint32_t words[FINDER_INDEX_WORDS], FINDER_LENT_READ, uint32_t slot, uint32_t *value);
 
 /* The version of a slot, 0 to 65,535; 0 for a slot outside. */
-FINDER_CHECKED uint32_t finder_slot_version(const uint32_t words[FINDER_INDEX_WORDS], FINDER_LENT_READ, uint32_t slot, uint32_t *value);
+FINDER_CALL uint32_t finder_slot_version(const uint32_t words[FINDER_INDEX_WORDS], FINDER_LENT_READ, uint32_t slot, uint32_t *value);
 
 /* The target at a place, from 0, among the live ones of a slot's row; FINDER_BLANK past the last and for a slot outside. */
-FINDER_CHECKED uint32_t finder_target(const uint32_t words[FINDER_INDEX_WORDS], FINDER_LENT_READ, uint32_t slot, uint32_t place, uint32_t *value);
+FINDER_CALL uint32_t finder_target(const uint32_t words[FINDER_INDEX_WORDS], FINDER_LENT_READ, uint32_t slot, uint32_t place, uint32_t *value);
 
 /*
  * How many bytes the vector of a slot has: dim where the slot is live, and they begin at vectors + (size_t)slot * dim; 0 where it is dead or outside, and
  * where the call is refused, with 1, 2, 3 or 6, which is not told.
  */
-FINDER_CHECKED size_t finder_vector(const uint32_t words[FINDER_INDEX_WORDS], FINDER_LENT_READ, uint32_t slot);
+FINDER_CALL size_t finder_vector(const uint32_t words[FINDER_INDEX_WORDS], FINDER_LENT_READ, uint32_t slot);
 
 /*
  * Walks the graph from the entry with a list of at most beam slots and gives the k nearest to the query that it finds, nearest first, of equals the lower slot
@@ -363,7 +370,7 @@ FINDER_CHECKED size_t finder_vector(const uint32_t words[FINDER_INDEX_WORDS], FI
  * true neighbours (docs/YEAR.md).
  * Refusals, in order: 1, 2, 3 (one of the six slices, or a query that is not dim long), 6, 7, 8.
  */
-FINDER_CHECKED uint32_t finder_search(const uint32_t words[FINDER_INDEX_WORDS], FINDER_LENT_READ,
+FINDER_CALL uint32_t finder_search(const uint32_t words[FINDER_INDEX_WORDS], FINDER_LENT_READ,
     const uint8_t *query, size_t query_len, uint32_t k, uint32_t beam,
     uint32_t *slots, size_t slots_len, float *dists, size_t dists_len, uint32_t *scratch, size_t scratch_len,
     uint32_t *found);
@@ -378,7 +385,7 @@ FINDER_CHECKED uint32_t finder_search(const uint32_t words[FINDER_INDEX_WORDS], 
  * of which all was deleted is better made anew. The scratch is overwritten.
  * Refusals, in order: 1, 2, 3 (one of the six slices, or fewer places in slots than vectors), 6, 7, 8, 9, 10.
  */
-FINDER_CHECKED uint32_t finder_insert(uint32_t words[FINDER_INDEX_WORDS], FINDER_LENT_INSERT,
+FINDER_CALL uint32_t finder_insert(uint32_t words[FINDER_INDEX_WORDS], FINDER_LENT_INSERT,
     const uint8_t *bytes, size_t bytes_len, uint32_t beam,
     uint32_t *slots, size_t slots_len, uint32_t *scratch, size_t scratch_len,
     uint32_t *found);
@@ -393,7 +400,7 @@ FINDER_CHECKED uint32_t finder_insert(uint32_t words[FINDER_INDEX_WORDS], FINDER
  * A later insert gives an emptied slot to another vector: a table of the caller's that leads from slots to figures is brought up to date at each delete.
  * Refusals, in order: 1, 2, 3 (one of the six slices, or fewer places in stats than ids), 6, 7, 8.
  */
-FINDER_CHECKED uint32_t finder_delete(uint32_t words[FINDER_INDEX_WORDS], FINDER_LENT_DELETE,
+FINDER_CALL uint32_t finder_delete(uint32_t words[FINDER_INDEX_WORDS], FINDER_LENT_DELETE,
     const uint32_t *ids, size_t ids_len, uint32_t repair_beam, uint32_t repair_degree,
     struct finder_stats *stats, size_t stats_len, uint32_t *scratch, size_t scratch_len,
     uint32_t *found);
@@ -408,7 +415,7 @@ FINDER_CHECKED uint32_t finder_delete(uint32_t words[FINDER_INDEX_WORDS], FINDER
  * fewer than wanted, out of all live slots. In each of the four settings 0 acts as 1, and is stored so. The scratch is overwritten.
  * Refusals, in order: 1, 2, 3, 6, 7, 8, 12, 13.
  */
-FINDER_CHECKED uint32_t finder_guard_enable(uint32_t words[FINDER_INDEX_WORDS], FINDER_LENT_ENABLE,
+FINDER_CALL uint32_t finder_guard_enable(uint32_t words[FINDER_INDEX_WORDS], FINDER_LENT_ENABLE,
     uint32_t landmark_count, uint32_t multiplier, uint32_t sample, uint32_t beam, uint32_t *scratch, size_t scratch_len,
     struct finder_status *status);
 
@@ -416,7 +423,7 @@ FINDER_CHECKED uint32_t finder_guard_enable(uint32_t words[FINDER_INDEX_WORDS], 
  * Writes the guard's status to *status.
  * Refusals, in order: 1, 2, 3, 6.
  */
-FINDER_CHECKED uint32_t finder_guard_status(const uint32_t words[FINDER_INDEX_WORDS], FINDER_LENT_READ, struct finder_status *status);
+FINDER_CALL uint32_t finder_guard_status(const uint32_t words[FINDER_INDEX_WORDS], FINDER_LENT_READ, struct finder_status *status);
 
 /*
  * Assesses a delete of the slots that ids name, and deletes nothing; an id that is dead or outside, or that stood there before, does not count. The
@@ -425,7 +432,7 @@ FINDER_CHECKED uint32_t finder_guard_status(const uint32_t words[FINDER_INDEX_WO
  * named. The scratch is overwritten.
  * Refusals, in order: 1, 2, 3 (one of the six slices, or a list that is too short), 6, 7, 8, 11.
  */
-FINDER_CHECKED uint32_t finder_assess(const uint32_t words[FINDER_INDEX_WORDS], FINDER_LENT_READ, const uint32_t *ids, size_t ids_len,
+FINDER_CALL uint32_t finder_assess(const uint32_t words[FINDER_INDEX_WORDS], FINDER_LENT_READ, const uint32_t *ids, size_t ids_len,
     uint32_t *checked, size_t checked_len, uint32_t *lost, size_t lost_len, uint32_t *scratch, size_t scratch_len, struct finder_report *report);
 
 /*
@@ -434,7 +441,7 @@ FINDER_CHECKED uint32_t finder_assess(const uint32_t words[FINDER_INDEX_WORDS], 
  * of lost, and the numbers to *report. Where no live slot is named the delete is admitted, and empties none. The scratch is overwritten.
  * Refusals, in order: 1, 2, 3 (one of the six slices, fewer places in stats than ids, or a list that is too short), 6, 7, 8, 11.
  */
-FINDER_CHECKED uint32_t finder_guarded_delete(uint32_t words[FINDER_INDEX_WORDS], FINDER_LENT_DELETE,
+FINDER_CALL uint32_t finder_guarded_delete(uint32_t words[FINDER_INDEX_WORDS], FINDER_LENT_DELETE,
     const uint32_t *ids, size_t ids_len, uint32_t repair_beam, uint32_t repair_degree,
     struct finder_stats *stats, size_t stats_len, uint32_t *checked, size_t checked_len, uint32_t *lost, size_t lost_len,
     uint32_t *scratch, size_t scratch_len, uint32_t *found, struct finder_report *report);

@@ -24,6 +24,8 @@ uint32_t use(struct finder *f, const struct finder *lent, const uint8_t *query, 
     finder_scratch_words(4, 10, 2, found);
 #elif MISUSE == 10 /* a vector is written through what is lent for reading */
     *finder_vector_in(lent, 0) = 0;
+#elif MISUSE == 11 /* a slice that is null */
+    refusal = finder_live(f->words, NULL, 0, f->targets, 4, f->edges, 4, f->versions, 4, f->marks, 4, f->pool, FINDER_POOL, found);
 #elif MISUSE != 0
 #error "no such mistake"
 #endif
