@@ -4,6 +4,7 @@ use pair::names::shown;
 use pair::picture;
 use pair::work::{pair, Job};
 use std::ffi::OsString;
+use std::io::{self, Write};
 use std::path::PathBuf;
 use std::process::ExitCode;
 
@@ -51,7 +52,7 @@ fn main() -> ExitCode {
     let done = match arguments(std::env::args_os().skip(1)) {
         Ok(Some(job)) => pair(&job),
         Ok(None) => {
-            println!("{USAGE}");
+            let _ = writeln!(io::stdout(), "{USAGE}");
             return ExitCode::SUCCESS;
         }
         Err(message) => Err(format!("{message}\n\n{USAGE}")),
@@ -60,7 +61,7 @@ fn main() -> ExitCode {
         Ok(true) => ExitCode::SUCCESS,
         Ok(false) => ExitCode::from(1),
         Err(message) => {
-            eprintln!("pair: {message}");
+            let _ = writeln!(io::stderr(), "pair: {message}");
             ExitCode::from(2)
         }
     }

@@ -89,7 +89,8 @@ fn not_written(error: io::Error) -> String {
 
 impl Work {
     fn say(&mut self, bar: &ProgressBar, line: String) {
-        bar.suspend(|| eprintln!("{line}"));
+        // Where nobody listens, the work goes on.
+        let _ = bar.suspend(|| writeln!(io::stderr(), "{line}"));
         self.said.push(line);
     }
 
