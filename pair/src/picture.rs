@@ -67,7 +67,10 @@ fn thumb(picture: &DynamicImage) -> Result<Vec<u8>, String> {
     let side = |n: u32| if long > THUMB { (u64::from(n) * u64::from(THUMB) / u64::from(long)).max(1) as u32 } else { n };
     let (small_width, small_height) = (side(width), side(height));
     // Four places for each pixel of the small one.
-    let places = |n: u32, small: u32| -> Vec<usize> { (0..4 * u64::from(small)).map(|i| ((2 * i + 1) * u64::from(n) / (8 * u64::from(small))) as usize).collect() };
+    let places = |n: u32, small: u32| -> Vec<usize> {
+        let (n, small) = (u64::from(n), u64::from(small));
+        (0..4 * small).map(|i| ((2 * i + 1) * n / (8 * small)) as usize).collect()
+    };
     let (xs, ys) = (places(width, small_width), places(height, small_height));
     let pixels = rgb.as_raw();
     let mut small = Vec::with_capacity(3 * small_width as usize * small_height as usize);

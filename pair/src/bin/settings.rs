@@ -1,7 +1,8 @@
 //! settings ORIGINALS PLACEHOLDERS: what degree, alpha and beam cost and give on these pictures.
 //!
-//! For each setting, the originals are inserted one to a call; printed are the time of one insert and of one search, how many originals do not find themselves, and of these how many no reference leads to,
-//! and for how many placeholders the search gives the nearest original, and the second nearest, that comparing with all of them gives.
+//! For each setting, the originals are inserted one to a call; printed are the time of one insert and of one search, how many originals do not find themselves,
+//! of these how many no reference leads to, and for how many placeholders the search gives the nearest original, and the second nearest, that comparing
+//! with all of them gives.
 
 use pair::folder;
 use pair::originals::{distance, Originals, Settings};
@@ -9,6 +10,19 @@ use pair::picture;
 use pair::reduce::Grey;
 use std::path::Path;
 use std::time::{Duration, Instant};
+
+/// Degree, alpha and insert beam.
+const TRIED: [(u32, f32, u32); 9] = [
+    (16, 1.2, 64),
+    (32, 1.0, 64),
+    (32, 1.2, 64),
+    (32, 1.2, 128),
+    (32, 1.4, 128),
+    (48, 1.2, 128),
+    (64, 1.2, 64),
+    (64, 1.2, 128),
+    (64, 1.4, 128),
+];
 
 fn read(folder: &Path) -> Result<Vec<Grey>, String> {
     let entries = folder::list(folder).map_err(|error| error.to_string())?;
@@ -77,7 +91,7 @@ fn main() -> Result<(), Box<dyn std::error::Error>> {
     let right: Vec<[u32; 2]> = placeholders.iter().map(|grey| nearest(&originals, grey)).collect();
     println!("| degree | alpha | insert beam | search beam | insert, µs | search, µs | originals missed | unreached | nearest | second |");
     println!("|-:|-:|-:|-:|-:|-:|-:|-:|-:|-:|");
-    for (degree, alpha, insert_beam) in [(16, 1.2, 64), (32, 1.0, 64), (32, 1.2, 64), (32, 1.2, 128), (32, 1.4, 128), (48, 1.2, 128), (64, 1.2, 64), (64, 1.2, 128), (64, 1.4, 128)] {
+    for (degree, alpha, insert_beam) in TRIED {
         for search_beam in [16, 64] {
             measure(&originals, &placeholders, &right, Settings { degree, alpha, insert_beam, search_beam })?;
         }
