@@ -26,4 +26,4 @@ for batch in $batches; do
   cat "$said"
   [ $status = 0 ] || exit $status
 done
-[ -z "$drawn" ] || python3 year.py ../target/year-300.txt ../target/year-1.txt > ../docs/year.svg
+[ -z "$drawn" ] || python3 -B year.py ../target/year-300.txt ../target/year-1.txt > ../docs/year.svg
