@@ -1,22 +1,28 @@
-// The time of one distance: the library's, the loop that a Rust programmer would write, and the library's own loop written in Rust.
+// The time of one distance: the library's, the loop that a Rust programmer would write, and the library's former loop written in Rust. All three are
+// called in the same way and test the lengths.
 use std::hint::black_box;
+use std::slice::from_raw_parts;
 use std::time::Instant;
+
+type Distance = unsafe extern "C" fn(*const u8, usize, *const u8, usize) -> u32;
 
 extern "C" {
     fn finder_distance(a: *const u8, a_len: usize, b: *const u8, b_len: usize) -> u32;
 }
 
-fn library(a: &[u8], b: &[u8]) -> u32 {
-    unsafe { finder_distance(a.as_ptr(), a.len(), b.as_ptr(), b.len()) }
-}
-
-#[inline(never)]
-fn rust(a: &[u8], b: &[u8]) -> u32 {
+unsafe extern "C" fn rust(a: *const u8, a_len: usize, b: *const u8, b_len: usize) -> u32 {
+    let (a, b) = (from_raw_parts(a, a_len), from_raw_parts(b, b_len));
+    if a.len() != b.len() || a.len() > 256 {
+        return 0;
+    }
     a.iter().zip(b).map(|(&x, &y)| { let d = x as i32 - y as i32; (d * d) as u32 }).sum()
 }
 
-#[inline(never)]
-fn rust_same_loop(a: &[u8], b: &[u8]) -> u32 {
+unsafe extern "C" fn former(a: *const u8, a_len: usize, b: *const u8, b_len: usize) -> u32 {
+    let (a, b) = (from_raw_parts(a, a_len), from_raw_parts(b, b_len));
+    if a.len() != b.len() || a.len() > 256 {
+        return 0;
+    }
     let mut sum = 0;
     let mut i = 0;
     while i < a.len() {
@@ -29,33 +35,30 @@ fn rust_same_loop(a: &[u8], b: &[u8]) -> u32 {
 
 fn main() {
     const N: usize = 4096;
-    for dim in [16, 64, 256] {
+    println!("| bytes | library, ns | the loop as one writes it in Rust | ratio | the former loop | ratio | differences |\n|-:|-:|-:|-:|-:|-:|-:|");
+    for dim in (1..=16).chain([64, 256]) {
         let mut seed = 1u64;
         let mut bytes = vec![0u8; N * dim];
         for byte in bytes.iter_mut() {
             seed = seed.wrapping_mul(6364136223846793005).wrapping_add(1442695040888963407);
             *byte = (seed >> 33) as u8;
         }
-        let pair = |i: usize| {
-            let j = (i * 7 + 3) % N;
-            (&bytes[i * dim..(i + 1) * dim], &bytes[j * dim..(j + 1) * dim])
+        let run = |distance: Distance, i: usize| {
+            let (a, b) = (&bytes[i * dim], &bytes[(i * 7 + 3) % N * dim]);
+            unsafe { distance(black_box(a), dim, black_box(b), dim) }
         };
         let mut best = [f64::MAX; 3];
-        let runs: [fn(&[u8], &[u8]) -> u32; 3] = [library, rust, rust_same_loop];
-        for _ in 0..30 {
-            for (k, run) in runs.iter().enumerate() {
+        for _ in 0..100 {
+            for (best, distance) in best.iter_mut().zip([finder_distance as Distance, rust, former]) {
                 let start = Instant::now();
                 for i in 0..N {
-                    let (a, b) = pair(i);
-                    black_box(run(black_box(a), black_box(b)));
+                    black_box(run(distance, i));
                 }
-                best[k] = best[k].min(start.elapsed().as_nanos() as f64 / N as f64);
+                *best = best.min(start.elapsed().as_nanos() as f64 / N as f64);
             }
         }
-        let differences = (0..N).filter(|&i| { let (a, b) = pair(i); library(a, b) != rust(a, b) }).count();
-        println!(
-            "dim {dim}: library {:.1} ns, rust {:.1} ns (ratio {:.2}), the same loop in rust {:.1} ns (ratio {:.2}), {differences} differences",
-            best[0], best[1], best[0] / best[1], best[2], best[0] / best[2]
-        );
+        let differences = (0..N).filter(|&i| run(finder_distance, i) != run(rust, i) || run(former, i) != run(rust, i)).count();
+        let [library, rust, former] = best;
+        println!("| {dim} | {library:.1} | {rust:.1} | {:.2} | {former:.1} | {:.2} | {differences} |", library / rust, library / former);
     }
 }
