@@ -25,16 +25,18 @@ def main():
     (small, first), (large, second) = tables(sys.argv[1])
     ((_, year),) = tables(sys.argv[2])
     shown = [("own indexes, " + small, first), ("own indexes, " + large, second)]
-    shown += [("after the year", year[:4]), ("beside indexes made afresh", [year[i] for i in (0, 2, 4, 5)])]
+    shown += [("after the year", year[:4]), ("beside indexes made afresh", [year[i] for i in (0, 4, 2, 5)])]
     times = [time for _, lines in shown for _, points in lines for time, _ in points]
     least, most = math.log(min(times) * 0.9), math.log(max(times) * 1.1)
     marks = [mark * 10**power for power in range(5) for mark in (1, 2, 5)]
     across = (lambda time: (math.log(time) - least) / (most - least)), [(m, f"{m:,}") for m in marks if least <= math.log(m) <= most]
     parts = []
     for i, (title, lines) in enumerate(shown):
-        lowest = math.floor(min(recall for _, points in lines for _, recall in points) * 10) / 10
-        parts += panel(i % 2, i // 2, title, across, even(lowest, 1, 0.1, lambda v: f"{v:.1f}"), lines, inside=True)
-    draw(2, 2, "recall at 10 against the time of a search", "recall at 10 against microseconds of CPU time for one search, beams 8 to 256", parts)
+        lowest = min(recall for _, points in lines for _, recall in points)
+        step = 0.1 if lowest < 0.8 else 0.02
+        up = even(step * math.floor(lowest / step), 1, step, lambda v: f"{v:.2f}")
+        parts += panel(i % 2, i // 2, title, across, up, lines, inside=True)
+    draw(2, 2, "recall at 10 against the time of a search", "recall at 10 against microseconds of CPU time for one search; a line has beams 10, 16, 32, 64, 128 and 256", parts)
 
 
 main()

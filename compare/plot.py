@@ -32,7 +32,7 @@ def panel(column, line, title, across, up, lines, inside=False):
         points = " ".join(f"{x(a):.1f},{y(b):.1f}" for a, b in points)
         out.append(f'<polyline class="{colour}" points="{points}"/>')
         if inside:
-            out.append(f'<text class="{colour}" x="{x0 + WIDTH - 8}" y="{y0 + HEIGHT + 6 - 15 * (len(lines) - i)}" text-anchor="end">{name}</text>')
+            out.append(f'<text class="{colour}" x="{x0 + WIDTH - 8}" y="{y0 + 20 + 15 * i}" text-anchor="end">{name}</text>')
         else:
             out.append(f'<text class="{colour}" x="{at}" y="{y0 - 8}">{name}</text>')
             at += 7 * len(name) + 12

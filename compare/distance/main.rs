@@ -48,7 +48,7 @@ fn main() {
             unsafe { distance(black_box(a), dim, black_box(b), dim) }
         };
         let mut best = [f64::MAX; 3];
-        for _ in 0..100 {
+        for _ in 0..1000 {
             for (best, distance) in best.iter_mut().zip([finder_distance as Distance, rust, former]) {
                 let start = Instant::now();
                 for i in 0..N {
