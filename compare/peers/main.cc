@@ -14,7 +14,7 @@ static std::vector<uint32_t> count_to(size_t n) {
     return all;
 }
 
-// Both search hnswlib's bottom layer from the same entry. One reference in eight is blank for the library where its graph is spoiled.
+// Both search hnswlib's bottom layer from the same entry. Where the graph is spoiled, one place in eight is blank for the library.
 static bool graph(bool spoil) {
     bool same = true;
     printf("seed %lu; hnswlib's bottom layer, built with M 16 and ef_construction 200, searched by both from the same entry; 500 queries\n", SEED);
