@@ -31,7 +31,7 @@
  *   and live count are not told apart.
  *
  * What a call costs in the capacity, beside its work on the graph (docs/BENCHMARKS.md has times): every call on an index counts the marks, a byte for each slot,
- * so reading slot after slot costs the capacity squared. Making writes all slices. A walk clears a word of scratch for each slot: a search walks once, an insert
+ * so reading slot after slot costs the capacity squared. Making writes all slices. A walk clears two bits of scratch for each slot: a search walks once, an insert
  * once for each vector, a delete once for each slot, an assessment twice for each landmark. An insert also goes over all slots for every 256 vectors or fewer.
  */
 #ifndef FINDER_H
@@ -227,7 +227,8 @@ struct finder_assessment {
 FINDER_CHECKED static inline uint32_t finder_lengths(uint32_t dim, uint32_t capacity, uint32_t degree, struct finder_layout *lengths);
 
 /*
- * Lays the six slices out in the block, which stays the caller's and is not written. Every call is refused, with 2, until finder_create_in was carried out.
+ * Lays the six slices out in the block, which stays the caller's and is not written. Every call is refused, with 2, until finder_create_in was carried out. A
+ * block that begins at a multiple of 64, as aligned_alloc(64, ..) gives it, is searched somewhat faster than one of malloc.
  * Refusals, in order: 1, 3 (the block is null, not aligned for uint32_t, or shorter than block_bytes of finder_lengths).
  */
 FINDER_CHECKED static inline uint32_t finder_place(struct finder *f, void *block, size_t block_bytes, uint32_t dim, uint32_t capacity, uint32_t degree);

@@ -7,6 +7,7 @@
 #include <algorithm>
 #include <cstdio>
 #include <cstdlib>
+#include <memory>
 #include <vector>
 
 constexpr uint32_t K = 10, DEGREE = 32, BEAM = 64, REPAIR_BEAM = 64, REPAIR_DEGREE = 4;
@@ -21,10 +22,10 @@ struct Side {
 
 class Finder : public Side {
     size_t dim;
-    std::vector<uint8_t> vectors, marks;
-    std::vector<uint32_t> targets, pool, scratch;
-    std::vector<uint16_t> edges, versions;
-    uint32_t words[FINDER_INDEX_WORDS], slots[K], found;
+    struct finder index;
+    struct finder_scratch scratch;
+    std::unique_ptr<void, decltype(&free)> block{nullptr, free}, work{nullptr, free};
+    uint32_t slots[K], found;
     float dists[K];
 
     static void accepted(uint32_t refused) {
@@ -33,21 +34,19 @@ class Finder : public Side {
             exit(2);
         }
     }
-
-#define SLICES \
-    vectors.data(), vectors.size(), targets.data(), targets.size(), edges.data(), edges.size(), versions.data(), versions.size(), \
-        marks.data(), marks.size(), pool.data(), pool.size()
+    // Memory that begins at a line of memory, as finder.h advises.
+    static void *lines(size_t bytes) { return aligned_alloc(64, (bytes + 63) / 64 * 64); }
 
   public:
     // An index of the given vectors and rows.
-    Finder(size_t dim, size_t capacity, uint32_t entry, const std::vector<uint8_t> &bytes, const std::vector<uint32_t> &rows)
-        : dim(dim), vectors(capacity * dim), marks(capacity), targets(capacity * DEGREE), pool(FINDER_POOL), edges(capacity * DEGREE),
-          versions(capacity) {
-        accepted(finder_create(dim, capacity, DEGREE, ALPHA, entry, bytes.size() / dim, bytes.data(), bytes.size(), rows.data(), rows.size(),
-            SLICES, words));
-        uint32_t size;
-        accepted(finder_scratch_words(dim, capacity, DEGREE, &size));
-        scratch.resize(size);
+    Finder(size_t dim, size_t capacity, uint32_t entry, const std::vector<uint8_t> &bytes, const std::vector<uint32_t> &rows) : dim(dim) {
+        struct finder_layout n;
+        accepted(finder_lengths(dim, capacity, DEGREE, &n));
+        block.reset(lines(n.block_bytes));
+        work.reset(lines(n.scratch_bytes));
+        accepted(finder_place(&index, block.get(), n.block_bytes, dim, capacity, DEGREE));
+        accepted(finder_place_scratch(&scratch, work.get(), n.scratch_bytes));
+        accepted(finder_create_in(&index, ALPHA, entry, bytes.size() / dim, bytes.data(), bytes.size(), rows.data(), rows.size()));
     }
     // An index of one vector.
     Finder(size_t dim, size_t capacity, const uint8_t *vector)
@@ -57,22 +56,19 @@ class Finder : public Side {
     std::vector<uint32_t> insert(const uint8_t *bytes, size_t count) {
         std::vector<uint32_t> filled(count);
         uint32_t inserted;
-        accepted(finder_insert(words, SLICES, bytes, count * dim, BEAM, filled.data(), count, scratch.data(), scratch.size(), &inserted));
+        accepted(finder_insert_in(&index, bytes, count * dim, BEAM, filled.data(), count, scratch, &inserted));
         return filled;
     }
     void remove(const uint32_t *ids, size_t count) {
         struct finder_stats stats[FINDER_MAX_IDS];
         uint32_t emptied;
-        for (size_t i = 0; i < count; i += FINDER_MAX_IDS) {
-            size_t n = std::min<size_t>(count - i, FINDER_MAX_IDS);
-            accepted(finder_delete(words, SLICES, ids + i, n, REPAIR_BEAM, REPAIR_DEGREE, stats, n, scratch.data(), scratch.size(), &emptied));
-        }
+        for (size_t i = 0; i < count; i += FINDER_MAX_IDS)
+            accepted(finder_delete_in(&index, ids + i, std::min<size_t>(count - i, FINDER_MAX_IDS), REPAIR_BEAM, REPAIR_DEGREE, stats, scratch, &emptied));
     }
     void search(const uint8_t *query, uint32_t beam) override {
-        accepted(finder_search(words, SLICES, query, dim, K, beam, slots, K, dists, K, scratch.data(), scratch.size(), &found));
+        accepted(finder_search_in(&index, query, dim, K, beam, slots, dists, scratch, &found));
     }
     std::vector<uint32_t> answers() override { return std::vector<uint32_t>(slots, slots + found); }
-#undef SLICES
 };
 
 class Hnsw : public Side {

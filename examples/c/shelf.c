@@ -432,9 +432,7 @@ static int texts(void)
 static int version(void)
 {
     CHECK(FINDER_VERSION == 10000 * FINDER_VERSION_MAJOR + 100 * FINDER_VERSION_MINOR + FINDER_VERSION_PATCH);
-#ifdef HAVE_FINDER_VERSION
     CHECK(finder_version() == FINDER_VERSION);
-#endif
     return 0;
 }
 

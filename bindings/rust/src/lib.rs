@@ -53,6 +53,15 @@ pub use stored::LoadError;
 /// The words of an index, as include/finder.h has them.
 pub type Words = [u32; INDEX_WORDS];
 
+/// The version of the archive that is linked: 10,000 for each major version, 100 for each minor one and 1 for each patch.
+///
+/// ```
+/// assert_eq!(finder::version() / 10_000, 1);
+/// ```
+pub fn version() -> u32 {
+    raw::version()
+}
+
 /// How many words an index has.
 pub const INDEX_WORDS: usize = 12;
 /// The length of the landmark pool.

@@ -47,6 +47,8 @@ pub struct CreateArguments<'a> {
 }
 
 extern "C" {
+    fn finder_version() -> u32;
+
     fn finder_scratch_words(dim: u32, capacity: u32, degree: u32, size: *mut u32) -> u32;
 
     fn finder_create(
@@ -260,6 +262,11 @@ macro_rules! read {
             $($rest),+
         )
     };
+}
+
+pub fn version() -> u32 {
+    // SAFETY: the function takes nothing and touches no memory.
+    unsafe { finder_version() }
 }
 
 pub fn scratch_words(dim: u32, capacity: u32, degree: u32, size: &mut u32) -> u32 {
