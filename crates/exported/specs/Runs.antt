@@ -1,4 +1,4 @@
--- Runs of the exported functions that work on an index: all of include/finder.h but `finder_scratch_words`. Each has the contract that its function is
+-- Runs of the exported functions that work on an index: all of include/finder.h but `finder_version` and `finder_scratch_words`. Each has the contract that its function is
 -- proved to meet (words/specs/Given.antt) and nothing else; what is left has a prime. Assumes nothing.
 use Prim.Native.Nat.{ℕ, _*_}
 use mathlib.Core.List.{List, [], map}
