@@ -6,11 +6,12 @@
  *     struct finder_layout n;
  *     struct finder f;
  *     struct finder_scratch s;
- *     finder_lengths(256, 1000, 32, &n);                                       the sizes: dim, capacity, degree
- *     finder_place(&f, malloc(n.block_bytes), n.block_bytes, 256, 1000, 32);
- *     finder_place_scratch(&s, malloc(n.scratch_bytes), n.scratch_bytes);
+ *     finder_lengths(256, 1000, 64, &n);                                       the sizes: dim, capacity, degree
+ *     void *block = malloc(n.block_bytes), *work = malloc(n.scratch_bytes);    the caller's, to be freed at last
+ *     finder_place(&f, block, n.block_bytes, 256, 1000, 64);
+ *     finder_place_scratch(&s, work, n.scratch_bytes);
  *     finder_create_in(&f, 1.2f, 0, 0, NULL, 0, NULL, 0);                      alpha 1.2, no vector yet
- *     finder_insert_in(&f, grey, 256, 64, &slot, 1, s, &found);                one vector, beam 64; it got the slot
+ *     finder_insert_in(&f, grey, 256, 128, &slot, 1, s, &found);               one vector, beam 128; it got the slot
  *     finder_search_in(&f, query, 256, 10, 64, slots, dists, s, &found);       the 10 nearest, beam 64
  *
  * Each of these returns 0 where it is carried out, else the number of the refusal; the compiler warns where that is not looked at.
@@ -32,7 +33,8 @@
  *
  * What a call costs in the capacity, beside its work on the graph (docs/BENCHMARKS.md has times): every call on an index counts the marks, a byte for each slot,
  * so reading slot after slot costs the capacity squared. Making writes all slices. A walk clears two bits of scratch for each slot: a search walks once, an insert
- * once for each vector, a delete once for each slot, an assessment twice for each landmark. An insert also goes over all slots for every 256 vectors or fewer.
+ * once for each vector, a delete once for each slot, an assessment twice for each landmark. An insert also goes over all slots for every 256 vectors or fewer, and so
+ * do enabling the guard and an assessment that lacks landmarks, to sample them; a sampled slot is measured once for each landmark.
  */
 #ifndef FINDER_H
 #define FINDER_H
@@ -116,8 +118,8 @@ enum finder_word {
 #define FINDER_MAX_REPAIR_DEGREE 16
 
 /*
- * Values to begin with, those of docs/YEAR.md: degree 32, alpha 1.2, beam 64 for searches and inserts, repair beam 64 and repair degree 4, and for the guard 64
- * landmarks, multiplier 1, sample 1,024 and beam 16.
+ * Values to begin with: degree 64, alpha 1.2, beam 128 for inserts and 64 for searches (measured in pair/README.md, beside degree 32, which is half the memory
+ * of the rows), repair beam 64 and repair degree 4, and for the guard 64 landmarks, multiplier 1, sample 1,024 and beam 16 (docs/YEAR.md).
  */
 
 /* The refusals: number, name, text. */
@@ -228,7 +230,7 @@ FINDER_CHECKED static inline uint32_t finder_lengths(uint32_t dim, uint32_t capa
 
 /*
  * Lays the six slices out in the block, which stays the caller's and is not written. Every call is refused, with 2, until finder_create_in was carried out. A
- * block that begins at a multiple of 64, as aligned_alloc(64, ..) gives it, is searched somewhat faster than one of malloc.
+ * block that begins at a multiple of 64 is searched somewhat faster, where capacity is a multiple of 32, so that rows and vectors begin at one too.
  * Refusals, in order: 1, 3 (the block is null, not aligned for uint32_t, or shorter than block_bytes of finder_lengths).
  */
 FINDER_CHECKED static inline uint32_t finder_place(struct finder *f, void *block, size_t block_bytes, uint32_t dim, uint32_t capacity, uint32_t degree);

@@ -4,7 +4,7 @@
  *     picture_finder::Index index(256, 1000, 32);                   dim, capacity, degree
  *     picture_finder::Scratch scratch(index);
  *     if (!index || !scratch) ..                                    sizes outside their ranges, or no memory
- *     index.create(1.2f);                                           alpha 1.2, no vector yet
+ *     if (index.create(1.2f)) ..                                    alpha 1.2, no vector yet; a refusal, else 0
  *     auto inserted = index.insert(grey, 64, slots, scratch);       beam 64
  *     auto near = index.search(query, 10, 64, slots, dists, scratch);
  *     if (near) ..                                                  near.value slots were found
@@ -106,20 +106,22 @@ private:
 
 class Index {
 public:
-    Index() noexcept : f_() {}
+    Index() noexcept : f_(), bytes_(0) {}
 
     /* The memory for these sizes. Every call is refused until create or load was carried out. */
-    Index(uint32_t dim, uint32_t capacity, uint32_t degree) noexcept : f_()
+    Index(uint32_t dim, uint32_t capacity, uint32_t degree) noexcept : f_(), bytes_(0)
     {
         finder_layout n = finder_layout();
         if (finder_lengths(dim, capacity, degree, &n) != FINDER_OK)
             return;
         block_.reset(std::malloc(n.block_bytes));
-        if (finder_place(&f_, block_.get(), n.block_bytes, dim, capacity, degree) != FINDER_OK)
+        if (finder_place(&f_, block_.get(), n.block_bytes, dim, capacity, degree) == FINDER_OK)
+            bytes_ = n.block_bytes;
+        else
             block_.reset();
     }
 
-    Index(Index &&other) noexcept : f_() { swap(other); }
+    Index(Index &&other) noexcept : f_(), bytes_(0) { swap(other); }
     Index &operator=(Index &&other) noexcept
     {
         Index(std::move(other)).swap(*this);
@@ -129,6 +131,7 @@ public:
     void swap(Index &other) noexcept
     {
         std::swap(block_, other.block_);
+        std::swap(bytes_, other.bytes_);
         std::swap(f_, other.f_);
     }
 
@@ -148,7 +151,7 @@ public:
     size_t block_bytes() const noexcept { return finder_lengths_in(&f_).block_bytes; }
     FINDER_CHECKED uint32_t load(const uint32_t (&words)[FINDER_INDEX_WORDS]) noexcept
     {
-        return finder_load(&f_, words, block_.get(), block_bytes());
+        return finder_load(&f_, words, block_.get(), bytes_);
     }
 
     /* Without vectors. */
@@ -276,6 +279,7 @@ private:
 
     Block block_;
     finder f_;
+    size_t bytes_; /* of the block */
 };
 
 inline Scratch::Scratch(const Index &index) noexcept : scratch_() { take(finder_lengths_in(&index.get()).scratch_bytes); }

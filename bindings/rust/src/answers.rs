@@ -72,7 +72,7 @@ impl Scratch {
         Ok(size as usize)
     }
 
-    /// So many words.
+    /// So many words. Panics where memory cannot have as many.
     pub fn of_words(words: usize) -> Scratch {
         Scratch(vec![0; words])
     }

@@ -2,7 +2,8 @@
 //!
 //! A [`Finder`] owns an index and its memory. A [`View`] reads an index that lies in memory of somebody else, and a [`ViewMut`] changes one; a `Finder`
 //! lends itself as either. Calls that walk the graph take a [`Scratch`], so that several threads search one index at a time, each with its own. What a call
-//! refuses is an [`Error`]; it has then changed nothing, and no input makes the crate panic.
+//! refuses is an [`Error`]; it has then changed nothing, and no input makes the crate panic, but a [`Scratch::of_words`] of
+//! more words than memory can have.
 //!
 //! ```
 //! use finder::Finder;

@@ -81,8 +81,8 @@ numbers!(write_u16, read_u16, u16);
 numbers!(write_u32, read_u32, u32);
 
 impl Finder {
-    /// Writes the raw memory: the twelve words, then the six slices in the order of include/finder.h, each number with its lowest byte first, and nothing
-    /// between them. There is no checksum; who needs one puts it around.
+    /// Writes the raw memory: the twelve words, then the six slices in the order of `struct finder` of include/finder.h (which is not that of the
+    /// block that a program in C stores), each number with its lowest byte first, and nothing between them. There is no checksum; who needs one puts it around.
     ///
     /// ```
     /// use finder::Finder;
