@@ -1,5 +1,5 @@
 // The time of one distance: the library's, the loop that a Rust programmer would write, and the library's former loop written in Rust. All three are
-// called in the same way and test the lengths.
+// called through a pointer, none is inlined, and each tests the lengths.
 use std::hint::black_box;
 use std::slice::from_raw_parts;
 use std::time::Instant;
@@ -10,6 +10,7 @@ extern "C" {
     fn finder_distance(a: *const u8, a_len: usize, b: *const u8, b_len: usize) -> u32;
 }
 
+#[inline(never)]
 unsafe extern "C" fn rust(a: *const u8, a_len: usize, b: *const u8, b_len: usize) -> u32 {
     let (a, b) = (from_raw_parts(a, a_len), from_raw_parts(b, b_len));
     if a.len() != b.len() || a.len() > 256 {
@@ -18,6 +19,7 @@ unsafe extern "C" fn rust(a: *const u8, a_len: usize, b: *const u8, b_len: usize
     a.iter().zip(b).map(|(&x, &y)| { let d = x as i32 - y as i32; (d * d) as u32 }).sum()
 }
 
+#[inline(never)]
 unsafe extern "C" fn former(a: *const u8, a_len: usize, b: *const u8, b_len: usize) -> u32 {
     let (a, b) = (from_raw_parts(a, a_len), from_raw_parts(b, b_len));
     if a.len() != b.len() || a.len() > 256 {
@@ -50,6 +52,7 @@ fn main() {
         let mut best = [f64::MAX; 3];
         for _ in 0..1000 {
             for (best, distance) in best.iter_mut().zip([finder_distance as Distance, rust, former]) {
+                let distance = black_box(distance);
                 let start = Instant::now();
                 for i in 0..N {
                     black_box(run(distance, i));

@@ -1,7 +1,7 @@
 // The distance of two vectors, of two slots, and of a query and a slot.
 use vectors::vector;
 ghost use mathlib.Core.Path.{_≡_};
-ghost use Prim.Native.Nat.{_+_, _*_, _<_, _≤_};
+ghost use Prim.Native.Nat.{_+_, _*_, _-_, _<_, _≤_};
 ghost use lib.ListN.{length};
 ghost use Rattle.vectors.specs.Distance.{squared-difference, distance};
 ghost use Rattle.vectors.specs.Space.{slot-distance, query-distance, space, Measured};
@@ -62,11 +62,31 @@ fn sixty_four(a: &[u8], b: &[u8], i: usize) -> u32
         + four(a, b, i + 60)
 }
 
-// The sum of the squared differences of two vectors of one length.
+// The sum of the squared differences from place `from` on, taken one by one.
+fn rest(a: &[u8], b: &[u8], from: usize) -> u32
+    requires { ⌜ (from ≤ length (now a)) × (length (now a) ≡ length (now b)) × (length (now a) ≤ 256) ⌝ }
+    ensures { λ r. ⌜ Summed (now (a .entry)) (now (b .entry)) from (length (now (a .entry)) - from) r ⌝ }
+{
+    let mut sum: u32 = 0;
+    let mut i = from;
+    while i < a.len() {
+        sum += squared_difference(a[i], b[i]);
+        i += 1;
+    }
+    sum
+}
+
+// The sum of the squared differences of two vectors of one length. Short ones do not pass the tests of the loop.
 pub fn distance(a: &[u8], b: &[u8]) -> u32
     requires { ⌜ (length (now a) ≡ length (now b)) × (length (now a) ≤ 256) ⌝ }
     ensures { λ r. ⌜ Measured (distance (now (a .entry)) (now (b .entry))) r ⌝ }
 {
+    if a.len() < 8 {
+        return rest(a, b, 0);
+    }
+    if a.len() < 16 {
+        return four(a, b, 0) + four(a, b, 4) + rest(a, b, 8);
+    }
     let mut sum: u32 = 0;
     let mut i: usize = 0;
     while i < a.len() {
@@ -81,8 +101,7 @@ pub fn distance(a: &[u8], b: &[u8]) -> u32
             sum += four(a, b, i);
             i += 4;
         } else {
-            sum += squared_difference(b[i], a[i]);
-            i += 1;
+            return sum + rest(a, b, i);
         }
     }
     sum

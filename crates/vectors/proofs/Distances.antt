@@ -23,10 +23,6 @@ pub square-down : {x y : ℕ} → y ≤ x → (x - y) * (x - y) ≡ squared-diff
 unfolding squared-difference
 square-down {x} {y} h = let e : (x - y) + (y - x) ≡ x - y = omega arith in rw e
 
-pub square-sym : (x y : ℕ) → squared-difference x y ≡ squared-difference y x
-unfolding squared-difference
-square-sym x y = rw (add-comm (x - y) (y - x))
-
 -- one step of the sum, from the front
 pub distance-step : (a b : List ℕ) (i : ℕ) → i < length a → i < length b
     → distance (drop i a) (drop i b) ≡ squared-difference (getD a i 0) (getD b i 0) + distance (drop (i + 1) a) (drop (i + 1) b)
