@@ -83,3 +83,11 @@ module _ (k v x : ℕ) {o : ℕ} (h : k < 16) (l : v < 4) (f : x < 2 ^ 32) (e : 
 
   pub put-fits : x - (o * 2 ^ (2 * k)) % 2 ^ 32 + (v * 2 ^ (2 * k)) % 2 ^ 32 < 2 ^ 32
   put-fits = rw put-shifted (put-below k 16 v x h l f)
+
+-- where the field is 0, v is added
+module _ (k v x : ℕ) (h : k < 16) (l : v < 4) (f : x < 2 ^ 32) (e : field k x ≡ 0) where
+  pub add-shifted : x + (v * 2 ^ (2 * k)) % 2 ^ 32 ≡ put-field k v x
+  add-shifted = omega (arith, put-shifted k v x h l f (sym e))
+
+  pub add-fits : x + (v * 2 ^ (2 * k)) % 2 ^ 32 < 2 ^ 32
+  add-fits = omega (arith, put-fits k v x h l f (sym e))

@@ -12,7 +12,6 @@ use slots::rows::target_at;
 use slots::rows::touch_row;
 use words::EXPANDED;
 use words::Held;
-use words::MET;
 ghost use mathlib.Core.Bool.{false};
 ghost use mathlib.Core.Path.{_≡_};
 ghost use mathlib.Core.List.{List};
@@ -22,7 +21,7 @@ ghost use Rattle.lists.specs.Lists.{elem};
 ghost use Rattle.slots.specs.Scratch.{work-at};
 ghost use Rattle.slots.specs.Store.{arrays};
 ghost use Rattle.slots.specs.contracts.Rows.{RowShape};
-ghost use Rattle.walk.specs.contracts.Scratch.{near-of, near-but, mark-word, with-fresh, expands, takes-turns, Walkable, Fresh, UnmetAt, Added, Gathers, Stepped, Vectors, Lent, Ready, Found, Pool};
+ghost use Rattle.walk.specs.contracts.Scratch.{near-of, near-but, mark-word, mark, with-fresh, expands, takes-turns, Walkable, Fresh, UnmetAt, Added, Gathers, Stepped, Vectors, Lent, Ready, Found, Pool};
 
 // How many places of a row are gathered at once, at most.
 const FRESH: usize = 64;
@@ -52,14 +51,14 @@ fn unmet_at(
     Ref::Dead
 }
 
-// Marks slot `id` as met and writes it behind the `n` slots of `fresh`. Touches its vector.
+// Marks slot `id`, which is not met, as met and writes it behind the `n` slots of `fresh`. Touches its vector.
 fn add(dim: usize, vectors: &[u8], id: u32, n: usize, scratch: &mut [u32], fresh: &mut [u32]) -> u32
     requires { ⌜ id * dim + dim ≤ length (now vectors) ⌝ }
-    requires { ⌜ (mark-word id < length (now scratch)) × (n < length (now fresh)) ⌝ }
+    requires { ⌜ (mark-word id < length (now scratch)) × (mark (now scratch) id ≡ 0) × (n < length (now fresh)) ⌝ }
     ensures { λ r. ⌜ Added id n (now (scratch .entry)) (now (fresh .entry)) (now (scratch .exit)) (now (fresh .exit)) × (r ≤ 1020) ⌝ }
 {
     let s = wide(id);
-    words::set_mark(scratch, s, MET);
+    words::meet(scratch, s);
     fresh[n] = id;
     touch_vector(dim, vectors, s)
 }

@@ -15,7 +15,7 @@ ghost use Rattle.slots.specs.Scratch.{work-at};
 ghost use Rattle.walk.specs.contracts.Scratch as Scratch;
 ghost use Rattle.walk.specs.contracts.Scratch.{mark-word, put-mark, unmet, Listed, Scannable, Entered, Unexpanded, Next, Cleared, LeftOut, Begun};
 
-pub const MET: u32 = 1;
+const MET: u32 = 1;
 
 pub const EXPANDED: u32 = 2;
 
@@ -64,6 +64,14 @@ pub fn set_mark(scratch: &mut [u32], s: usize, v: u32)
 {
     let at = MARKS + s / 16;
     scratch[at] = put_field(place_of(s), v, scratch[at]);
+}
+
+// Marks slot `s`, which is not met, as met.
+pub fn meet(scratch: &mut [u32], s: usize)
+    requires { ⌜ (mark-word s < length (now scratch)) × (Scratch.mark (now scratch) s ≡ 0) ⌝ }
+    ensures { λ _. ⌜ now (scratch .exit) ≡ put-mark (now (scratch .entry)) s 1 ⌝ }
+{
+    scratch[MARKS + s / 16] += MET << (2 * place_of(s));
 }
 
 // Whether slot `id` is inside and not met.

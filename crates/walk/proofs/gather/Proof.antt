@@ -58,7 +58,7 @@ add-requires c κs =
     let v = (loop₂ c) .loop .inv in
     let u = (c .before .before .before .before .before .unmet-at .ensures (a .dim) (a .vectors .now)) .found _ (c .before .before .before .r .given .1) in
     let i = ref-inside (arrays (a .dim) (a .degree) (a .vectors .now) (a .targets .now) (a .edges .now) (a .versions .now) (a .marks .now)) _ _ (u .0) refl in
-    (fits-in _ _ _ _ i (p .0 .1), (omega (arith, i, p .1 .0 .0, v .3 .size), omega (arith, v .1, v .3 .few, c .before .before .before .before .before .before .before .loop-test .taken, p .1 .1 .3)))
+    (fits-in _ _ _ _ i (p .0 .1), (omega (arith, i, p .1 .0 .0, v .3 .size), u .1, omega (arith, v .1, v .3 .few, c .before .before .before .before .before .before .before .loop-test .taken, p .1 .1 .3)))
 
 add-touched : tie.Need-add-touched Inv-loop μ-loop
 add-touched c = let l = add-arg₃ c in let v = loop₂ l .loop .inv in omega (arith, v .2, v .3 .few, l .before .before .before .before .before .before .before .loop-test .taken, (start₂ l) .pre .1 .1 .3, c .before .before .before .before .add .ensures .1)
