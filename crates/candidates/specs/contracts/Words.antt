@@ -2,7 +2,7 @@
 use Prim.Native.Nat.{ℕ, zero, suc, _+_, _*_, _-_, _≤_, _<_}
 use mathlib.Core.Path.{_≡_}
 use mathlib.Core.Logic.{_⊎_}
-use mathlib.Core.Bool.{Bool, not, _&&_}
+use mathlib.Core.Bool.{Bool, true, not, _&&_}
 use mathlib.Core.List.{List, [], _∷_, _++_}
 use lib.ListN.{length, take, drop, getD, set}
 use lib.Dec.{eqb}
@@ -50,6 +50,11 @@ pub record Left (w : List ℕ) (a n : ℕ) (l : List Candidate) (r : ℕ) (w′ 
   pub same : Outside a (2 * n) w w′
 
 -- ---- inserting in order
+-- the candidate x goes behind the first r of the n at a
+pub record Behind (w : List ℕ) (a n : ℕ) (x : Candidate) (r : ℕ) : Type 0 where
+  pub within : r ≤ n
+  pub ahead : (i : ℕ) → i < r → before (getD (cands w a n) i (pair 0 0)) x ≡ true
+
 -- the candidate x goes to place r among the n at a
 pub record Placed (w : List ℕ) (a n : ℕ) (x : Candidate) (r : ℕ) : Type 0 where
   pub within : r ≤ n
