@@ -1,8 +1,8 @@
 -- Elements by their place: what holds of each, of each pair and of those on either side of a place in an ordered list, the place at which an
 -- element is inserted, and the last place. Assumes nothing.
 use Prim.Native.Nat.{ℕ, zero, suc, _≤_, _<_}
-use mathlib.Core.Bool.{Bool, true, false, true≢false}
-use mathlib.Core.Path.{_≡_, refl, ap, sym, _∙_}
+use mathlib.Core.Bool.{Bool, true, false}
+use mathlib.Core.Path.{_≡_, refl, ap}
 use mathlib.Core.List.{List, [], _∷_, _++_}
 use native.Mathlib.Decide.{decLt}
 use native.Mathlib.Omega.{arith}
@@ -46,19 +46,10 @@ module _ {A : Type 0} (d : A) where
         rw (low 0 (omega arith)) (ap (λ (zs : List A). y ∷ zs) (insert-at ys r (omega arith) (λ i k. low (suc i) (omega arith)) (λ k. high (omega arith))))
 
     module _ (through : (a b c : A) → before a b ≡ true → before b c ≡ true → before a c ≡ true) (xs : List A) (o : Ordered before xs) (m : ℕ) (k : m < length xs) where
-      -- if the element at m comes before x, so does each up to m; if it does not, neither does any from m on
+      -- if the element at m comes before x, so does each up to m
       pub up-to : before (getD xs m d) x ≡ true → (i : ℕ) → i ≤ m → before (getD xs i d) x ≡ true
       up-to e i l = go (decLt i m)
         where
           go : Dec (i < m) → before (getD xs i d) x ≡ true
           go (yes h) = through (getD xs i d) (getD xs m d) x (pairwise-at (λ a b. before a b ≡ true) xs o i m h k) e
           go (no h) = let z : i ≡ m = omega arith in rw z e
-
-      pub from-on : before (getD xs m d) x ≡ false → (i : ℕ) → m ≤ i → i < length xs → before (getD xs i d) x ≡ false
-      from-on e i l j = go (decLt m i) (before (getD xs i d) x) refl
-        where
-          go : Dec (m < i) → (b : Bool) → before (getD xs i d) x ≡ b → b ≡ false
-          go (no h) b f = let z : i ≡ m = omega arith in sym f ∙ rw z e
-          go (yes h) false f = refl
-          go (yes h) true f =
-              absurd (true≢false (sym (through (getD xs m d) (getD xs i d) x (pairwise-at (λ a b. before a b ≡ true) xs o m i h j) f) ∙ e))
