@@ -3,7 +3,7 @@
 # left, with what becomes of the graph at the end of each month, read by the library's own functions. Exit code 1, with day and place, where an answer or, at
 # the end of a day, a byte of the two indexes differs.
 #
-# Two years are run, about eight minutes of CPU time in all: each delivery inserted by one call, and one vector at a time. They are drawn in docs/year.svg.
+# Two years are run, about five minutes of CPU time in all: each delivery inserted by one call, and one vector at a time. They are drawn in docs/year.svg.
 # --seed: 1 where not given. --batch: one year alone, with so many vectors to an insert at most; nothing is drawn. --spoil: changes one item of words, vectors,
 # targets, edges, versions, marks or pool of the library's memory on day 40, which must end the run.
 # Needs what compare/histories.sh needs, and python3; writes below target/ and compare/rust/ and docs/year.svg only.

@@ -1,5 +1,5 @@
 #!/usr/bin/env python3
-"""Prints README's two reading tables, or with --check fails where README has other ones.
+"""Prints README's two reading tables, or with --check fails where README has other ones, or docs/CLAIMS.md another number of lines of the first.
 
 The first has the definitions that the theorems for the three demands rest on. It begins with their statements and the `ensures` lines of the functions for
 C, and follows each name through the imports; so it is closed, and a definition reached in a file of no row fails. It does not follow a function's contract
@@ -194,8 +194,11 @@ def main():
 
     text = "\n".join(out)
     if sys.argv[1:] == ["--check"]:
-        with open(os.path.join(TOP, "README.md")) as readme:
-            sys.exit(None if text in readme.read() else "README.md has other tables")
+        for file, part in ("README.md", text), ("docs/CLAIMS.md", "**{:,} lines**".format(total)):
+            with open(os.path.join(TOP, file)) as document:
+                if part not in document.read():
+                    sys.exit("%s has other numbers" % file)
+        return
     print(text)
 
 

@@ -39,7 +39,8 @@ fn sixteen(a: &[u8], b: &[u8], i: usize) -> u32
     four(a, b, i) + four(a, b, i + 4) + four(a, b, i + 8) + four(a, b, i + 12)
 }
 
-// The sum of 64 squared differences, from place `i` on. It is written out, without a loop, so that the compiler takes 16 bytes at a time.
+// The sum of 64 squared differences, from place `i` on. It is written out, without a loop, so that the compiler takes 16 bytes at a time (compare/distance/lanes.sh
+// tells whether it does).
 fn sixty_four(a: &[u8], b: &[u8], i: usize) -> u32
     requires { ⌜ (i + 64 ≤ length (now a)) × (i + 64 ≤ length (now b)) ⌝ }
     ensures { λ r. ⌜ Summed (now (a .entry)) (now (b .entry)) i 64 r ⌝ }
@@ -76,7 +77,7 @@ fn rest(a: &[u8], b: &[u8], from: usize) -> u32
     sum
 }
 
-// The sum of the squared differences of two vectors of one length. Short ones do not pass the tests of the loop.
+// The sum of the squared differences of two vectors of one length. Short ones go past the loop, whose tests would cost more than their sums.
 pub fn distance(a: &[u8], b: &[u8]) -> u32
     requires { ⌜ (length (now a) ≡ length (now b)) × (length (now a) ≤ 256) ⌝ }
     ensures { λ r. ⌜ Measured (distance (now (a .entry)) (now (b .entry))) r ⌝ }

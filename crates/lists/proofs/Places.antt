@@ -1,4 +1,4 @@
--- Elements by their place: what holds of each, of each pair and of those on either side of a place in an ordered list, the place at which an
+-- Elements by their place: what holds of each, of each pair and of those up to a place in an ordered list, the place at which an
 -- element is inserted, and the last place. Assumes nothing.
 use Prim.Native.Nat.{ℕ, zero, suc, _≤_, _<_}
 use mathlib.Core.Bool.{Bool, true, false}

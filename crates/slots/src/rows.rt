@@ -57,7 +57,8 @@ pub fn target_at(degree: usize, targets: &[u32], s: usize, place: usize) -> u32
     targets[s * degree + place]
 }
 
-// Reads the first and the last word of slot `s`'s row, so that the row is on its way from memory when it is gone through. Returns a sum that tells nothing.
+// Reads the first and the last target of slot `s`'s row and its first edge version, so that the row is on its way from memory when it is gone through.
+// Returns a sum that tells nothing.
 pub fn touch_row(degree: usize, targets: &[u32], edges: &[u16], s: usize) -> u32
     requires { ⌜ (s * degree + degree ≤ length (now targets)) × (s * degree + degree ≤ length (now edges)) ⌝ }
     ensures { λ r. ⌜ r ≤ 1020 ⌝ }

@@ -10,7 +10,7 @@ use lib.Seq.{drop-cons}
 use Rattle.lists.specs.Lists.{All, part}
 use Rattle.vectors.specs.Distance.{squared-difference, distance}
 
--- ---- for the loop of `distance`
+-- ---- for the loops of the distance
 
 pub byte-square : {d : ℕ} → d < 256 → d * d ≤ 65025
 byte-square {d} h = let l : d ≤ 255 = omega arith in mul-le-mul l l

@@ -58,7 +58,7 @@ fn add(dim: usize, vectors: &[u8], id: u32, n: usize, scratch: &mut [u32], fresh
     ensures { λ r. ⌜ Added id n (now (scratch .entry)) (now (fresh .entry)) (now (scratch .exit)) (now (fresh .exit)) × (r ≤ 1020) ⌝ }
 {
     let s = wide(id);
-    words::meet(scratch, s);
+    words::mark_met(scratch, s);
     fresh[n] = id;
     touch_vector(dim, vectors, s)
 }

@@ -67,7 +67,7 @@ pub fn set_mark(scratch: &mut [u32], s: usize, v: u32)
 }
 
 // Marks slot `s`, which is not met, as met.
-pub fn meet(scratch: &mut [u32], s: usize)
+pub fn mark_met(scratch: &mut [u32], s: usize)
     requires { ⌜ (mark-word s < length (now scratch)) × (Scratch.mark (now scratch) s ≡ 0) ⌝ }
     ensures { λ _. ⌜ now (scratch .exit) ≡ put-mark (now (scratch .entry)) s 1 ⌝ }
 {

@@ -5,6 +5,11 @@ use crate::finder::call;
 use crate::lent::{Lent, Piece, Rng};
 use crate::table;
 use diskann_sorted::histories::{Cloud, Report, Rng as Numbers, Rust, cpu};
+use std::env;
+use std::fs::{File, OpenOptions};
+use std::hint::black_box;
+use std::io::{Read, Write};
+use std::sync::{LazyLock, Mutex};
 
 const PARTS: &[(&str, fn())] = &[
     ("create", create),
@@ -12,6 +17,7 @@ const PARTS: &[(&str, fn())] = &[
     ("insert", insert),
     ("delete", delete),
     ("guard", guard),
+    ("read", read),
 ];
 
 const DIM: usize = 256;
@@ -30,6 +36,33 @@ pub fn main(names: &[String]) {
         }
     }
     println!("after each line both had the same index");
+}
+
+/// Has a profiler count only what happens in the calls of one function, which COUNTED names: it listens and answers by the pipes `control` and `answer` in the folder
+/// PIPES (compare/profile.sh). Without COUNTED nothing is done.
+fn count(function: &str, order: &[u8]) {
+    static COUNTED: LazyLock<Option<(String, Mutex<(File, File)>)>> = LazyLock::new(|| {
+        let (function, pipes) = (env::var("COUNTED").ok()?, env::var("PIPES").unwrap());
+        let open = |name| OpenOptions::new().read(true).write(true).open(format!("{pipes}/{name}")).unwrap();
+        Some((function, Mutex::new((open("control"), open("answer")))))
+    });
+    if let Some((counted, pipes)) = &*COUNTED
+        && counted == function
+    {
+        let (control, answer) = &mut *pipes.lock().unwrap();
+        control.write_all(order).unwrap();
+        answer.read_exact(&mut [0; 5]).unwrap();
+    }
+}
+
+/// A call of the library that a profiler may count.
+macro_rules! counted {
+    ($name:ident, $($more:tt)*) => {{
+        count(stringify!($name), b"enable\n");
+        let answer = call!($name, $($more)*);
+        count(stringify!($name), b"disable\n");
+        answer
+    }};
 }
 
 /// An index on both sides, and how long each has taken: the Rust, the library.
@@ -70,7 +103,7 @@ impl Timed {
         let mut found = Lent::junk(1, &mut self.rng);
         let lent = self.both.six.lengths();
         let started = cpu();
-        let refused = call!(
+        let refused = counted!(
             finder_search, self.both, lent, query.as_ptr(), DIM, beam as u32, beam as u32, slots.mut_ptr(), beam, dists.mut_ptr(), beam,
             self.scratch.mut_ptr(), self.scratch.len(), found.mut_ptr()
         );
@@ -86,7 +119,7 @@ impl Timed {
         let (mut slots, mut found) = (Lent::junk(batch.len(), &mut self.rng), Lent::junk(1, &mut self.rng));
         let lent = self.both.six.lengths();
         let started = cpu();
-        let refused = call!(
+        let refused = counted!(
             finder_insert, self.both, lent, bytes.as_ptr(), bytes.len(), BEAM, slots.mut_ptr(), batch.len(), self.scratch.mut_ptr(),
             self.scratch.len(), found.mut_ptr()
         );
@@ -114,7 +147,7 @@ impl Timed {
         let (mut stats, mut found) = (Lent::junk(4 * ids.len(), &mut self.rng), Lent::junk(1, &mut self.rng));
         let lent = self.both.six.lengths();
         let started = cpu();
-        let refused = call!(
+        let refused = counted!(
             finder_delete, self.both, lent, ids.as_ptr(), ids.len(), 64, 4, stats.mut_ptr(), ids.len(), self.scratch.mut_ptr(), self.scratch.len(),
             found.mut_ptr()
         );
@@ -131,7 +164,7 @@ impl Timed {
         let mut status = Lent::junk(5, &mut self.rng);
         let (lent, [count, multiplier, sample, beam]) = (self.both.six.lengths(), settings);
         let started = cpu();
-        let refused = call!(
+        let refused = counted!(
             finder_guard_enable, self.both, lent, count, multiplier, sample, beam, self.scratch.mut_ptr(), self.scratch.len(), status.mut_ptr()
         );
         self.spent[1] += cpu() - started;
@@ -146,7 +179,7 @@ impl Timed {
         let mut r = Reported::junk(&mut self.rng);
         let lent = self.both.six.lengths();
         let started = cpu();
-        let refused = call!(
+        let refused = counted!(
             finder_assess, self.both, lent, ids.as_ptr(), ids.len(), r.checked.mut_ptr(), 64, r.lost.mut_ptr(), 64, self.scratch.mut_ptr(),
             self.scratch.len(), r.numbers.mut_ptr()
         );
@@ -162,7 +195,7 @@ impl Timed {
         let mut r = Reported::junk(&mut self.rng);
         let lent = self.both.six.lengths();
         let started = cpu();
-        let refused = call!(
+        let refused = counted!(
             finder_guarded_delete, self.both, lent, ids.as_ptr(), ids.len(), 64, 4, stats.mut_ptr(), ids.len(), r.checked.mut_ptr(), 64,
             r.lost.mut_ptr(), 64, self.scratch.mut_ptr(), self.scratch.len(), found.mut_ptr(), r.numbers.mut_ptr()
         );
@@ -356,6 +389,38 @@ fn guard() {
         for (applied, (calls, times)) in outcomes.into_iter().enumerate().rev().filter(|(_, (calls, _))| *calls > 0) {
             line(capacity, applied, calls, times);
         }
+    }
+}
+
+/// Reads a full index whose guard is on: 10,000 calls of each function, on slots drawn at random. What is read is added up, and the sums compared.
+fn read() {
+    println!("readings; time of one\n{:>8} {:>22} {:>10} {:>10} {:>6}", "capacity", "", "the Rust", "library", "ratio");
+    for capacity in [1_000usize, 20_000, 65_536] {
+        let mut t = filled(capacity, &clustered(capacity));
+        t.enable([32, 4, 4_096, 64]);
+        let (slots, lent) = (drawn(&mut t.rng, capacity, 10_000), t.both.six.lengths());
+        let mut five = [0u32; 5];
+        macro_rules! reading {
+            ($function:ident, $rust:expr, |$slot:ident| $($more:expr),*) => {
+                let rust: fn(&Rust, u32) -> u32 = $rust;
+                let started = cpu();
+                let said = slots.iter().map(|&slot| black_box(rust)(&t.both.rust, slot) as u64).sum::<u64>();
+                let between = cpu();
+                let mut sum = 0u64;
+                for &$slot in &slots {
+                    assert!(call!($function, t.both, lent $(, $more)*, five.as_mut_ptr()) == 0);
+                    sum += five[0] as u64;
+                }
+                let times = [between - started, cpu() - between].map(|spent| spent / slots.len() as f64 * 1e6);
+                assert!(sum == said);
+                println!("{capacity:>8} {:>22} {:>10.3} {:>10.3} {:>6.1}", stringify!($function), times[0], times[1], times[1] / times[0]);
+            };
+        }
+        reading!(finder_live, |rust, _| rust.live(), |_slot|);
+        reading!(finder_mark, |rust, slot| rust.is_live(slot) as u32, |slot| slot);
+        reading!(finder_slot_version, |rust, slot| rust.version(slot) as u32, |slot| slot);
+        reading!(finder_target, |rust, slot| rust.targets(slot)[0], |slot| slot, 0);
+        reading!(finder_guard_status, |rust, _| rust.status()[0], |_slot|);
     }
 }
 

@@ -8,8 +8,8 @@ use Rattle.walk.proofs.add.Tie as tie
 wide-requires : tie.Need-wide-requires
 wide-requires c κs = search needs
 
-meet-requires : tie.Need-meet-requires
-meet-requires c κs = let p = c .before .before .before .before .before .pre in rw (c .before .wide .ensures) (p .1 .0, p .1 .1)
+mark-met-requires : tie.Need-mark-met-requires
+mark-met-requires c κs = let p = c .before .before .before .before .before .pre in rw (c .before .wide .ensures) (p .1 .0, p .1 .1)
 
 mul-fresh : tie.Need-mul-fresh
 mul-fresh c = search needs
@@ -27,7 +27,7 @@ same-length-2 : tie.Need-same-length-2
 same-length-2 c = search needs
 
 returns : tie.Need-returns
-returns c = (added-by (c .before .before .before .before .before .wide .ensures) (c .before .before .before .meet .ensures) refl, c .touch-vector .ensures)
+returns c = (added-by (c .before .before .before .before .before .wide .ensures) (c .before .before .before .mark-met .ensures) refl, c .touch-vector .ensures)
 
 pub add-spec : {M : Type 1} → statement M
-add-spec = tie.close (tie.spec wide-requires meet-requires mul-fresh slice-write-fresh touch-vector-requires same-length same-length-2 returns)
+add-spec = tie.close (tie.spec wide-requires mark-met-requires mul-fresh slice-write-fresh touch-vector-requires same-length same-length-2 returns)

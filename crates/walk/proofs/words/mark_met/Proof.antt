@@ -4,8 +4,8 @@ use lib.ListN.{set}
 use borrow.Author.Needs.{needs}
 use Rattle.walk.specs.contracts.Scratch.{mark-word}
 use Rattle.walk.proofs.Fields.{add-shifted, add-fits}
-use Rattle.walk.proofs.words.meet.Statement.{statement}
-use Rattle.walk.proofs.words.meet.Tie as tie
+use Rattle.walk.proofs.words.mark_met.Statement.{statement}
+use Rattle.walk.proofs.words.mark_met.Tie as tie
 
 place-of-requires : tie.Need-place-of-requires
 place-of-requires c κs = search needs
@@ -43,8 +43,8 @@ returns c =
     let at = mark-word (s .args .s) in
     rw (c .before .place-of .ensures) (ap (set (s .args .scratch .now) at) (add-shifted _ 1 _ (omega arith) (omega arith) (c .slice-known2 .given at .fits) (s .pre .1)))
 
-pub meet-spec : {M : Type 1} → statement M
-meet-spec =
+pub mark-met-spec : {M : Type 1} → statement M
+mark-met-spec =
     tie.close
     (tie.spec
     place-of-requires
