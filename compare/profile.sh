@@ -1,7 +1,7 @@
 #!/bin/sh
 # compare/profile.sh CALL: where the time of the library's calls goes in compare/times.sh, by function of the archive, in per cent of the samples that perf takes
-# inside of them. CALL is search, insert, delete, guard_enable, assess or guarded_delete. What is inlined counts for the function around it. Needs what
-# compare/times.sh needs, and Debian's linux-perf; writes below target/ and compare/rust/ only.
+# inside of them, with memset, which clears words. CALL is search, insert, delete, guard_enable, assess or guarded_delete. What is inlined counts for the function
+# around it. Needs what compare/times.sh needs, and Debian's linux-perf; writes below target/ and compare/rust/ only.
 set -e
 cd "$(dirname "$0")"
 case $1 in
@@ -19,5 +19,5 @@ COUNTED=finder_$1 PIPES=$out RAYON_NUM_THREADS=1 perf record -q -e cpu-clock -F 
 nm ../target/staticlib/libfinder.a | awk '$2 ~ /[tT]/ { print $3 }' > "$out/functions"
 perf report -i "$out/data" --stdio -F sample,symbol 2> /dev/null | awk '
   NR == FNR { library[$0]; next }
-  $2 == "[.]" && $3 in library { all += $1; count[$3] = $1 }
+  $2 == "[.]" && ($3 in library || $3 ~ /^__memset/) { all += $1; count[$3] = $1 }
   END { for (name in count) printf "%5.1f %s\n", 100 * count[name] / all, name }' "$out/functions" - | sort -rn | awk '$1 >= 0.5'
