@@ -1,4 +1,4 @@
-# Builds libfinder.a and the program `histories` beside it, whose path is then in $histories; read by histories.sh, year.sh and times.sh, in their folder. Where
+# Builds libfinder.a and the program `histories` beside it, whose path is then in $histories; read by histories.sh, year.sh, times.sh and profile.sh, in their folder. Where
 # $program is `published`, it is that program with the Rust as published.
 mkdir -p ../target
 (cd .. && rt staticlib finder) > ../target/histories.log 2>&1 || { grep -E '^rt:|error|NOT PROVED' ../target/histories.log; exit 1; }

@@ -14,7 +14,7 @@ if [ "$1" = --spoil ]; then
 fi
 [ $# -gt 0 ] || set -- graph own year
 for part; do
-  case $part in graph | own | year) ;; *) sed -n 2p "$0"; exit 2 ;; esac
+  case $part in graph | own | year) ;; *) sed -n 2p compare/peers.sh; exit 2 ;; esac
 done
 out=target/peers
 mkdir -p "$out"

@@ -15,7 +15,7 @@ while [ $# -gt 0 ]; do
     --seed) seed=$2 ;;
     --batch) batches=$2 drawn= ;;
     --spoil) piece=$2 drawn= ;;
-    *) sed -n 2p "$0"; exit 2 ;;
+    *) sed -n 2p "${0##*/}"; exit 2 ;;
   esac
   shift 2
 done

@@ -46,7 +46,7 @@ fn main() {
             *byte = (seed >> 33) as u8;
         }
         let run = |distance: Distance, i: usize| {
-            let (a, b) = (&bytes[i * dim], &bytes[(i * 7 + 3) % N * dim]);
+            let (a, b) = (bytes[i * dim..].as_ptr(), bytes[(i * 7 + 3) % N * dim..].as_ptr());
             unsafe { distance(black_box(a), dim, black_box(b), dim) }
         };
         let mut best = [f64::MAX; 3];

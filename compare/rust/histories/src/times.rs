@@ -29,6 +29,7 @@ const FIRST: usize = 232;
 
 /// Times the named parts, or all.
 pub fn main(names: &[String]) {
+    assert!(names.iter().all(|n| PARTS.iter().any(|(part, _)| n == part)), "parts: create, search, insert, delete, guard, read");
     println!("dim {DIM}, degree {DEGREE}, alpha {ALPHA}, clustered vectors; CPU time in microseconds");
     for (name, part) in PARTS {
         if names.is_empty() || names.iter().any(|n| n == name) {
@@ -40,7 +41,7 @@ pub fn main(names: &[String]) {
 
 /// Has a profiler count only what happens in the calls of one function, which COUNTED names: it listens and answers by the pipes `control` and `answer` in the folder
 /// PIPES (compare/profile.sh). Without COUNTED nothing is done.
-fn count(function: &str, order: &[u8]) {
+fn order_profiler(function: &str, order: &[u8]) {
     static COUNTED: LazyLock<Option<(String, Mutex<(File, File)>)>> = LazyLock::new(|| {
         let (function, pipes) = (env::var("COUNTED").ok()?, env::var("PIPES").unwrap());
         let open = |name| OpenOptions::new().read(true).write(true).open(format!("{pipes}/{name}")).unwrap();
@@ -51,16 +52,16 @@ fn count(function: &str, order: &[u8]) {
     {
         let (control, answer) = &mut *pipes.lock().unwrap();
         control.write_all(order).unwrap();
-        answer.read_exact(&mut [0; 5]).unwrap();
+        answer.read_exact(&mut [0; 5]).unwrap(); // "ack\n" and a zero byte
     }
 }
 
 /// A call of the library that a profiler may count.
 macro_rules! counted {
     ($name:ident, $($more:tt)*) => {{
-        count(stringify!($name), b"enable\n");
+        order_profiler(stringify!($name), b"enable\n");
         let answer = call!($name, $($more)*);
-        count(stringify!($name), b"disable\n");
+        order_profiler(stringify!($name), b"disable\n");
         answer
     }};
 }
@@ -392,7 +393,8 @@ fn guard() {
     }
 }
 
-/// Reads a full index whose guard is on: 10,000 calls of each function, on slots drawn at random. What is read is added up, and the sums compared.
+/// Reads a full index whose guard is on: 10,000 calls of each function, on slots drawn at random. What is read (of the status its first word) is added
+/// up, and the sums compared.
 fn read() {
     println!("readings; time of one\n{:>8} {:>22} {:>10} {:>10} {:>6}", "capacity", "", "the Rust", "library", "ratio");
     for capacity in [1_000usize, 20_000, 65_536] {
@@ -421,6 +423,7 @@ fn read() {
         reading!(finder_slot_version, |rust, slot| rust.version(slot) as u32, |slot| slot);
         reading!(finder_target, |rust, slot| rust.targets(slot)[0], |slot| slot, 0);
         reading!(finder_guard_status, |rust, _| rust.status()[0], |_slot|);
+        assert!(t.same(), "the library's index is another one than the Rust's");
     }
 }
 
