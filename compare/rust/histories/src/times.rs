@@ -393,10 +393,10 @@ fn guard() {
     }
 }
 
-/// Reads a full index whose guard is on: 10,000 calls of each function, on slots drawn at random. What is read (of the status its first word) is added
-/// up, and the sums compared.
+/// Reads a full index whose guard is on: 10,000 calls of each function, on slots drawn at random. The Rust reads twice: as it is, and after the tests of
+/// document 01's table, which a call of the library makes too. What is read (of the status its first word) is added up, and the sums compared.
 fn read() {
-    println!("readings; time of one\n{:>8} {:>22} {:>10} {:>10} {:>6}", "capacity", "", "the Rust", "library", "ratio");
+    println!("readings; time of one\n{:>8} {:>22} {:>10} {:>10} {:>10} {:>6} {:>6}", "capacity", "", "the Rust", "tested", "library", "ratio", "tested");
     for capacity in [1_000usize, 20_000, 65_536] {
         let mut t = filled(capacity, &clustered(capacity));
         t.enable([32, 4, 4_096, 64]);
@@ -407,15 +407,25 @@ fn read() {
                 let rust: fn(&Rust, u32) -> u32 = $rust;
                 let started = cpu();
                 let said = slots.iter().map(|&slot| black_box(rust)(&t.both.rust, slot) as u64).sum::<u64>();
+                let alone = cpu();
+                let tested = slots.iter().map(|&slot| match table::reading(&t.both.words(), black_box(&lent), t.both.six.marks.items()) {
+                    0 => black_box(rust)(&t.both.rust, slot) as u64,
+                    number => panic!("refused: {number}"),
+                });
+                let tested = tested.sum::<u64>();
                 let between = cpu();
                 let mut sum = 0u64;
                 for &$slot in &slots {
                     assert!(call!($function, t.both, lent $(, $more)*, five.as_mut_ptr()) == 0);
                     sum += five[0] as u64;
                 }
-                let times = [between - started, cpu() - between].map(|spent| spent / slots.len() as f64 * 1e6);
-                assert!(sum == said);
-                println!("{capacity:>8} {:>22} {:>10.3} {:>10.3} {:>6.1}", stringify!($function), times[0], times[1], times[1] / times[0]);
+                let times = [alone - started, between - alone, cpu() - between].map(|spent| spent / slots.len() as f64 * 1e6);
+                assert!(sum == said && tested == said);
+                let [rust, with, library] = times;
+                println!(
+                    "{capacity:>8} {:>22} {rust:>10.3} {with:>10.3} {library:>10.3} {:>6.1} {:>6.2}",
+                    stringify!($function), library / rust, library / with
+                );
             };
         }
         reading!(finder_live, |rust, _| rust.live(), |_slot|);
