@@ -1,0 +1,10 @@
+pub mod Order
+pub mod Exact
+pub mod Tests
+pub mod Writes
+pub mod Taken
+pub mod Named
+pub mod Kept
+pub mod Listing
+pub mod Loops
+pub mod Twice
