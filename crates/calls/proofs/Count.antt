@@ -10,22 +10,22 @@ use lib.Dec.{eqb, ltb}
 use lib.ListN.{length, length-map}
 use Rattle.lists.specs.Lists.{filter, range}
 use Rattle.lists.proofs.Ranges.{length-range}
-use Rattle.slots.specs.Sizes.{Lengths, limits, sizes-ok, alpha-ok, lengths-ok}
+use Rattle.slots.specs.Sizes.{Lengths, limits}
 use Rattle.slots.specs.View.{View, live-slots, free-slots, emptied}
 use Rattle.slots.specs.Store.{store-view, store-ops}
 use Rattle.slots.specs.Plain.{plain-ops, new-plain}
 use Rattle.slots.proofs.New.{Accepted, agree-new}
 use Rattle.slots.proofs.Live.{Marking, Marks-fit, store-marking, Live-inside, plain-marking}
 use Rattle.insert.proofs.Free.{fits-after-insert, live-after-insert}
-use Rattle.repair.specs.Delete.{delete-batch}
 use Rattle.repair.proofs.Count.{fits-after-delete, live-after-delete}
+use Rattle.numbers.specs.Numbers.{taken}
 use Rattle.guard.specs.Guard.{Report}
 use Rattle.calls.specs.Calls.{Making, Insert, Delete, create, read, read-vector, search, insert, delete, enable, status, assess, guarded-delete, Operation, Lent, Call}
-use Rattle.calls.specs.Refusals.{Test, first-of, making-tests, index-tests, scratch-short, tests, guard-fault}
+use Rattle.calls.specs.Refusals.{Test, first-of, making-tests, scratch-short, tests}
 use Rattle.calls.specs.State.{State, Kind, stored, plain, view-of, shown, made, with-graph, with-guard}
-use Rattle.calls.specs.Step.{vectors-of, report-of, guarded, perform, refusal, settle, step}
+use Rattle.calls.specs.Step.{vectors-of, report-of, named, deletion, guarded, perform, refusal, settle, step}
 use Rattle.calls.specs.Count.{Tally, tally-performed, tally-settled, tally-after, Counted, Live-count}
-use Rattle.calls.proofs.Tests.{first-none, or-neither, accepted}
+use Rattle.calls.proofs.Tests.{first-none, or-neither, accepted, Finds, index-finds}
 
 -- ---- the live slots of a new index are those given
 
@@ -57,46 +57,38 @@ stored-given m ok = ap (λ v. length (live-slots v)) (agree-new (m .sizes) (m .c
 
 -- ---- what an accepted call finds
 
--- the live count is that of the marks, and no test of the call's own holds
-index-finds : (slices : Lengths) (w : State View) (wrong : Bool) (rest : List Test) → first-of (index-tests limits slices w wrong rest) ≡ none
-    → (w .live ≡ length (live-slots (w .graph))) × (first-of rest ≡ none)
-unfolding index-tests
-index-finds slices w wrong rest r =
+-- of an insert: there are free slots enough, and one number a vector, which none carries
+pub record Insertable (lent : Lent) (w : State View) (a : Insert) : Type 0 where
+  pub finds : Finds (lent .slices) w (ltb (lent .room .slots) (length (a .bytes) / w .graph .sizes .dim) || not (eqb (length (a .numbers)) (length (a .bytes) / w .graph .sizes .dim))) []
+  pub room : length (a .bytes) / w .graph .sizes .dim ≤ length (free-slots (w .graph))
+  pub as-many : length (a .numbers) ≡ length (a .bytes) / w .graph .sizes .dim
+  pub fresh : taken (w .numbers) (a .numbers) ≡ false
+
+pub insert-finds : (lent : Lent) (w : State View) (a : Insert) → first-of (tests limits lent w (insert a)) ≡ none → Insertable lent w a
+unfolding tests
+insert-finds lent w a r =
     let v = w .graph in
-    let e = eqb (w .live) (length (live-slots v)) in
-    let i = ltb (v .entry) (v .sizes .capacity) in
-    let bad₆ = not e || not i || guard-fault limits (w .guard) in
-    let six : List Test = (6, bad₆) ∷ rest in
-    let bad₃ = not (lengths-ok limits (v .sizes) slices) || wrong in
-    let three : List Test = (3, bad₃) ∷ six in
-    let two : List Test = (2, not (alpha-ok (v .sizes .alpha))) ∷ three in
-    let t₂ = first-none 1 (not (sizes-ok limits (v .sizes))) two r .1 in
-    let t₃ = first-none 2 (not (alpha-ok (v .sizes .alpha))) three t₂ .1 in
-    let t₆ = first-none 3 bad₃ six t₃ .1 in
-    let t₇ = first-none 6 bad₆ rest t₆ in
-    let live = or-neither (not e) (not i) (or-neither (not e || not i) (guard-fault limits (w .guard)) (t₇ .0) .0) .0 in
-    (eqb-true (w .live) _ (not-false e live), t₇ .1)
-
-module _ (lent : Lent) (w : State View) (a : Insert) (r : first-of (tests limits lent w (insert a)) ≡ none) where
-  abbrev count : ℕ
-  count = length (a .bytes) / w .graph .sizes .dim
-
-  -- of an insert: there are free slots enough, too
-  insert-finds : (w .live ≡ length (live-slots (w .graph))) × (count ≤ length (free-slots (w .graph)))
-  unfolding tests
-  insert-finds =
-      let v = w .graph in
-      let full = ltb (length (free-slots v)) count in
-      let ten : List Test = (10, full) ∷ (14, false) ∷ [] in
-      let odd = not (eqb (length (a .bytes)) (count * v .sizes .dim)) in
-      let nine : List Test = (9, odd) ∷ ten in
-      let eight : List Test = (8, scratch-short limits lent w) ∷ nine in
-      let over = ltb (limits .beam) (a .beam) in
-      let f = index-finds (lent .slices) w (ltb (lent .room .slots) count) ((7, over) ∷ eight) r in
-      let t₈ = first-none 7 over eight (f .1) .1 in
-      let t₉ = first-none 8 (scratch-short limits lent w) nine t₈ .1 in
-      let t₁₀ = first-none 9 odd ten t₉ .1 in
-      (f .0, ltb-false (length (free-slots v)) count (first-none 10 full ((14, false) ∷ []) t₁₀ .0))
+    let count = length (a .bytes) / v .sizes .dim in
+    let full = ltb (length (free-slots v)) count in
+    let held = taken (w .numbers) (a .numbers) in
+    let fifteen : List Test = (15, held) ∷ (14, false) ∷ [] in
+    let ten : List Test = (10, full) ∷ fifteen in
+    let odd = not (eqb (length (a .bytes)) (count * v .sizes .dim)) in
+    let nine : List Test = (9, odd) ∷ ten in
+    let eight : List Test = (8, scratch-short limits lent w) ∷ nine in
+    let over = ltb (limits .beam) (a .beam) in
+    let many = eqb (length (a .numbers)) count in
+    let f = index-finds (lent .slices) w (ltb (lent .room .slots) count || not many) ((7, over) ∷ eight) r in
+    let t₈ = first-none 7 over eight (f .own) .1 in
+    let t₉ = first-none 8 (scratch-short limits lent w) nine t₈ .1 in
+    let t₁₀ = first-none 9 odd ten t₉ .1 in
+    let t₁₅ = first-none 10 full fifteen t₁₀ in
+    record {
+      finds = record { sized = f .sized; grown = f .grown; long = f .long; not-wrong = f .not-wrong; live = f .live; labels = f .labels; own = refl };
+      room = ltb-false (length (free-slots v)) count (t₁₅ .0);
+      as-many = eqb-true (length (a .numbers)) count (not-false many (or-neither (ltb (lent .room .slots) count) (not many) (f .not-wrong) .1));
+      fresh = first-none 15 held ((14, false) ∷ []) (t₁₅ .1) .0;
+    }
 
 -- ---- every call
 
@@ -113,15 +105,15 @@ module _ {B : Type 0} (K : Kind B) (Fit : B → Type 0) (k : Marking (K .ops) Fi
 
   module _ (t : Tally) (w : State B) (h : Right t w) where
     deletes : (a : Delete) → w .live ≡ length (live-slots (view-of K w))
-        → Right (record { came = t .came; left = t .left + length (emptied (view-of K w) (a .ids)) }) (with-graph K w (delete-batch (K .ops) (a .repair-beam) (a .repair-degree) (w .graph) (a .ids) .0))
-    unfolding with-graph
+        → Right (record { came = t .came; left = t .left + length (emptied (view-of K w) (named w a)) }) (deletion K w a .0)
+    unfolding with-graph deletion
     deletes a e = record {
-      fits = fits-after-delete (K .ops) Fit k (w .graph) (h .fits) (a .repair-beam) (a .repair-degree) (a .ids);
-      live = omega (arith, live-after-delete (K .ops) Fit k (w .graph) (h .fits) (a .repair-beam) (a .repair-degree) (a .ids), e, h .live);
+      fits = fits-after-delete (K .ops) Fit k (w .graph) (h .fits) (a .repair-beam) (a .repair-degree) (named w a);
+      live = omega (arith, live-after-delete (K .ops) Fit k (w .graph) (h .fits) (a .repair-beam) (a .repair-degree) (named w a), e, h .live);
     }
 
     guards : (a : Delete) (r : Report) (q : Bool) → w .live ≡ length (live-slots (view-of K w))
-        → Right (cond q (record { came = t .came; left = t .left + length (emptied (view-of K w) (a .ids)) }) t) (guarded K w a r q .0)
+        → Right (cond q (record { came = t .came; left = t .left + length (emptied (view-of K w) (named w a)) }) t) (guarded K w a r q .0)
     unfolding guarded
     guards a r true e = deletes a e
     guards a r false e = h
@@ -136,17 +128,17 @@ module _ {B : Type 0} (K : Kind B) (Fit : B → Type 0) (k : Marking (K .ops) Fi
         let f = insert-finds lent (shown K w) a r in
         let vs = vectors-of (view-of K w .sizes .dim) (a .bytes) in
         let n : length vs ≡ length (a .bytes) / view-of K w .sizes .dim = simp length-map (length-range 0 (length (a .bytes) / view-of K w .sizes .dim)) in
-        let few : length vs ≤ length (free-slots (view-of K w)) = rw n (f .1) in
+        let few : length vs ≤ length (free-slots (view-of K w)) = rw n (f .room) in
         record {
           fits = fits-after-insert (K .ops) Fit k (w .graph) (h .fits) (a .beam) vs;
-          live = omega (arith, live-after-insert (K .ops) Fit k (w .graph) (h .fits) (a .beam) vs few, f .0, n, h .live);
+          live = omega (arith, live-after-insert (K .ops) Fit k (w .graph) (h .fits) (a .beam) vs few, f .finds .live, n, h .live);
         }
-    performs lent (delete a) r = deletes a (index-finds (lent .slices) (shown K w) _ _ r .0)
+    performs lent (delete a) r = deletes a (index-finds (lent .slices) (shown K w) _ _ r .live)
     performs lent (enable q) r = record { fits = h .fits; live = h .live }
     performs lent status r = h
     performs lent (assess a) r = h
     performs lent (guarded-delete a) r =
-        let q = report-of (shown K w) (a .ids) in guards a q (q .admitted) (index-finds (lent .slices) (shown K w) _ _ r .0)
+        let q = report-of (shown K w) (named w a) in guards a q (q .admitted) (index-finds (lent .slices) (shown K w) _ _ r .live)
 
     steps : (c : Call) → Right (tally-after K t w c) (step K w c .0)
     unfolding tally-after tally-settled step settle refusal

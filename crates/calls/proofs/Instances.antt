@@ -33,6 +33,7 @@ use Rattle.repair.specs.Repair.{insert-and-prune, repaired-row}
 use Rattle.guard.specs.Guard.{virtual-search-pool}
 use Rattle.calls.specs.State.{State, view-of, made, with-graph, stored}
 use Rattle.calls.specs.Runs.{slices-of}
+use Rattle.numbers.proofs.Kept.{summary-long}
 use Rattle.calls.specs.Instances.{AllBytes, Passes, Made, Kept, greedy, robust, nearest, Searched, Tried, Planned, Target-row, Repaired-row, Demand-2}
 use Rattle.calls.proofs.Tests.{passed-lengths}
 use Rattle.calls.proofs.History.{made-both}
@@ -172,7 +173,8 @@ unfolding limits
 below a b h k l = omega (arith, distance-small a b h k)
 
 -- what `Passes` says of the graph
-record Good (b : Store) : Type 0 where
+record Good (n : ℕ) (b : Store) : Type 0 where
+  capacity : b .capacity ≡ n
   sizes-right : sizes-ok limits (store-view b .sizes) ≡ true
   alpha-right : alpha-ok (b .alpha) ≡ true
   shaped : Shaped (b .capacity) (b .arrays)
@@ -186,11 +188,12 @@ module _ (w : State Store) where
   unfolding slices-of
   pool-long p = ap (λ n. n .pool) (lengths-pass p)
 
-  passes-good : Passes w → Good (w .graph)
+  passes-good : Passes w → Good (w .graph .capacity) (w .graph)
   unfolding stored store-ops store-view slices-of
   passes-good p =
       let e = lengths-pass p in
       record {
+        capacity = refl;
         sizes-right = p .sizes;
         alpha-right = p .alpha;
         shaped = record {
@@ -203,18 +206,18 @@ module _ (w : State Store) where
         bytes = p .bytes;
       }
 
-  good-passes : length (w .pool) ≡ limits .pool → Good (w .graph) → Passes w
+  good-passes : length (w .pool) ≡ limits .pool → (n : ℕ) → length (w .numbers) ≡ n → length (w .summary) ≡ w .graph .capacity → Good n (w .graph) → Passes w
   unfolding stored store-ops store-view slices-of lengths-ok
-  good-passes l g =
+  good-passes l n k y g =
       let f = g .shaped in
       record {
         sizes = g .sizes-right;
         alpha = g .alpha-right;
-        lengths = rw (eq-eqb _ _ (f .vectors-long), eq-eqb _ _ (f .targets-long), eq-eqb _ _ (f .edges-long), eq-eqb _ _ (f .versions-long), eq-eqb _ _ (f .marks-long), eq-eqb _ _ l);
+        lengths = rw (eq-eqb _ _ (f .vectors-long), eq-eqb _ _ (f .targets-long), eq-eqb _ _ (f .edges-long), eq-eqb _ _ (f .versions-long), eq-eqb _ _ (f .marks-long), eq-eqb _ _ l, eq-eqb _ _ (k ∙ sym (g .capacity)), eq-eqb _ _ y);
         bytes = g .bytes;
       }
 
-module _ (b : Store) (g : Good b) where
+module _ (n : ℕ) (b : Store) (g : Good n b) where
   abbrev arrays : Arrays
   arrays = b .arrays
 
@@ -243,10 +246,11 @@ module _ (b : Store) (g : Good b) where
       }
 
   -- other arrays
-  changed : (a : Arrays) → a .dim ≡ arrays .dim → a .degree ≡ arrays .degree → Shaped (b .capacity) a → AllBytes (a .vectors) → Good (with-arrays b a)
+  changed : (a : Arrays) → a .dim ≡ arrays .dim → a .degree ≡ arrays .degree → Shaped (b .capacity) a → AllBytes (a .vectors) → Good n (with-arrays b a)
   unfolding store-view
   changed a d e f h =
       record {
+        capacity = g .capacity;
         sizes-right = ap (sizes-ok limits) (λ i. record { dim = d i; capacity = b .capacity; degree = e i; alpha = b .alpha }) ∙ g .sizes-right;
         alpha-right = g .alpha-right;
         shaped = f;
@@ -254,29 +258,29 @@ module _ (b : Store) (g : Good b) where
       }
 
   -- at a slot inside; at one outside nothing changes
-  at-good : (s : ℕ) (a : Arrays) → (s < b .capacity → Good (with-arrays b a)) → Good (at-slot b s a)
-  at-good s a f = by-cases Good (ltb s (b .capacity)) (λ e. f (ltb-true s (b .capacity) e)) (λ e. g)
+  at-good : (s : ℕ) (a : Arrays) → (s < b .capacity → Good n (with-arrays b a)) → Good n (at-slot b s a)
+  at-good s a f = by-cases (Good n) (ltb s (b .capacity)) (λ e. f (ltb-true s (b .capacity) e)) (λ e. g)
 
-  good-fill : (s : ℕ) (vector : List ℕ) → length vector ≡ arrays .dim → AllBytes vector → Good (store-ops .fill b s vector)
+  good-fill : (s : ℕ) (vector : List ℕ) → length vector ≡ arrays .dim → AllBytes vector → Good n (store-ops .fill b s vector)
   unfolding store-ops write-vector write-neighbors set-mark
   good-fill s vector l k = at-good s _ (λ h. changed _ refl refl
       (shaped-marked _ _ (shaped-written _ _ (shaped-vector _ _ (g .shaped) s h vector l) s h []) s 1)
       (all-append _ (take (s * arrays .dim) (arrays .vectors)) (vector ++ drop (s * arrays .dim + arrays .dim) (arrays .vectors)) (all-take _ (s * arrays .dim) (arrays .vectors) (g .bytes))
       (all-append _ vector (drop (s * arrays .dim + arrays .dim) (arrays .vectors)) k (all-drop _ (s * arrays .dim + arrays .dim) (arrays .vectors) (g .bytes)))))
 
-  good-write : (s : ℕ) (ids : List ℕ) → Good (store-ops .write b s ids)
+  good-write : (s : ℕ) (ids : List ℕ) → Good n (store-ops .write b s ids)
   unfolding store-ops write-neighbors
   good-write s ids = at-good s _ (λ h. changed _ refl refl (shaped-written _ _ (g .shaped) s h ids) (g .bytes))
 
-  good-kill : (s : ℕ) → Good (store-ops .kill b s)
+  good-kill : (s : ℕ) → Good n (store-ops .kill b s)
   unfolding store-ops set-mark
   good-kill s = at-good s _ (λ h. changed _ refl refl (shaped-marked _ _ (g .shaped) s 0) (g .bytes))
 
-  good-enter : (e : ℕ) → Good (store-ops .enter b e)
+  good-enter : (e : ℕ) → Good n (store-ops .enter b e)
   unfolding store-ops store-view
-  good-enter e = record { sizes-right = g .sizes-right; alpha-right = g .alpha-right; shaped = g .shaped; bytes = g .bytes }
+  good-enter e = record { capacity = g .capacity; sizes-right = g .sizes-right; alpha-right = g .alpha-right; shaped = g .shaped; bytes = g .bytes }
 
-  good-finish : (s : ℕ) → Good (store-ops .finish b s)
+  good-finish : (s : ℕ) → Good n (store-ops .finish b s)
   unfolding store-ops next-version write-neighbors
   good-finish s = at-good s _ (λ h. changed _ refl refl (shaped-written _ _ (shaped-stepped _ _ (g .shaped) s) s h []) (g .bytes))
 
@@ -285,31 +289,34 @@ unfolding store-ops write-vector write-neighbors set-mark
 fill-dim b s vector = by-cases (λ (x : Store). x .arrays .dim ≡ b .arrays .dim) (ltb s (b .capacity)) (λ e. refl) (λ e. refl)
 
 pub passes-kept : (w : State Store) → Passes w → Kept w
-unfolding with-graph
+unfolding with-graph stored store-ops store-view slices-of
 passes-kept w p =
     let b = w .graph in
     let g = passes-good w p in
-    let back : (x : Store) → Good x → Passes (with-graph stored w x) = λ x. good-passes (with-graph stored w x) (pool-long w p) in
+    let n = b .capacity in
+    let back : (x : Store) → Good n x → Passes (with-graph stored w x (w .numbers)) =
+    λ x. good-passes (with-graph stored w x (w .numbers)) (pool-long w p) n (ap (λ l. l .numbers) (lengths-pass w p)) (summary-long _ _ _) in
     record {
       filled = λ chunk h. back _
-          (foldl-keeps (λ f. (length (f .vector) ≡ b .arrays .dim) × AllBytes (f .vector)) (λ x. Good x × (x .arrays .dim ≡ b .arrays .dim)) (λ x f. store-ops .fill x (f .slot) (f .vector))
-          (λ x f k i. (good-fill x (i .0) (f .slot) (f .vector) (k .0 ∙ sym (i .1)) (k .1), fill-dim x (f .slot) (f .vector) ∙ i .1)) chunk h b (g, refl) .0);
-      written = λ rows. back _ (every (λ x row. store-ops .write x (row .source) (row .targets)) (λ x i row. good-write x i (row .source) (row .targets)) rows b g);
-      emptied = λ slots. back _ (every (store-ops .kill) good-kill slots b g);
-      entered = λ entry. back _ (good-enter b g entry);
-      finished = λ slots. back _ (every (store-ops .finish) good-finish slots b g);
+          (foldl-keeps (λ f. (length (f .vector) ≡ b .arrays .dim) × AllBytes (f .vector)) (λ x. Good n x × (x .arrays .dim ≡ b .arrays .dim)) (λ x f. store-ops .fill x (f .slot) (f .vector))
+          (λ x f k i. (good-fill n x (i .0) (f .slot) (f .vector) (k .0 ∙ sym (i .1)) (k .1), fill-dim x (f .slot) (f .vector) ∙ i .1)) chunk h b (g, refl) .0);
+      written = λ rows. back _ (every (λ x row. store-ops .write x (row .source) (row .targets)) (λ x i row. good-write n x i (row .source) (row .targets)) rows b g);
+      emptied = λ slots. back _ (every (store-ops .kill) (good-kill n) slots b g);
+      entered = λ entry. back _ (good-enter n b g entry);
+      finished = λ slots. back _ (every (store-ops .finish) (good-finish n) slots b g);
     }
   where
-    every : {A : Type 0} (f : Store → A → Store) → ((x : Store) → Good x → (a : A) → Good (f x a)) → (xs : List A) (b : Store) → Good b → Good (foldl f b xs)
-    every {A} f k xs b g = foldl-keeps (λ (a : A). Unit {0}) Good f (λ x a u i. k x i a) xs (all-of (λ (a : A). Unit {0}) (λ a. tt) xs) b g
+    every : {A : Type 0} {n : ℕ} (f : Store → A → Store) → ((x : Store) → Good n x → (a : A) → Good n (f x a)) → (xs : List A) (b : Store) → Good n b → Good n (foldl f b xs)
+    every {A} {n} f k xs b g = foldl-keeps (λ (a : A). Unit {0}) (Good n) f (λ x a u i. k x i a) xs (all-of (λ (a : A). Unit {0}) (λ a. tt) xs) b g
 
 pub made-passes : Made
 unfolding made stored new-arrays
 made-passes lent m e h =
     let same = made-both lent m e .same in
     let sound = same .agree .sound in
-    good-passes (made stored m) (same .pool-long)
+    good-passes (made stored m) (same .pool-long) (m .sizes .capacity) (same .numbers-long) (same .summary-long)
     (record {
+      capacity = refl;
       sizes-right = sound .sizes-right;
       alpha-right = sound .alpha-right;
       shaped = sound .shaped;
@@ -322,7 +329,7 @@ made-passes lent m e h =
 
 pub passes-fit : (w : State Store) → Passes w → Fit (view-of stored w)
 unfolding stored store-ops
-passes-fit w p = good-fit (w .graph) (passes-good w p)
+passes-fit w p = good-fit _ (w .graph) (passes-good w p)
 
 -- ---- demand 2
 

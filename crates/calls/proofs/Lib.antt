@@ -7,3 +7,4 @@ pub mod Runs
 pub mod Instances
 pub mod Enabling
 pub mod Count
+pub mod Labelled

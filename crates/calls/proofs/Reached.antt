@@ -22,7 +22,7 @@ use Rattle.guard.specs.Guard.{Report}
 use Rattle.calls.specs.Calls.{Making, Delete, Operation, create, read, read-vector, search, insert, delete, enable, status, assess, guarded-delete, Lent, Call}
 use Rattle.calls.specs.Refusals.{first-of, making-tests, tests, names-given}
 use Rattle.calls.specs.State.{State, stored, plain, shown, made, with-graph, with-guard}
-use Rattle.calls.specs.Step.{vectors-of, report-of, guarded, perform, refusal, settle, step}
+use Rattle.calls.specs.Step.{vectors-of, report-of, named as named-by, deletion, guarded, perform, refusal, settle, step}
 use Rattle.calls.specs.History.{log-after, Within}
 use Rattle.calls.specs.Reached.{views, Always-reached}
 use Rattle.calls.proofs.Tests.{accepted, given-named}
@@ -81,23 +81,23 @@ module _ (lent : Lent) (m : Making) (acc : first-of (making-tests limits (lent .
 -- ---- one call
 
 guarded-reached : (p : State View) (a : Delete) (r : Report) (q : Bool) → Reached (p .graph) → Reached (guarded plain p a r q .0 .graph)
-unfolding guarded with-graph plain
-guarded-reached p a r true h = reached-delete (a .repair-beam) (a .repair-degree) (p .graph) (a .ids) h
+unfolding guarded deletion with-graph plain
+guarded-reached p a r true h = reached-delete (a .repair-beam) (a .repair-degree) (p .graph) (named-by p a) h
 guarded-reached p a r false h = h
 
 perform-reached : (p : State View) (lent : Lent) (o : Operation) → refusal plain p (record { lent = lent; operation = o }) ≡ none → Reached (p .graph)
     → Reached (perform plain p o .0 .graph)
-unfolding refusal tests perform with-graph with-guard plain plain-ops
+unfolding refusal tests perform deletion with-graph with-guard plain plain-ops
 perform-reached p lent (create m) acc h = reached-made lent m acc
 perform-reached p lent (read q) acc h = h
 perform-reached p lent (read-vector s) acc h = h
 perform-reached p lent (search a) acc h = h
 perform-reached p lent (insert a) acc h = reached-insert (a .beam) (p .graph) (vectors-of (p .graph .sizes .dim) (a .bytes)) h
-perform-reached p lent (delete a) acc h = reached-delete (a .repair-beam) (a .repair-degree) (p .graph) (a .ids) h
+perform-reached p lent (delete a) acc h = reached-delete (a .repair-beam) (a .repair-degree) (p .graph) (named-by p a) h
 perform-reached p lent (enable c) acc h = h
 perform-reached p lent status acc h = h
 perform-reached p lent (assess a) acc h = h
-perform-reached p lent (guarded-delete a) acc h = let r = report-of (shown plain p) (a .ids) in guarded-reached p a r (r .admitted) h
+perform-reached p lent (guarded-delete a) acc h = let r = report-of (shown plain p) (named-by p a) in guarded-reached p a r (r .admitted) h
 
 step-reached : (p : State View) (c : Call) → Reached (p .graph) → Reached (step plain p c .0 .graph)
 unfolding step settle

@@ -10,10 +10,10 @@ use borrow.Author.Tests.{eq-eqb}
 use lib.Dec.{eqb}
 use Rattle.lists.specs.Lists.{elem}
 use Rattle.slots.specs.Sizes.{limits}
-use Rattle.calls.specs.Calls.{Reading, read-dim, read-capacity, read-degree, read-alpha, read-entry, read-live, read-mark, read-version, read-target, Delete, Operation, create, read, read-vector, search, insert, delete, enable, status, assess, guarded-delete, Call, refused, refused-as}
+use Rattle.calls.specs.Calls.{Reading, read-dim, read-capacity, read-degree, read-alpha, read-entry, read-live, read-mark, read-version, read-number, read-target, Delete, Operation, create, read, read-vector, search, insert, delete, enable, status, assess, guarded-delete, Call, refused, refused-as}
 use Rattle.calls.specs.Refusals.{Test, first-of, making-tests, index-tests, tests}
 use Rattle.calls.specs.State.{State, Kind, shown}
-use Rattle.calls.specs.Step.{reading, guarded, report-of, perform, refusal, settle, step}
+use Rattle.calls.specs.Step.{reading, guarded, report-of, named, perform, refusal, settle, step}
 use Rattle.calls.specs.Refused.{First, rows, tests-of, Demand-1}
 use Rattle.guard.specs.Guard.{Report}
 
@@ -45,6 +45,7 @@ module _ {B : Type 0} (K : Kind B) (w : State B) (n : ℕ) where
   reading-answers read-live e = let z : _≡_ {A = ℕ} 0 1 = cc in omega arith
   reading-answers (read-mark s) e = let z : _≡_ {A = ℕ} 0 1 = cc in omega arith
   reading-answers (read-version s) e = let z : _≡_ {A = ℕ} 0 1 = cc in omega arith
+  reading-answers (read-number s) e = let z : _≡_ {A = ℕ} 0 1 = cc in omega arith
   reading-answers (read-target s place) e = let z : _≡_ {A = ℕ} 0 1 = cc in omega arith
 
   guarded-answers : (a : Delete) (r : Report) (b : Bool) → guarded K w a r b .1 ≡ refused n → ⊥
@@ -63,7 +64,7 @@ module _ {B : Type 0} (K : Kind B) (w : State B) (n : ℕ) where
   perform-answers (enable config) e = let z : _≡_ {A = ℕ} 0 1 = cc in omega arith
   perform-answers status e = let z : _≡_ {A = ℕ} 0 1 = cc in omega arith
   perform-answers (assess a) e = let z : _≡_ {A = ℕ} 0 1 = cc in omega arith
-  perform-answers (guarded-delete a) e = guarded-answers a (report-of (shown K w) (a .ids)) _ e
+  perform-answers (guarded-delete a) e = guarded-answers a (report-of (shown K w) (named w a)) _ e
 
 -- one that is turned back gets this number, unless it reads a vector
 refused-number : (n m : ℕ) (o : Operation) → refused-as m o ≡ refused n → m ≡ n

@@ -31,6 +31,8 @@ own-lengths log w p e =
       versions = s .versions-long i;
       marks = s .marks-long i;
       pool = e .pool-long i;
+      numbers = e .numbers-long i;
+      summary = e .summary-long i;
     }
 
 -- slices that do not fit an index whose sizes are right

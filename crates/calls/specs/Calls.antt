@@ -7,13 +7,15 @@ use Rattle.candidates.specs.Candidates.{Candidate}
 use Rattle.repair.specs.Delete.{Stats}
 use Rattle.guard.specs.Guard.{Config, Report, Status}
 
--- what making is given (document 01: making a book): the sizes, the number of given slots, the bytes of their vectors, their rows, and the entry
+-- what making is given (document 01: making a book): the sizes, the number of given slots, the bytes of their vectors, their rows, the entry, and their
+-- figure numbers
 pub record Making : Type 0 where
   pub sizes : Sizes
   pub count : ℕ
   pub bytes : List ℕ
   pub rows : List ℕ
   pub entry : ℕ
+  pub numbers : List ℕ
 
 -- one number
 pub data Reading : Type 0 where
@@ -25,6 +27,8 @@ pub data Reading : Type 0 where
   read-live : Reading
   read-mark : (slot : ℕ) → Reading
   read-version : (slot : ℕ) → Reading
+  -- the figure number
+  read-number : (slot : ℕ) → Reading
   -- by the place among the slot's live targets
   read-target : (slot place : ℕ) → Reading
 
@@ -35,10 +39,18 @@ pub record Search : Type 0 where
 
 pub record Insert : Type 0 where
   pub bytes : List ℕ
+  -- a figure number for each vector
+  pub numbers : List ℕ
   pub beam : ℕ
 
+-- what a delete names
+pub data Naming : Type 0 where
+  of-slots : Naming
+  of-numbers : Naming
+
 pub record Delete : Type 0 where
-  pub ids : List ℕ
+  pub names : List ℕ
+  pub naming : Naming
   pub repair-beam : ℕ
   pub repair-degree : ℕ
 
@@ -57,15 +69,16 @@ pub data Operation : Type 0 where
   assess : Assess → Operation
   guarded-delete : Delete → Operation
 
--- how many the lists hold that are lent for answers: slots and distances, stats, and the report's two lists
+-- how many the lists hold that are lent for answers: slots, distances and figure numbers, stats, and the report's two lists
 pub record Room : Type 0 where
   pub slots : ℕ
   pub dists : ℕ
+  pub numbers : ℕ
   pub stats : ℕ
   pub checked : ℕ
   pub lost : ℕ
 
--- the lengths of all that a call is lent: the six slices of the index, the lists for its answer, and the scratch
+-- the lengths of all that a call is lent: the eight slices of the index, the lists for its answer, and the scratch
 pub record Lent : Type 0 where
   pub slices : Lengths
   pub room : Room
@@ -82,7 +95,7 @@ pub data Answer : Type 0 where
   alpha : Float → Answer
   version : ℕ → Answer
   vector : List ℕ → Answer
-  found : List Candidate → Answer
+  found : List Candidate → (numbers : List ℕ) → Answer
   inserted : (slots : List ℕ) → Answer
   deleted : List Stats → Answer
   standing : Status → Answer

@@ -10,7 +10,7 @@ use Rattle.slots.specs.View.{View, emptied}
 use Rattle.calls.specs.Calls.{Making, Operation, create, read, read-vector, search, insert, delete, enable, status, assess, guarded-delete, Lent, Call}
 use Rattle.calls.specs.Refusals.{first-of, making-tests}
 use Rattle.calls.specs.State.{State, Kind, shown, made}
-use Rattle.calls.specs.Step.{report-of, refusal, step}
+use Rattle.calls.specs.Step.{report-of, named, refusal, step}
 
 -- how many were given or inserted, and how many emptied, since the index was last made
 pub record Tally : Type 0 where
@@ -24,12 +24,12 @@ tally-performed t w (read r) = t
 tally-performed t w (read-vector s) = t
 tally-performed t w (search a) = t
 tally-performed t w (insert a) = record { came = t .came + length (a .bytes) / w .graph .sizes .dim; left = t .left }
-tally-performed t w (delete a) = record { came = t .came; left = t .left + length (emptied (w .graph) (a .ids)) }
+tally-performed t w (delete a) = record { came = t .came; left = t .left + length (emptied (w .graph) (named w a)) }
 tally-performed t w (enable config) = t
 tally-performed t w status = t
 tally-performed t w (assess a) = t
 tally-performed t w (guarded-delete a) =
-    cond (report-of w (a .ids) .admitted) (record { came = t .came; left = t .left + length (emptied (w .graph) (a .ids)) }) t
+    cond (report-of w (named w a) .admitted) (record { came = t .came; left = t .left + length (emptied (w .graph) (named w a)) }) t
 
 unfoldable pub tally-settled : Tally → State View → Call → Option ℕ → Tally
 tally-settled t w c (some n) = t

@@ -12,7 +12,7 @@ use Rattle.guard.specs.Guard.{Guard}
 use Rattle.calls.specs.Calls.{Making, Operation, create, read, read-vector, search, insert, delete, enable, status, assess, guarded-delete, Lent, Call, Answer, refused, created, number, alpha, version, vector, found, inserted, deleted, standing, assessed, applied, deferred}
 use Rattle.calls.specs.Refusals.{first-of, making-tests}
 use Rattle.calls.specs.State.{State, Kind, shown, made, stored, plain}
-use Rattle.calls.specs.Step.{step, refusal, report-of}
+use Rattle.calls.specs.Step.{step, refusal, report-of, named}
 
 -- ---- what is compared after each call
 
@@ -24,8 +24,10 @@ pub record Seen : Type 0 where
   pub slots : List ℕ
   pub vectors : List (List ℕ)
   pub targets : List (List ℕ)
+  pub numbers : List ℕ
+  pub summary : List ℕ
 
--- entry, live count, guard, pool, the live slots and their vectors, and the live targets of every slot
+-- entry, live count, guard, pool, the live slots and their vectors, the live targets of every slot, the figure number of every slot and the summary
 unfoldable pub look : State View → Seen
 look w =
     let v = w .graph in
@@ -37,6 +39,8 @@ look w =
       slots = live-slots v;
       vectors = map (v .space .vector) (live-slots v);
       targets = map (live-neighbors v) (range 0 (v .sizes .capacity));
+      numbers = w .numbers;
+      summary = w .summary;
     }
 
 abbrev pub seen : {B : Type 0} → Kind B → State B → Seen
@@ -51,11 +55,11 @@ log-performed log p (read r) = log
 log-performed log p (read-vector s) = log
 log-performed log p (search a) = log
 log-performed log p (insert a) = log
-log-performed log p (delete a) = emptied (p .graph) (a .ids) ++ log
+log-performed log p (delete a) = emptied (p .graph) (named p a) ++ log
 log-performed log p (enable config) = log
 log-performed log p status = log
 log-performed log p (assess a) = log
-log-performed log p (guarded-delete a) = cond (report-of (shown plain p) (a .ids) .admitted) (emptied (p .graph) (a .ids) ++ log) log
+log-performed log p (guarded-delete a) = cond (report-of (shown plain p) (named p a) .admitted) (emptied (p .graph) (named p a) ++ log) log
 
 unfoldable pub log-settled : List ℕ → State View → Call → Option ℕ → List ℕ
 log-settled log p c (some n) = log
@@ -83,7 +87,7 @@ hide (number n) = number n
 hide (alpha a) = alpha a
 hide (version n) = version 0
 hide (vector xs) = vector xs
-hide (found cs) = found cs
+hide (found cs ns) = found cs ns
 hide (inserted ss) = inserted ss
 hide (deleted ds) = deleted ds
 hide (standing s) = standing s

@@ -44,11 +44,11 @@ Made = (lent : Lengths) (m : Making) → first-of (making-tests limits lent m) �
 -- each step of insert and of delete leads from such an index to such an index: so those between, on which they make their plans, are such
 pub record Kept (w : State Store) : Type 0 where
   pub filled : (chunk : List Filling) → All (λ f. (length (f .vector) ≡ w .graph .arrays .dim) × AllBytes (f .vector)) chunk
-      → Passes (with-graph stored w (foldl (λ b f. store-ops .fill b (f .slot) (f .vector)) (w .graph) chunk))
-  pub written : (rows : List Row) → Passes (with-graph stored w (write-rows store-ops (w .graph) rows))
-  pub emptied : (slots : List ℕ) → Passes (with-graph stored w (foldl (store-ops .kill) (w .graph) slots))
-  pub entered : (entry : ℕ) → Passes (with-graph stored w (store-ops .enter (w .graph) entry))
-  pub finished : (slots : List ℕ) → Passes (with-graph stored w (foldl (store-ops .finish) (w .graph) slots))
+      → Passes (with-graph stored w (foldl (λ b f. store-ops .fill b (f .slot) (f .vector)) (w .graph) chunk) (w .numbers))
+  pub written : (rows : List Row) → Passes (with-graph stored w (write-rows store-ops (w .graph) rows) (w .numbers))
+  pub emptied : (slots : List ℕ) → Passes (with-graph stored w (foldl (store-ops .kill) (w .graph) slots) (w .numbers))
+  pub entered : (entry : ℕ) → Passes (with-graph stored w (store-ops .enter (w .graph) entry) (w .numbers))
+  pub finished : (slots : List ℕ) → Passes (with-graph stored w (foldl (store-ops .finish) (w .graph) slots) (w .numbers))
 
 module _ (v : View) where
   -- GreedySearch(start, query, k, L) over the neighbours N, and RobustPrune(p, C, alpha, degree), with our amendments, on what the view shows

@@ -10,3 +10,4 @@ pub mod Runs
 pub mod Count
 pub mod Instances
 pub mod Table
+pub mod Labelled

@@ -1,5 +1,5 @@
--- Turned-back calls: document 01's table. For each call the tests that apply to it, in the order of their numbers; the first that holds is the number
--- given. Assumes nothing.
+-- Turned-back calls: document 01's table, with document 02's 15 and its part of 6 (E1). For each call the tests that apply to it, in the table's order; the
+-- first that holds is the number given. Assumes nothing.
 use Prim.Native.Nat.{ℕ, _*_, _/_, min}
 use mathlib.Core.Bool.{Bool, true, false, not, _&&_, _||_, cond}
 use mathlib.Core.List.{List, [], _∷_}
@@ -10,6 +10,7 @@ use Rattle.slots.specs.Sizes.{Limits, Lengths, sizes-ok, alpha-ok, lengths-ok}
 use Rattle.slots.specs.Scratch.{size-answer}
 use Rattle.slots.specs.View.{View, live-slots, free-slots}
 use Rattle.slots.specs.Store.{blank}
+use Rattle.numbers.specs.Numbers.{taken, labels-ok}
 use Rattle.guard.specs.Guard.{Config, Guard, off, on, normalized, residual-entry, landmark-pool}
 use Rattle.calls.specs.Calls.{Making, Search, Delete, Operation, create, read, read-vector, search, insert, delete, enable, status, assess, guarded-delete, Room, Lent}
 use Rattle.calls.specs.State.{State}
@@ -58,17 +59,18 @@ module _ (l : Limits) where
       let z = m .sizes in
       (1, not (sizes-ok l z))
       ∷ (2, not (alpha-ok (z .alpha)))
-      ∷ (3, not (lengths-ok l z lent && eqb (length (m .bytes)) (m .count * z .dim) && eqb (length (m .rows)) (m .count * z .degree)))
+      ∷ (3, not (lengths-ok l z lent && eqb (length (m .bytes)) (m .count * z .dim) && eqb (length (m .rows)) (m .count * z .degree) && eqb (length (m .numbers)) (m .count)))
       ∷ (4, ltb (z .capacity) (m .count))
       ∷ (5, not (names-given (m .count) (m .rows) && entry-given (m .count) (m .entry)))
+      ∷ (15, taken [] (m .numbers))
       ∷ []
 
   -- 7, of a search, of a delete (plain or guarded) and of a guard's settings
   abbrev pub search-over : Room → Search → Bool
-  search-over room a = ltb (l .beam) (a .beam) || ltb (min (room .slots) (room .dists)) (a .k)
+  search-over room a = ltb (l .beam) (a .beam) || ltb (min (min (room .slots) (room .dists)) (room .numbers)) (a .k)
 
   abbrev pub delete-over : Delete → Bool
-  delete-over a = ltb (l .repair-beam) (a .repair-beam) || ltb (l .repair-degree) (a .repair-degree) || ltb (l .ids) (length (a .ids))
+  delete-over a = ltb (l .repair-beam) (a .repair-beam) || ltb (l .repair-degree) (a .repair-degree) || ltb (l .ids) (length (a .names))
 
   abbrev pub config-over : Config → Bool
   config-over c =
@@ -87,7 +89,7 @@ module _ (l : Limits) where
   abbrev pub scratch-short : Lent → State View → Bool
   scratch-short lent w = ltb (lent .scratch) (size-answer (w .graph .sizes .capacity))
 
-  -- the tests that all calls but making share, with a call's own part of 3 and its own after 6; `slices` are the lengths of the six slices lent, w is what
+  -- the tests that all calls but making share, with a call's own part of 3 and its own after 6; `slices` are the lengths of the eight slices lent, w is what
   -- the call is given of the index
   unfoldable pub index-tests : Lengths → State View → Bool → List Test → List Test
   index-tests slices w wrong-length rest =
@@ -95,7 +97,11 @@ module _ (l : Limits) where
       (1, not (sizes-ok l (v .sizes)))
       ∷ (2, not (alpha-ok (v .sizes .alpha)))
       ∷ (3, not (lengths-ok l (v .sizes) slices) || wrong-length)
-      ∷ (6, not (eqb (w .live) (length (live-slots v))) || not (ltb (v .entry) (v .sizes .capacity)) || guard-fault (w .guard))
+      ∷ (
+        6,
+        not (eqb (w .live) (length (live-slots v))) || not (ltb (v .entry) (v .sizes .capacity)) || guard-fault (w .guard)
+            || not (labels-ok (v .live) (v .sizes .capacity) (w .live) (w .numbers) (w .summary)),
+      )
       ∷ rest
 
   unfoldable pub tests : Lent → State View → Operation → List Test
@@ -107,15 +113,16 @@ module _ (l : Limits) where
   tests lent w (insert a) =
       let dim = w .graph .sizes .dim in
       let n = length (a .bytes) / dim in
-      index-tests (lent .slices) w (ltb (lent .room .slots) n)
+      index-tests (lent .slices) w (ltb (lent .room .slots) n || not (eqb (length (a .numbers)) n))
       ((7, ltb (l .beam) (a .beam))
       ∷ (8, scratch-short lent w)
       ∷ (9, not (eqb (length (a .bytes)) (n * dim)))
       ∷ (10, ltb (length (free-slots (w .graph))) n)
+      ∷ (15, taken (w .numbers) (a .numbers))
       -- pruning chose outside its pool: it never does (`chosen-given`)
       ∷ (14, false)
       ∷ [])
-  tests lent w (delete a) = index-tests (lent .slices) w (ltb (lent .room .stats) (length (a .ids))) ((7, delete-over a) ∷ (8, scratch-short lent w) ∷ [])
+  tests lent w (delete a) = index-tests (lent .slices) w (ltb (lent .room .stats) (length (a .names))) ((7, delete-over a) ∷ (8, scratch-short lent w) ∷ [])
   tests lent w (enable config) =
       index-tests (lent .slices) w false
       ((7, config-over config)
@@ -127,5 +134,5 @@ module _ (l : Limits) where
   tests lent w (assess a) =
       index-tests (lent .slices) w (lists-short (lent .room)) ((7, ltb (l .ids) (length (a .ids))) ∷ (8, scratch-short lent w) ∷ (11, is-off (w .guard)) ∷ [])
   tests lent w (guarded-delete a) =
-      index-tests (lent .slices) w (ltb (lent .room .stats) (length (a .ids)) || lists-short (lent .room))
+      index-tests (lent .slices) w (ltb (lent .room .stats) (length (a .names)) || lists-short (lent .room))
       ((7, delete-over a) ∷ (8, scratch-short lent w) ∷ (11, is-off (w .guard)) ∷ [])

@@ -16,13 +16,13 @@ abbrev pub First : ℕ → List Test → Type 0
 First n [] = ⊥
 First n (t ∷ ts) = ((t .1 ≡ true) × (t .0 ≡ n)) ⊎ ((t .1 ≡ false) × First n ts)
 
--- the rows of document 01's table that apply to a call, in their order
+-- the rows of the table that apply to a call, in its order
 unfoldable pub rows : Operation → List ℕ
-rows (create m) = 1 ∷ 2 ∷ 3 ∷ 4 ∷ 5 ∷ []
+rows (create m) = 1 ∷ 2 ∷ 3 ∷ 4 ∷ 5 ∷ 15 ∷ []
 rows (read r) = 1 ∷ 2 ∷ 3 ∷ 6 ∷ []
 rows (read-vector s) = 1 ∷ 2 ∷ 3 ∷ 6 ∷ []
 rows (search a) = 1 ∷ 2 ∷ 3 ∷ 6 ∷ 7 ∷ 8 ∷ []
-rows (insert a) = 1 ∷ 2 ∷ 3 ∷ 6 ∷ 7 ∷ 8 ∷ 9 ∷ 10 ∷ 14 ∷ []
+rows (insert a) = 1 ∷ 2 ∷ 3 ∷ 6 ∷ 7 ∷ 8 ∷ 9 ∷ 10 ∷ 15 ∷ 14 ∷ []
 rows (delete a) = 1 ∷ 2 ∷ 3 ∷ 6 ∷ 7 ∷ 8 ∷ []
 rows (enable config) = 1 ∷ 2 ∷ 3 ∷ 6 ∷ 7 ∷ 8 ∷ 12 ∷ 13 ∷ []
 rows status = 1 ∷ 2 ∷ 3 ∷ 6 ∷ []

@@ -4,7 +4,7 @@ use mathlib.Core.List.{List, [], _∷_, map}
 use mathlib.Core.Option.{Option, none, some}
 use mathlib.Core.Path.{_≡_}
 use lib.ListN.{length}
-use Rattle.slots.specs.Sizes.{Slices, Lengths, lengths-of, limits}
+use Rattle.slots.specs.Sizes.{Slices, slices, Lengths, lengths-of, limits}
 use Rattle.slots.specs.View.{View}
 use Rattle.slots.specs.Store.{Store, store-view}
 use Rattle.calls.specs.Calls.{Making, Operation, create, Lent, Call, Answer}
@@ -25,11 +25,11 @@ pub record Run : Type 0 where
   pub scratch-before : List ℕ
   pub scratch-after : List ℕ
 
--- an index's six slices, and its value
+-- an index's eight slices, and its value
 unfoldable pub slices-of : State Store → Slices
 slices-of w =
     let a = w .graph .arrays in
-    record { vectors = a .vectors; targets = a .targets; edges = a .edges; versions = a .versions; marks = a .marks; pool = w .pool }
+    slices (a .vectors) (a .targets) (a .edges) (a .versions) (a .marks) (w .pool) (w .numbers) (w .summary)
 
 unfoldable pub value-of : State Store → Value
 value-of w = record { sizes = store-view (w .graph) .sizes; entry = w .graph .entry; live = w .live; guard = w .guard }

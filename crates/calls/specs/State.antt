@@ -1,6 +1,6 @@
 -- What a call finds and leaves, of the stored index and of the plain one (document 01: the plain book). Assumes nothing.
-use Prim.Native.Nat.{ℕ}
-use mathlib.Core.List.{List, []}
+use Prim.Native.Nat.{ℕ, _-_}
+use mathlib.Core.List.{List, [], _++_}
 use lib.ListN.{length, getD, replicate}
 use Rattle.lists.specs.Lists.{put-front}
 use Rattle.slots.specs.Sizes.{Sizes, Slices, limits}
@@ -8,6 +8,7 @@ use Rattle.slots.specs.View.{View, live-slots}
 use Rattle.slots.specs.Ops.{Ops}
 use Rattle.slots.specs.Store.{Store, arrays, new-arrays, store-ops}
 use Rattle.slots.specs.Plain.{new-plain, plain-ops}
+use Rattle.numbers.specs.Numbers.{summary-of}
 use Rattle.guard.specs.Guard.{Config, Guard, off, on, pool-of}
 use Rattle.calls.specs.Calls.{Making}
 
@@ -18,6 +19,9 @@ pub record State (B : Type 0) : Type 0 where
   pub guard : Guard
   -- the words of the slice that holds the landmark pool; the plain index has no words but the pool
   pub pool : List ℕ
+  -- the figure number of each slot, and the summary: beside the graph, and alike in both (document 02, E1)
+  pub numbers : List ℕ
+  pub summary : List ℕ
 
 -- what an app holds of an index by value
 pub record Value : Type 0 where
@@ -26,7 +30,7 @@ pub record Value : Type 0 where
   pub live : ℕ
   pub guard : Guard
 
--- the stored index that an app has: by value, and in six slices
+-- the stored index that an app has: by value, and in eight slices
 abbrev pub state : Value → Slices → State Store
 state v s =
     let z = v .sizes in
@@ -40,6 +44,8 @@ state v s =
       live = v .live;
       guard = v .guard;
       pool = s .pool;
+      numbers = s .numbers;
+      summary = s .summary;
     }
 
 -- what differs between the stored index and the plain one
@@ -77,17 +83,26 @@ module _ {B : Type 0} (K : Kind B) where
 
   -- what a call sees: the view of the graph, and the pool alone
   unfoldable pub shown : State B → State View
-  shown w = record { graph = view-of w; live = w .live; guard = w .guard; pool = pool-of (w .guard) (w .pool) }
+  shown w = record { graph = view-of w; live = w .live; guard = w .guard; pool = pool-of (w .guard) (w .pool); numbers = w .numbers; summary = w .summary }
+
+  -- the summary that goes with a graph and numbers
+  abbrev pub summary-for : B → List ℕ → List ℕ
+  summary-for b numbers = let v = K .ops .view b in summary-of (v .live) (v .sizes .capacity) numbers
 
   -- ---- what a call leaves is what it found, or is made in one of these three ways
 
   unfoldable pub made : Making → State B
-  made m = record { graph = K .new m; live = length (live-slots (K .ops .view (K .new m))); guard = off; pool = K .no-pool }
+  made m =
+      let b = K .new m in
+      let numbers = m .numbers ++ replicate (m .sizes .capacity - m .count) 0 in
+      record { graph = b; live = length (live-slots (K .ops .view b)); guard = off; pool = K .no-pool; numbers = numbers; summary = summary-for b numbers }
 
-  -- another graph; the live count counts its live marks
-  unfoldable pub with-graph : State B → B → State B
-  with-graph w b = record { graph = b; live = length (live-slots (K .ops .view b)); guard = w .guard; pool = w .pool }
+  -- another graph and other numbers; the live count counts its live marks
+  unfoldable pub with-graph : State B → B → List ℕ → State B
+  with-graph w b numbers =
+      record { graph = b; live = length (live-slots (K .ops .view b)); guard = w .guard; pool = w .pool; numbers = numbers; summary = summary-for b numbers }
 
   -- another guard and its pool
   unfoldable pub with-guard : State B → Config → List ℕ → State B
-  with-guard w c pool = record { graph = w .graph; live = w .live; guard = on c (length pool); pool = K .put-pool (w .pool) pool }
+  with-guard w c pool =
+      record { graph = w .graph; live = w .live; guard = on c (length pool); pool = K .put-pool (w .pool) pool; numbers = w .numbers; summary = w .summary }

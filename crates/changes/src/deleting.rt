@@ -12,6 +12,20 @@ use text::ends;
 use text::first;
 use text::same_words;
 use updating::Deleted;
+use updating::Naming;
+
+// Whether a line names neither slots nor numbers. Such a line is not performed, and differs.
+pub fn no_naming(naming: Number) -> bool {
+    !naming.good || 1 < naming.value
+}
+
+// What the names of a delete are.
+pub fn naming_of(n: u32) -> Naming {
+    if n == 0 {
+        return Naming::Slots;
+    }
+    Naming::Numbers
+}
 
 // How many words the stats of n slots have.
 fn stats_words(n: u32) -> usize {
@@ -50,31 +64,39 @@ pub fn delete(
     line: &[u8],
     word: Word,
     step: Step,
-    ids: &[u32],
+    names: &[u32],
     vectors: &[u8],
     targets: &mut [u32],
     edges: &mut [u16],
     versions: &mut [u16],
     marks: &mut [u8],
     pool: &[u32],
+    numbers: &mut [u32],
+    summary: &mut [u32],
     scratch: &mut [u32],
 ) -> Step {
     if word.kind != DELETE {
         return step;
     }
-    let beam = first(line, word.end);
+    let naming = first(line, word.end);
+    if no_naming(naming) {
+        return step;
+    }
+    let beam = after(line, naming);
     let degree = after(line, beam);
     let refusal = after(line, degree);
     let lent = step.lent;
-    let i = part(lent, GIVEN_ROWS, ids.len());
+    let i = part(lent, GIVEN_ROWS, names.len());
     let v = part(lent, 0, vectors.len());
     let t = part(lent, 1, targets.len());
     let e = part(lent, 2, edges.len());
     let n = part(lent, 3, versions.len());
     let a = part(lent, 4, marks.len());
     let p = part(lent, 5, pool.len());
-    let room = part(lent, 6, 1024);
-    let w = part(lent, 8, scratch.len());
+    let f = part(lent, 6, numbers.len());
+    let u = part(lent, 7, summary.len());
+    let room = part(lent, 8, 1024);
+    let w = part(lent, 11, scratch.len());
     let deleted = updating::delete(
         step.index,
         &vectors[..v],
@@ -83,7 +105,10 @@ pub fn delete(
         &mut versions[..n],
         &mut marks[..a],
         &pool[..p],
-        &ids[..i],
+        &mut numbers[..f],
+        &mut summary[..u],
+        &names[..i],
+        naming_of(naming.value),
         beam.value,
         degree.value,
         room,

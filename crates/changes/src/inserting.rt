@@ -1,6 +1,7 @@
 // Lines `insert`.
 use lines::kinds::INSERT;
 use lines::prepare::GIVEN;
+use lines::prepare::GIVEN_NUMBERS;
 use lines::prepare::Step;
 use lines::prepare::part;
 use lines::prepare::wide;
@@ -43,12 +44,15 @@ pub fn insert(
     word: Word,
     step: Step,
     given: &[u8],
+    figures: &[u32],
     vectors: &mut [u8],
     targets: &mut [u32],
     edges: &mut [u16],
     versions: &[u16],
     marks: &mut [u8],
     pool: &[u32],
+    numbers: &mut [u32],
+    summary: &mut [u32],
     scratch: &mut [u32],
 ) -> Step {
     if word.kind != INSERT {
@@ -59,14 +63,17 @@ pub fn insert(
     let refusal = after(line, beam);
     let lent = step.lent;
     let b = part(lent, GIVEN, given.len());
+    let g = part(lent, GIVEN_NUMBERS, figures.len());
     let v = part(lent, 0, vectors.len());
     let t = part(lent, 1, targets.len());
     let e = part(lent, 2, edges.len());
     let n = part(lent, 3, versions.len());
     let a = part(lent, 4, marks.len());
     let p = part(lent, 5, pool.len());
-    let s = part(lent, 6, 1024);
-    let w = part(lent, 8, scratch.len());
+    let f = part(lent, 6, numbers.len());
+    let u = part(lent, 7, summary.len());
+    let s = part(lent, 8, 1024);
+    let w = part(lent, 11, scratch.len());
     let inserted = updating::insert(
         step.index,
         &mut vectors[..v],
@@ -75,7 +82,10 @@ pub fn insert(
         &versions[..n],
         &mut marks[..a],
         &pool[..p],
+        &mut numbers[..f],
+        &mut summary[..u],
         &given[..b],
+        &figures[..g],
         beam.value,
         &mut slots[..s],
         &mut scratch[..w],

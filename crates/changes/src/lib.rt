@@ -4,6 +4,8 @@ mod inserting;
 mod making;
 
 pub use deleting::delete;
+pub use deleting::naming_of;
+pub use deleting::no_naming;
 pub use deleting::same_emptied;
 pub use inserting::insert;
 pub use making::make;

@@ -2,6 +2,7 @@
 use index::Created;
 use lines::kinds::MAKE;
 use lines::prepare::GIVEN;
+use lines::prepare::GIVEN_NUMBERS;
 use lines::prepare::GIVEN_ROWS;
 use lines::prepare::Step;
 use lines::prepare::alpha_of;
@@ -64,12 +65,15 @@ pub fn make(
     step: Step,
     given: &[u8],
     rows: &[u32],
+    figures: &[u32],
     vectors: &mut [u8],
     targets: &mut [u32],
     edges: &mut [u16],
     versions: &mut [u16],
     marks: &mut [u8],
     pool: &mut [u32],
+    numbers: &mut [u32],
+    summary: &mut [u32],
 ) -> Step {
     if word.kind != MAKE {
         return step;
@@ -78,12 +82,15 @@ pub fn make(
     let lent = step.lent;
     let b = part(lent, GIVEN, given.len());
     let r = part(lent, GIVEN_ROWS, rows.len());
+    let g = part(lent, GIVEN_NUMBERS, figures.len());
     let v = part(lent, 0, vectors.len());
     let t = part(lent, 1, targets.len());
     let e = part(lent, 2, edges.len());
     let n = part(lent, 3, versions.len());
     let a = part(lent, 4, marks.len());
     let p = part(lent, 5, pool.len());
+    let f = part(lent, 6, numbers.len());
+    let s = part(lent, 7, summary.len());
     let created = index::create(
         m.dim,
         m.capacity,
@@ -93,12 +100,15 @@ pub fn make(
         m.count,
         &given[..b],
         &rows[..r],
+        &figures[..g],
         &mut vectors[..v],
         &mut targets[..t],
         &mut edges[..e],
         &mut versions[..n],
         &mut marks[..a],
         &mut pool[..p],
+        &mut numbers[..f],
+        &mut summary[..s],
     );
     after_making(step, created, m)
 }

@@ -31,7 +31,7 @@ use Rattle.index.specs.Index.{guard-of, index-value, state-of}
 use Rattle.index.specs.Create.{created-as, left-by, create-run}
 use Rattle.index.proofs.Calls.{create-meets}
 use Rattle.reading.specs.declared.Reading.{Reading}
-use Rattle.reading.specs.declared.Reading.the-variants.{Dim, Capacity, Degree, Alpha, Entry, Live, Mark, Version, Target}
+use Rattle.reading.specs.declared.Reading.the-variants.{Dim, Capacity, Degree, Alpha, Entry, Live, Mark, Version, Number, Target}
 use Rattle.reading.specs.declared.Value.{Value}
 use Rattle.reading.specs.declared.Value.the-variants.{Refused}
 use Rattle.reading.specs.declared.Found.the-variants.{Refused as none-found, Found as Nearest}
@@ -47,7 +47,7 @@ use Rattle.deletion.specs.Batch.{stats-of, stats-at}
 use Rattle.words.specs.IndexWords.{index-of, value-words, words-of}
 use Rattle.words.specs.IndexWords.{guard-of as guard-in}
 use Rattle.words.specs.Given.{created-given, Creates-words, value-in, Reads-length, Searches-words, inserted-given, Inserts-words, deleted-put, Deletes-words, standing-put, Stands-words, enabled-put, Enables-words, assessed-put, Assesses-words, guarded-put, Guards-words}
-use Rattle.exported.specs.Runs.{Memory, bytes-from, Places, places, nowhere, in-value, in-alpha, in-version, Exported-run, making, changing, looking, Exported, finder-create, finder-dim, finder-capacity, finder-degree, finder-entry, finder-live, finder-mark, finder-slot-version, finder-target, finder-alpha, finder-vector, finder-search, finder-insert, finder-delete, in-guard, finder-guard-enable, finder-guard-status, finder-assess, finder-guarded-delete}
+use Rattle.exported.specs.Runs.{Memory, bytes-from, Places, places, nowhere, in-value, in-alpha, in-version, Exported-run, making, changing, looking, Exported, finder-create, finder-dim, finder-capacity, finder-degree, finder-entry, finder-live, finder-mark, finder-slot-version, finder-number, finder-target, finder-alpha, finder-vector, finder-search, finder-insert, finder-delete, in-guard, finder-guard-enable, finder-guard-status, finder-assess, finder-guarded-delete}
 use Rattle.guarding.specs.declared.Guarded.{Guarded}
 use Rattle.guarding.specs.declared.Guarded.the-variants.{Refused as not-guarded, Applied, Deferred}
 use Rattle.guarding.specs.Guarded.{guarded-outputs, guarded-as, index-kept}
@@ -281,35 +281,36 @@ performs-vector {lent} {slot} {n} c =
 
 -- ---- search
 
-found-answer : (status n : ℕ) (cs : List Candidate) (b : Bool) → found-as (cond b (Nearest n) (none-found status)) cs ≡ cond b (Answers.found cs) (refused status)
+found-answer : (status n : ℕ) (cs : List Candidate) (ns : List ℕ) (b : Bool) → found-as (cond b (Nearest n) (none-found status)) cs ns ≡ cond b (Answers.found cs ns) (refused status)
 unfolding found-as
-found-answer status n cs true = refl
-found-answer status n cs false = refl
+found-answer status n cs ns true = refl
+found-answer status n cs ns false = refl
 
-module _ {lent : Memory} {a : Search} {slots slots′ : List ℕ} {dists dists′ : List Float} {scratch scratch′ : List ℕ} {found found′ status : ℕ}
-    (c : Searches-words (lent .words) (lent .slices) a (search-outputs slots dists) scratch (search-outputs slots′ dists′) scratch′ found found′ status) where
+module _ {lent : Memory} {a : Search} {slots slots′ : List ℕ} {dists dists′ : List Float} {numbers numbers′ scratch scratch′ : List ℕ} {found found′ status : ℕ}
+    (c : Searches-words (lent .words) (lent .slices) a (search-outputs slots dists numbers) scratch (search-outputs slots′ dists′ numbers′) scratch′ found found′ status) where
   abbrev before : Places
-  before = places found (f32 0) 0 [] [] (search-outputs slots dists)
+  before = places found (f32 0) 0 [] [] (search-outputs slots dists numbers)
 
   abbrev after : Places
-  after = places found′ (f32 0) 0 [] [] (search-outputs slots′ dists′)
+  after = places found′ (f32 0) 0 [] [] (search-outputs slots′ dists′ numbers′)
 
   performs-search : Performs (looking (search a) lent scratch scratch′ before after status)
   unfolding put written found-as refused-as
   performs-search =
       let cs = c .does .nearest in
-      let e = found-answer status found′ cs (eqb status 0) in
+      let ns = c .does .numbers in
+      let e = found-answer status found′ cs ns (eqb status 0) in
       let f = subst (λ x. Meets (as-run held-in (looking (search a) lent scratch scratch′ before after status) x)) e (c .does .meets) in
-      performs-looking (λ a h. elim h [ ]) (by-status status (Answers.found cs)) f
-      (status-tells status (Answers.found cs) before after
+      performs-looking (λ a h. elim h [ ]) (by-status status (Answers.found cs ns)) f
+      (status-tells status (Answers.found cs ns) before after
       (λ z.
       let b = eq-eqb status 0 z in
       let n : found′ ≡ length cs = c .does .counts found′ (ap (λ b. cond b (Nearest found′) (none-found status)) b) in
-      let o = f .writes ∙ ap (λ b. written (cond b (Answers.found cs) (refused status)) (search-outputs slots dists)) b in
+      let o = f .writes ∙ ap (λ b. written (cond b (Answers.found cs ns) (refused status)) (search-outputs slots dists numbers)) b in
       λ i. (0, places (sym n i) (f32 0) 0 [] [] (sym o i)))
       (λ z.
       let b = ne-eqb status 0 z in
-      let o = f .writes ∙ ap (λ b. written (cond b (Answers.found cs) (refused status)) (search-outputs slots dists)) b in
+      let o = f .writes ∙ ap (λ b. written (cond b (Answers.found cs ns) (refused status)) (search-outputs slots dists numbers)) b in
       λ i. places (c .kept z i) (f32 0) 0 [] [] (o i)))
       (λ n. refl)
 
@@ -564,6 +565,7 @@ performs (finder-entry c) = performs-reading Entry _ (c .does) refl (λ z. ap in
 performs (finder-live c) = performs-reading Live _ (c .does) refl (λ z. ap in-value (c .kept z))
 performs (finder-mark {slot} c) = performs-reading (Mark slot) _ (c .does) refl (λ z. ap in-value (c .kept z))
 performs (finder-slot-version {slot} c) = performs-reading (Version slot) _ (c .does) refl (λ z. ap in-version (c .kept z))
+performs (finder-number {slot} c) = performs-reading (Number slot) _ (c .does) refl (λ z. ap in-value (c .kept z))
 performs (finder-target {slot} {place} c) = performs-reading (Target slot place) _ (c .does) refl (λ z. ap in-value (c .kept z))
 performs (finder-alpha c) = performs-reading Alpha _ (c .does) refl (λ z. ap in-alpha (c .kept z))
 performs (finder-vector c) = performs-vector c

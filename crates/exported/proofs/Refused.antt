@@ -5,11 +5,11 @@ use mathlib.Core.Option.{Option, none, some}
 use mathlib.Core.Path.{_≡_, refl, sym, ap, _∙_, subst}
 use Rattle.slots.specs.Store.{Store}
 use Rattle.guard.specs.Guard.{Report}
-use Rattle.calls.specs.Calls.{Reading, read-dim, read-capacity, read-degree, read-alpha, read-entry, read-live, read-mark, read-version, read-target, Delete, Operation, create, read, read-vector, search, insert, delete, enable, status, assess, guarded-delete, refused-as}
+use Rattle.calls.specs.Calls.{Reading, read-dim, read-capacity, read-degree, read-alpha, read-entry, read-live, read-mark, read-version, read-number, read-target, Delete, Operation, create, read, read-vector, search, insert, delete, enable, status, assess, guarded-delete, refused-as}
 use Rattle.calls.specs.Refusals.{or-zero}
 use Rattle.calls.specs.Refused.{First}
 use Rattle.calls.specs.State.{State, stored, shown}
-use Rattle.calls.specs.Step.{reading, guarded, report-of, perform, refusal, settle, step}
+use Rattle.calls.specs.Step.{reading, guarded, report-of, named, perform, refusal, settle, step}
 use Rattle.calls.proofs.Refused.{first-is, is-first, demand-1, not-zero}
 use Rattle.exported.specs.Runs.{Places, Exported-run}
 use Rattle.exported.specs.Performs.{state-in, call-in, put, Gives, Performs}
@@ -45,6 +45,7 @@ module _ (w : State Store) (before : Places) where
   reading-returns read-live = refl
   reading-returns (read-mark s) = refl
   reading-returns (read-version s) = refl
+  reading-returns (read-number s) = refl
   reading-returns (read-target s place) = refl
 
   guarded-returns : (a : Delete) (r : Report) (b : Bool) → put (guarded stored w a r b .1) before .0 ≡ 0
@@ -63,7 +64,7 @@ module _ (w : State Store) (before : Places) where
   performed-returns (enable config) h = refl
   performed-returns status h = refl
   performed-returns (assess a) h = refl
-  performed-returns (guarded-delete a) h = guarded-returns a (report-of (shown stored w) (a .ids)) _
+  performed-returns (guarded-delete a) h = guarded-returns a (report-of (shown stored w) (named w a)) _
 
 module _ {r : Exported-run} (k : Performs r) where
   abbrev w : State Store

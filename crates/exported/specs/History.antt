@@ -46,7 +46,7 @@ pub record Hand : Type 0 where
   pub places : Places
   -- the twelve words
   pub words : List ℕ
-  -- pool, live slots, their vectors and live targets
+  -- pool, live slots, their vectors, live targets, figure numbers and the summary
   pub seen : Seen
 
 -- a version is not compared

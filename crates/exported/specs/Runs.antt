@@ -6,11 +6,11 @@ use lib.Ieee.{Float}
 use lib.ListN.{take, drop, getD}
 use Rattle.vectors.specs.Distance.{f32}
 use Rattle.slots.specs.Sizes.{Slices}
-use Rattle.calls.specs.Calls.{Making, read-dim, read-capacity, read-degree, read-alpha, read-entry, read-live, read-mark, read-version, read-target, Search, Insert, Delete, Operation, create, read, read-vector, search, insert, delete, Assess, enable, assess, guarded-delete}
+use Rattle.calls.specs.Calls.{Making, read-dim, read-capacity, read-degree, read-alpha, read-entry, read-live, read-mark, read-version, read-number, read-target, Search, Insert, Delete, Operation, create, read, read-vector, search, insert, delete, Assess, enable, assess, guarded-delete}
 use Rattle.guard.specs.Guard.{Config}
 use Rattle.calls.specs.Calls as Calls
 use Rattle.calls.specs.Outputs.{Outputs, no-outputs}
-use Rattle.reading.specs.declared.Reading.the-variants.{Dim, Capacity, Degree, Entry, Live, Mark, Version, Target}
+use Rattle.reading.specs.declared.Reading.the-variants.{Dim, Capacity, Degree, Entry, Live, Mark, Version, Number, Target}
 use Rattle.reading.specs.Search.{search-outputs}
 use Rattle.updating.specs.Insert.{insert-outputs}
 use Rattle.updating.specs.Delete.{stats-outputs}
@@ -20,7 +20,7 @@ use Rattle.words.specs.Given.{Creates-words, Reads-number, Reads-alpha, Reads-l
 use Rattle.guarding.specs.Guarding.{report-outputs}
 use Rattle.guarding.specs.Guarded.{guarded-outputs}
 
--- an index as the app holds it: its twelve words and its six slices
+-- an index as the app holds it: its twelve words and its eight slices
 pub record Memory : Type 0 where
   pub words : List ℕ
   pub slices : Slices
@@ -85,7 +85,8 @@ looking o lent scratch scratch′ before after returned = changing o lent lent s
 abbrev pub number : Calls.Reading → Memory → ℕ → ℕ → ℕ → Exported-run
 number q lent value value′ status = looking (read q) lent [] [] (in-value value) (in-value value′) status
 
--- the runs of each function
+-- the runs of each function; those of `finder_delete_numbers` and `finder_guarded_delete_numbers`, whose delete names numbers, are `finder-delete` and
+-- `finder-guarded-delete` too
 pub data Exported : Exported-run → Type 0 where
   finder-create : {m : Making} {lent left : Memory} {status : ℕ} → Creates-words m (lent .slices) (left .slices) (lent .words) (left .words) status
       → Exported (making m lent left status)
@@ -103,15 +104,17 @@ pub data Exported : Exported-run → Type 0 where
       → Exported (number (read-mark slot) lent value value′ status)
   finder-slot-version : {lent : Memory} {slot value value′ status : ℕ} → Reads-number (lent .words) (lent .slices) (Version slot) value value′ status
       → Exported (looking (read (read-version slot)) lent [] [] (in-version value) (in-version value′) status)
+  finder-number : {lent : Memory} {slot value value′ status : ℕ} → Reads-number (lent .words) (lent .slices) (Number slot) value value′ status
+      → Exported (number (read-number slot) lent value value′ status)
   finder-target : {lent : Memory} {slot place value value′ status : ℕ} → Reads-number (lent .words) (lent .slices) (Target slot place) value value′ status
       → Exported (number (read-target slot place) lent value value′ status)
   finder-alpha : {lent : Memory} {value value′ : Float} {status : ℕ} → Reads-alpha (lent .words) (lent .slices) value value′ status
       → Exported (looking (read read-alpha) lent [] [] (in-alpha value) (in-alpha value′) status)
   finder-vector : {lent : Memory} {slot n : ℕ} → Reads-length (lent .words) (lent .slices) slot n
       → Exported (looking (read-vector slot) lent [] [] nowhere (places 0 (f32 0) 0 (bytes-from lent slot n) [] no-outputs) n)
-  finder-search : {lent : Memory} {a : Search} {slots slots′ : List ℕ} {dists dists′ : List Float} {scratch scratch′ : List ℕ} {found found′ status : ℕ}
-      → Searches-words (lent .words) (lent .slices) a (search-outputs slots dists) scratch (search-outputs slots′ dists′) scratch′ found found′ status
-      → Exported (looking (search a) lent scratch scratch′ (places found (f32 0) 0 [] [] (search-outputs slots dists)) (places found′ (f32 0) 0 [] [] (search-outputs slots′ dists′)) status)
+  finder-search : {lent : Memory} {a : Search} {slots slots′ : List ℕ} {dists dists′ : List Float} {numbers numbers′ : List ℕ} {scratch scratch′ : List ℕ} {found found′ status : ℕ}
+      → Searches-words (lent .words) (lent .slices) a (search-outputs slots dists numbers) scratch (search-outputs slots′ dists′ numbers′) scratch′ found found′ status
+      → Exported (looking (search a) lent scratch scratch′ (places found (f32 0) 0 [] [] (search-outputs slots dists numbers)) (places found′ (f32 0) 0 [] [] (search-outputs slots′ dists′ numbers′)) status)
   finder-insert : {lent left : Memory} {a : Insert} {slots slots′ scratch scratch′ : List ℕ} {found found′ status : ℕ}
       → Inserts-words (lent .words) (lent .slices) a (insert-outputs slots) scratch (left .words) (left .slices) (insert-outputs slots′) scratch′ found found′ status
       → Exported (changing (insert a) lent left scratch scratch′ (places found (f32 0) 0 [] [] (insert-outputs slots)) (places found′ (f32 0) 0 [] [] (insert-outputs slots′)) status)

@@ -18,6 +18,8 @@ pub extern "C" fn finder_guard_enable(
     versions: &[u16],
     marks: &[u8],
     pool: &mut [u32],
+    numbers: &[u32],
+    summary: &[u32],
     landmark_count: u32,
     multiplier: u32,
     sample: u32,
@@ -25,7 +27,7 @@ pub extern "C" fn finder_guard_enable(
     scratch: &mut [u32],
     status: &mut [u32; 5],
 ) -> u32
-    ensures { λ r. ⌜ Enables-words (now (words .entry)) (slices (now (vectors .entry)) (now (targets .entry)) (now (edges .entry)) (now (versions .entry)) (now (marks .entry)) (now (pool .entry))) (config «landmark_count» multiplier sample beam) (now (scratch .entry)) (now (words .exit)) (slices (now (vectors .entry)) (now (targets .entry)) (now (edges .entry)) (now (versions .entry)) (now (marks .entry)) (now (pool .exit))) (now (scratch .exit)) (now (status .entry)) (now (status .exit)) r ⌝ }
+    ensures { λ r. ⌜ Enables-words (now (words .entry)) (slices (now (vectors .entry)) (now (targets .entry)) (now (edges .entry)) (now (versions .entry)) (now (marks .entry)) (now (pool .entry)) (now (numbers .entry)) (now (summary .entry))) (config «landmark_count» multiplier sample beam) (now (scratch .entry)) (now (words .exit)) (slices (now (vectors .entry)) (now (targets .entry)) (now (edges .entry)) (now (versions .entry)) (now (marks .entry)) (now (pool .exit)) (now (numbers .entry)) (now (summary .entry))) (now (scratch .exit)) (now (status .entry)) (now (status .exit)) r ⌝ }
 {
     let held = index_from(words);
     let answer = guarding::enable_guard(
@@ -36,6 +38,8 @@ pub extern "C" fn finder_guard_enable(
         versions,
         marks,
         pool,
+        numbers,
+        summary,
         landmark_count,
         multiplier,
         sample,
@@ -55,12 +59,24 @@ pub extern "C" fn finder_guard_status(
     versions: &[u16],
     marks: &[u8],
     pool: &[u32],
+    numbers: &[u32],
+    summary: &[u32],
     status: &mut [u32; 5],
 ) -> u32
-    ensures { λ r. ⌜ Stands-words (now (words .entry)) (slices (now (vectors .entry)) (now (targets .entry)) (now (edges .entry)) (now (versions .entry)) (now (marks .entry)) (now (pool .entry))) (now (status .entry)) (now (status .exit)) r ⌝ }
+    ensures { λ r. ⌜ Stands-words (now (words .entry)) (slices (now (vectors .entry)) (now (targets .entry)) (now (edges .entry)) (now (versions .entry)) (now (marks .entry)) (now (pool .entry)) (now (numbers .entry)) (now (summary .entry))) (now (status .entry)) (now (status .exit)) r ⌝ }
 {
     let held = index_from(words);
-    let answer = guarding::guard_status(held, vectors, targets, edges, versions, marks, pool);
+    let answer = guarding::guard_status(
+        held,
+        vectors,
+        targets,
+        edges,
+        versions,
+        marks,
+        pool,
+        numbers,
+        summary,
+    );
     put_status(answer, status)
 }
 
@@ -74,13 +90,15 @@ pub extern "C" fn finder_assess(
     versions: &[u16],
     marks: &[u8],
     pool: &[u32],
+    numbers: &[u32],
+    summary: &[u32],
     ids: &[u32],
     checked: &mut [u32],
     lost: &mut [u32],
     scratch: &mut [u32],
     report: &mut [u32; 8],
 ) -> u32
-    ensures { λ r. ⌜ Assesses-words (now (words .entry)) (slices (now (vectors .entry)) (now (targets .entry)) (now (edges .entry)) (now (versions .entry)) (now (marks .entry)) (now (pool .entry))) (assessing (now (ids .entry))) (report-outputs (now (checked .entry)) (now (lost .entry))) (now (scratch .entry)) (report-outputs (now (checked .exit)) (now (lost .exit))) (now (scratch .exit)) (now (report .entry)) (now (report .exit)) r ⌝ }
+    ensures { λ r. ⌜ Assesses-words (now (words .entry)) (slices (now (vectors .entry)) (now (targets .entry)) (now (edges .entry)) (now (versions .entry)) (now (marks .entry)) (now (pool .entry)) (now (numbers .entry)) (now (summary .entry))) (assessing (now (ids .entry))) (report-outputs (now (checked .entry)) (now (lost .entry))) (now (scratch .entry)) (report-outputs (now (checked .exit)) (now (lost .exit))) (now (scratch .exit)) (now (report .entry)) (now (report .exit)) r ⌝ }
 {
     let held = index_from(words);
     let answer = guarding::assess_delete(
@@ -91,6 +109,8 @@ pub extern "C" fn finder_assess(
         versions,
         marks,
         pool,
+        numbers,
+        summary,
         ids,
         checked,
         lost,

@@ -7,12 +7,12 @@ ghost use Rattle.index.specs.Create.{making};
 ghost use Rattle.words.specs.Given.{Sizes-scratch, Creates-words};
 
 // 10,000 for each major version, 100 for each minor one and 1 for each patch.
-const VERSION: u32 = 1_00_00;
+const VERSION: u32 = 2_00_00;
 
 // The library's version.
 #[no_mangle]
 pub extern "C" fn finder_version() -> u32
-    ensures { λ r. ⌜ r ≡ 10000 ⌝ }
+    ensures { λ r. ⌜ r ≡ 20000 ⌝ }
 {
     VERSION
 }
@@ -32,7 +32,7 @@ pub extern "C" fn finder_scratch_words(dim: u32, capacity: u32, degree: u32, siz
     }
 }
 
-// Makes an index of the given vectors and rows in the six lent slices, and writes its words.
+// Makes an index of the given vectors, rows and numbers in the eight lent slices, and writes its words.
 #[no_mangle]
 pub extern "C" fn finder_create(
     dim: u32,
@@ -43,15 +43,18 @@ pub extern "C" fn finder_create(
     count: u32,
     bytes: &[u8],
     rows: &[u32],
+    given: &[u32],
     vectors: &mut [u8],
     targets: &mut [u32],
     edges: &mut [u16],
     versions: &mut [u16],
     marks: &mut [u8],
     pool: &mut [u32],
+    numbers: &mut [u32],
+    summary: &mut [u32],
     words: &mut [u32; 12],
 ) -> u32
-    ensures { λ r. ⌜ Creates-words (making dim capacity degree alpha entry count (now (bytes .entry)) (now (rows .entry))) (slices (now (vectors .entry)) (now (targets .entry)) (now (edges .entry)) (now (versions .entry)) (now (marks .entry)) (now (pool .entry))) (slices (now (vectors .exit)) (now (targets .exit)) (now (edges .exit)) (now (versions .exit)) (now (marks .exit)) (now (pool .exit))) (now (words .entry)) (now (words .exit)) r ⌝ }
+    ensures { λ r. ⌜ Creates-words (making dim capacity degree alpha entry count (now (bytes .entry)) (now (rows .entry)) (now (given .entry))) (slices (now (vectors .entry)) (now (targets .entry)) (now (edges .entry)) (now (versions .entry)) (now (marks .entry)) (now (pool .entry)) (now (numbers .entry)) (now (summary .entry))) (slices (now (vectors .exit)) (now (targets .exit)) (now (edges .exit)) (now (versions .exit)) (now (marks .exit)) (now (pool .exit)) (now (numbers .exit)) (now (summary .exit))) (now (words .entry)) (now (words .exit)) r ⌝ }
 {
     let made = index::create(
         dim,
@@ -62,12 +65,15 @@ pub extern "C" fn finder_create(
         count,
         bytes,
         rows,
+        given,
         vectors,
         targets,
         edges,
         versions,
         marks,
         pool,
+        numbers,
+        summary,
     );
     put_created(made, words)
 }

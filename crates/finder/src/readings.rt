@@ -5,7 +5,7 @@ use words::put_alpha;
 use words::read_number;
 use words::read_value;
 ghost use Rattle.slots.specs.Sizes.{slices};
-ghost use Rattle.reading.specs.declared.Reading.the-variants.{Dim, Capacity, Degree, Alpha, Entry, Live, Mark, Version, Target};
+ghost use Rattle.reading.specs.declared.Reading.the-variants.{Dim, Capacity, Degree, Alpha, Entry, Live, Mark, Version, Number, Target};
 ghost use Rattle.words.specs.Given.{Reads-number, Reads-alpha, Reads-length};
 
 // The dim.
@@ -18,9 +18,11 @@ pub extern "C" fn finder_dim(
     versions: &[u16],
     marks: &[u8],
     pool: &[u32],
+    numbers: &[u32],
+    summary: &[u32],
     value: &mut u32,
 ) -> u32
-    ensures { λ r. ⌜ Reads-number (now (words .entry)) (slices (now (vectors .entry)) (now (targets .entry)) (now (edges .entry)) (now (versions .entry)) (now (marks .entry)) (now (pool .entry))) Dim (now (value .entry)) (now (value .exit)) r ⌝ }
+    ensures { λ r. ⌜ Reads-number (now (words .entry)) (slices (now (vectors .entry)) (now (targets .entry)) (now (edges .entry)) (now (versions .entry)) (now (marks .entry)) (now (pool .entry)) (now (numbers .entry)) (now (summary .entry))) Dim (now (value .entry)) (now (value .exit)) r ⌝ }
 {
     read_number(
         words,
@@ -30,6 +32,8 @@ pub extern "C" fn finder_dim(
         versions,
         marks,
         pool,
+        numbers,
+        summary,
         Reading::Dim,
         value,
     )
@@ -45,9 +49,11 @@ pub extern "C" fn finder_capacity(
     versions: &[u16],
     marks: &[u8],
     pool: &[u32],
+    numbers: &[u32],
+    summary: &[u32],
     value: &mut u32,
 ) -> u32
-    ensures { λ r. ⌜ Reads-number (now (words .entry)) (slices (now (vectors .entry)) (now (targets .entry)) (now (edges .entry)) (now (versions .entry)) (now (marks .entry)) (now (pool .entry))) Capacity (now (value .entry)) (now (value .exit)) r ⌝ }
+    ensures { λ r. ⌜ Reads-number (now (words .entry)) (slices (now (vectors .entry)) (now (targets .entry)) (now (edges .entry)) (now (versions .entry)) (now (marks .entry)) (now (pool .entry)) (now (numbers .entry)) (now (summary .entry))) Capacity (now (value .entry)) (now (value .exit)) r ⌝ }
 {
     read_number(
         words,
@@ -57,6 +63,8 @@ pub extern "C" fn finder_capacity(
         versions,
         marks,
         pool,
+        numbers,
+        summary,
         Reading::Capacity,
         value,
     )
@@ -72,9 +80,11 @@ pub extern "C" fn finder_degree(
     versions: &[u16],
     marks: &[u8],
     pool: &[u32],
+    numbers: &[u32],
+    summary: &[u32],
     value: &mut u32,
 ) -> u32
-    ensures { λ r. ⌜ Reads-number (now (words .entry)) (slices (now (vectors .entry)) (now (targets .entry)) (now (edges .entry)) (now (versions .entry)) (now (marks .entry)) (now (pool .entry))) Degree (now (value .entry)) (now (value .exit)) r ⌝ }
+    ensures { λ r. ⌜ Reads-number (now (words .entry)) (slices (now (vectors .entry)) (now (targets .entry)) (now (edges .entry)) (now (versions .entry)) (now (marks .entry)) (now (pool .entry)) (now (numbers .entry)) (now (summary .entry))) Degree (now (value .entry)) (now (value .exit)) r ⌝ }
 {
     read_number(
         words,
@@ -84,6 +94,8 @@ pub extern "C" fn finder_degree(
         versions,
         marks,
         pool,
+        numbers,
+        summary,
         Reading::Degree,
         value,
     )
@@ -99,9 +111,11 @@ pub extern "C" fn finder_entry(
     versions: &[u16],
     marks: &[u8],
     pool: &[u32],
+    numbers: &[u32],
+    summary: &[u32],
     value: &mut u32,
 ) -> u32
-    ensures { λ r. ⌜ Reads-number (now (words .entry)) (slices (now (vectors .entry)) (now (targets .entry)) (now (edges .entry)) (now (versions .entry)) (now (marks .entry)) (now (pool .entry))) Entry (now (value .entry)) (now (value .exit)) r ⌝ }
+    ensures { λ r. ⌜ Reads-number (now (words .entry)) (slices (now (vectors .entry)) (now (targets .entry)) (now (edges .entry)) (now (versions .entry)) (now (marks .entry)) (now (pool .entry)) (now (numbers .entry)) (now (summary .entry))) Entry (now (value .entry)) (now (value .exit)) r ⌝ }
 {
     read_number(
         words,
@@ -111,6 +125,8 @@ pub extern "C" fn finder_entry(
         versions,
         marks,
         pool,
+        numbers,
+        summary,
         Reading::Entry,
         value,
     )
@@ -126,9 +142,11 @@ pub extern "C" fn finder_live(
     versions: &[u16],
     marks: &[u8],
     pool: &[u32],
+    numbers: &[u32],
+    summary: &[u32],
     value: &mut u32,
 ) -> u32
-    ensures { λ r. ⌜ Reads-number (now (words .entry)) (slices (now (vectors .entry)) (now (targets .entry)) (now (edges .entry)) (now (versions .entry)) (now (marks .entry)) (now (pool .entry))) Live (now (value .entry)) (now (value .exit)) r ⌝ }
+    ensures { λ r. ⌜ Reads-number (now (words .entry)) (slices (now (vectors .entry)) (now (targets .entry)) (now (edges .entry)) (now (versions .entry)) (now (marks .entry)) (now (pool .entry)) (now (numbers .entry)) (now (summary .entry))) Live (now (value .entry)) (now (value .exit)) r ⌝ }
 {
     read_number(
         words,
@@ -138,6 +156,8 @@ pub extern "C" fn finder_live(
         versions,
         marks,
         pool,
+        numbers,
+        summary,
         Reading::Live,
         value,
     )
@@ -153,10 +173,12 @@ pub extern "C" fn finder_mark(
     versions: &[u16],
     marks: &[u8],
     pool: &[u32],
+    numbers: &[u32],
+    summary: &[u32],
     slot: u32,
     value: &mut u32,
 ) -> u32
-    ensures { λ r. ⌜ Reads-number (now (words .entry)) (slices (now (vectors .entry)) (now (targets .entry)) (now (edges .entry)) (now (versions .entry)) (now (marks .entry)) (now (pool .entry))) (Mark slot) (now (value .entry)) (now (value .exit)) r ⌝ }
+    ensures { λ r. ⌜ Reads-number (now (words .entry)) (slices (now (vectors .entry)) (now (targets .entry)) (now (edges .entry)) (now (versions .entry)) (now (marks .entry)) (now (pool .entry)) (now (numbers .entry)) (now (summary .entry))) (Mark slot) (now (value .entry)) (now (value .exit)) r ⌝ }
 {
     read_number(
         words,
@@ -166,6 +188,8 @@ pub extern "C" fn finder_mark(
         versions,
         marks,
         pool,
+        numbers,
+        summary,
         Reading::Mark(slot),
         value,
     )
@@ -181,10 +205,12 @@ pub extern "C" fn finder_slot_version(
     versions: &[u16],
     marks: &[u8],
     pool: &[u32],
+    numbers: &[u32],
+    summary: &[u32],
     slot: u32,
     value: &mut u32,
 ) -> u32
-    ensures { λ r. ⌜ Reads-number (now (words .entry)) (slices (now (vectors .entry)) (now (targets .entry)) (now (edges .entry)) (now (versions .entry)) (now (marks .entry)) (now (pool .entry))) (Version slot) (now (value .entry)) (now (value .exit)) r ⌝ }
+    ensures { λ r. ⌜ Reads-number (now (words .entry)) (slices (now (vectors .entry)) (now (targets .entry)) (now (edges .entry)) (now (versions .entry)) (now (marks .entry)) (now (pool .entry)) (now (numbers .entry)) (now (summary .entry))) (Version slot) (now (value .entry)) (now (value .exit)) r ⌝ }
 {
     read_number(
         words,
@@ -194,7 +220,41 @@ pub extern "C" fn finder_slot_version(
         versions,
         marks,
         pool,
+        numbers,
+        summary,
         Reading::Version(slot),
+        value,
+    )
+}
+
+// The figure number of a slot.
+#[no_mangle]
+pub extern "C" fn finder_number(
+    words: &[u32; 12],
+    vectors: &[u8],
+    targets: &[u32],
+    edges: &[u16],
+    versions: &[u16],
+    marks: &[u8],
+    pool: &[u32],
+    numbers: &[u32],
+    summary: &[u32],
+    slot: u32,
+    value: &mut u32,
+) -> u32
+    ensures { λ r. ⌜ Reads-number (now (words .entry)) (slices (now (vectors .entry)) (now (targets .entry)) (now (edges .entry)) (now (versions .entry)) (now (marks .entry)) (now (pool .entry)) (now (numbers .entry)) (now (summary .entry))) (Number slot) (now (value .entry)) (now (value .exit)) r ⌝ }
+{
+    read_number(
+        words,
+        vectors,
+        targets,
+        edges,
+        versions,
+        marks,
+        pool,
+        numbers,
+        summary,
+        Reading::Number(slot),
         value,
     )
 }
@@ -209,11 +269,13 @@ pub extern "C" fn finder_target(
     versions: &[u16],
     marks: &[u8],
     pool: &[u32],
+    numbers: &[u32],
+    summary: &[u32],
     slot: u32,
     place: u32,
     value: &mut u32,
 ) -> u32
-    ensures { λ r. ⌜ Reads-number (now (words .entry)) (slices (now (vectors .entry)) (now (targets .entry)) (now (edges .entry)) (now (versions .entry)) (now (marks .entry)) (now (pool .entry))) (Target slot place) (now (value .entry)) (now (value .exit)) r ⌝ }
+    ensures { λ r. ⌜ Reads-number (now (words .entry)) (slices (now (vectors .entry)) (now (targets .entry)) (now (edges .entry)) (now (versions .entry)) (now (marks .entry)) (now (pool .entry)) (now (numbers .entry)) (now (summary .entry))) (Target slot place) (now (value .entry)) (now (value .exit)) r ⌝ }
 {
     read_number(
         words,
@@ -223,6 +285,8 @@ pub extern "C" fn finder_target(
         versions,
         marks,
         pool,
+        numbers,
+        summary,
         Reading::Target(slot, place),
         value,
     )
@@ -238,9 +302,11 @@ pub extern "C" fn finder_alpha(
     versions: &[u16],
     marks: &[u8],
     pool: &[u32],
+    numbers: &[u32],
+    summary: &[u32],
     value: &mut f32,
 ) -> u32
-    ensures { λ r. ⌜ Reads-alpha (now (words .entry)) (slices (now (vectors .entry)) (now (targets .entry)) (now (edges .entry)) (now (versions .entry)) (now (marks .entry)) (now (pool .entry))) (now (value .entry)) (now (value .exit)) r ⌝ }
+    ensures { λ r. ⌜ Reads-alpha (now (words .entry)) (slices (now (vectors .entry)) (now (targets .entry)) (now (edges .entry)) (now (versions .entry)) (now (marks .entry)) (now (pool .entry)) (now (numbers .entry)) (now (summary .entry))) (now (value .entry)) (now (value .exit)) r ⌝ }
 {
     let read = read_value(
         words,
@@ -250,6 +316,8 @@ pub extern "C" fn finder_alpha(
         versions,
         marks,
         pool,
+        numbers,
+        summary,
         Reading::Alpha,
     );
     put_alpha(read, value)
@@ -265,11 +333,24 @@ pub extern "C" fn finder_vector(
     versions: &[u16],
     marks: &[u8],
     pool: &[u32],
+    numbers: &[u32],
+    summary: &[u32],
     slot: u32,
 ) -> usize
-    ensures { λ r. ⌜ Reads-length (now (words .entry)) (slices (now (vectors .entry)) (now (targets .entry)) (now (edges .entry)) (now (versions .entry)) (now (marks .entry)) (now (pool .entry))) slot r ⌝ }
+    ensures { λ r. ⌜ Reads-length (now (words .entry)) (slices (now (vectors .entry)) (now (targets .entry)) (now (edges .entry)) (now (versions .entry)) (now (marks .entry)) (now (pool .entry)) (now (numbers .entry)) (now (summary .entry))) slot r ⌝ }
 {
     let held = index_from(words);
-    let part = reading::read_vector(held, vectors, targets, edges, versions, marks, pool, slot);
+    let part = reading::read_vector(
+        held,
+        vectors,
+        targets,
+        edges,
+        versions,
+        marks,
+        pool,
+        numbers,
+        summary,
+        slot,
+    );
     part.len()
 }

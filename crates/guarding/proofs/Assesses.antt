@@ -22,7 +22,7 @@ use Rattle.index.proofs.Decide.{step-back, step-on}
 use Rattle.guarding.specs.declared.Assessed.{Assessed}
 use Rattle.guarding.specs.declared.Assessed.the-variants.{Refused as not-assessed, Assessed as Assessed-so}
 use Rattle.guarding.specs.Guarding.{report-outputs, assessed-as, Assesses}
-use Rattle.guarding.specs.contracts.Testing.{Testable, number-of, Tested}
+use Rattle.guarding.specs.contracts.Testing.{Testable, refusal-of, Tested}
 use Rattle.guarding.proofs.Shared.{numbers-are}
 use Rattle.guarding.proofs.Tested.{number-given, none-given}
 
@@ -43,7 +43,7 @@ module _ (index : Index) (s : Slices) (a : Assess) (checked lost scratch : List 
 
   by-answer : {checked′ lost′ scratch′ : List ℕ} (r : Assessed) → Answered checked′ lost′ scratch′ r
       → Assesses index s a (report-outputs checked lost) scratch (report-outputs checked′ lost′) scratch′ r
-  unfolding tests refusal perform refused-as assessed-as written state-of stored store-ops store-view shown room-of call-of slices-of run-refusal number-of
+  unfolding tests refusal perform refused-as assessed-as written state-of stored store-ops store-view shown room-of call-of slices-of run-refusal refusal-of
   by-answer (not-assessed n) t =
       let k = t .back n refl in
       record {

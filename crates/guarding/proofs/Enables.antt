@@ -28,7 +28,8 @@ use Rattle.calls.specs.Runs.{lent-of, slices-of, call-of, run-refusal}
 use Rattle.calls.proofs.Tests.{first-none, or-neither}
 use Rattle.calls.proofs.Enabling.{one-live}
 use Rattle.index.specs.Index.{guard-of, state-of}
-use Rattle.index.specs.contracts.Deciding.{Decided, Passed}
+use Rattle.numbers.specs.Numbers.{labels-ok}
+use Rattle.index.specs.contracts.Deciding.{Labels, labels-of, Decided, Passed}
 use Rattle.index.proofs.Decide.{Numbered, decided-before, decided-after, turned-back, let-through, own-none, passed, passed-marks, passed-bytes, step-back, step-on}
 use Rattle.guarding.specs.declared.Status.{Status}
 use Rattle.guarding.specs.declared.Enabled.the-variants.{Refused as not-enabled, Enabled as Enabled-with}
@@ -38,9 +39,9 @@ use Rattle.guarding.proofs.Shared.{pool-most, guard-room}
 
 -- ---- rows 7, 8, 12 and 13
 
-module _ {index : Index} {lent : Lengths} {marks : List ℕ} (c : Config) (scratch : ℕ) {r : ℕ} (d : Decided index lent marks false [] r) where
+module _ {index : Index} {lent : Lengths} {looked : Labels} (c : Config) (scratch : ℕ) {r : ℕ} (d : Decided index lent looked false [] r) where
   abbrev Turns : ℕ → Type 0
-  Turns n = Decided index lent marks false (enable-tests index c scratch) n
+  Turns n = Decided index lent looked false (enable-tests index c scratch) n
 
   pub turns-before : (r ≡ 0 → ⊥) → Turns r
   turns-before n = decided-before d _ n
@@ -83,12 +84,14 @@ own-tests slices w wrong xs ys h =
     let q₃ = not (lengths-ok limits (v .sizes) slices) || wrong in
     let counted = eqb (w .live) (length (live-slots v)) in
     let inside = ltb (v .entry) (v .sizes .capacity) in
-    let q₆ = not counted || not inside || guard-fault limits (w .guard) in
+    let labels = labels-ok (v .live) (v .sizes .capacity) (w .live) (w .numbers) (w .summary) in
+    let q₆ = not counted || not inside || guard-fault limits (w .guard) || not labels in
     behind 1 q₁ ((2, q₂) ∷ (3, q₃) ∷ (6, q₆) ∷ xs) ((2, q₂) ∷ (3, q₃) ∷ (6, q₆) ∷ ys) (λ i.
     behind 2 q₂ ((3, q₃) ∷ (6, q₆) ∷ xs) ((3, q₃) ∷ (6, q₆) ∷ ys) (λ j.
     behind 3 q₃ ((6, q₆) ∷ xs) ((6, q₆) ∷ ys) (λ k.
     behind 6 q₆ xs ys (λ f.
-    let o = or-neither (not counted) (not inside) (or-neither (not counted || not inside) (guard-fault limits (w .guard)) f .0) in
+    let g = or-neither (not counted || not inside || guard-fault limits (w .guard)) (not labels) f .0 in
+    let o = or-neither (not counted) (not inside) (or-neither (not counted || not inside) (guard-fault limits (w .guard)) g .0) in
     h (eqb-true (w .live) (length (live-slots v)) (not-false counted (o .0))) (ltb-true (v .entry) (v .sizes .capacity) (not-false inside (o .1)))))))
 
 own-same : (v : View) (c : Config) (live : ℕ) (a b : Bool) → live ≡ length (live-slots v) → v .entry < v .sizes .capacity
@@ -128,7 +131,7 @@ fault-free c {s} {n} o e h =
 
 -- ---- enabling
 
-module _ (index : Index) (s : Slices) (c : Config) (scratch : List ℕ) {r : ℕ} (d : Decided index (lengths-of s) (s .marks) false (enable-tests index c (length scratch)) r) where
+module _ (index : Index) (s : Slices) (c : Config) (scratch : List ℕ) {r : ℕ} (d : Decided index (lengths-of s) (labels-of s) false (enable-tests index c (length scratch)) r) where
   abbrev before : State Store
   before = state-of index s
 

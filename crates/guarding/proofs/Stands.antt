@@ -21,7 +21,7 @@ use Rattle.calls.specs.State.{State, stored, shown}
 use Rattle.calls.specs.Step.{perform}
 use Rattle.calls.specs.Runs.{lent-of, slices-of, call-of}
 use Rattle.index.specs.Index.{guard-of, state-of}
-use Rattle.index.specs.contracts.Deciding.{Decided}
+use Rattle.index.specs.contracts.Deciding.{labels-of, Decided}
 use Rattle.index.proofs.Decide.{turned-back, let-through, passed, step-back, step-on}
 use Rattle.guarding.specs.declared.Status.{Status}
 use Rattle.guarding.specs.declared.Standing.the-variants.{Refused as no-status, Standing as Stands-so}
@@ -50,7 +50,7 @@ module _ (g : Guard) (marks pool : List ℕ) {s : Settings} (e : g ≡ On s) (f 
 
 -- ---- the call
 
-module _ (index : Index) (s : Slices) {r : ℕ} (d : Decided index (lengths-of s) (s .marks) false [] r) where
+module _ (index : Index) (s : Slices) {r : ℕ} (d : Decided index (lengths-of s) (labels-of s) false [] r) where
   abbrev now : State Store
   now = state-of index s
 

@@ -23,11 +23,11 @@ use Rattle.calls.specs.State.{stored, shown}
 use Rattle.calls.specs.Step.{report-of}
 use Rattle.calls.proofs.Tests.{first-none}
 use Rattle.index.specs.Index.{guard-of, state-of}
-use Rattle.index.specs.contracts.Deciding.{Decided, Passed}
+use Rattle.index.specs.contracts.Deciding.{Labels, labels-of, Decided, Passed}
 use Rattle.index.proofs.Decide.{Numbered, decided-before, decided-after, turned-back, let-through, own-none, not-wrong, passed}
 use Rattle.guarding.specs.declared.Assessed.{Assessed}
 use Rattle.guarding.specs.declared.Assessed.the-variants.{Refused as not-assessed, Assessed as Assessed-so}
-use Rattle.guarding.specs.contracts.Testing.{report-tests, Testable, number-of, Tested}
+use Rattle.guarding.specs.contracts.Testing.{report-tests, Testable, refusal-of, Tested}
 use Rattle.guarding.proofs.Shared.{assessable, reported}
 
 -- ---- row 3, of the two lists for landmarks
@@ -46,9 +46,9 @@ lists-second m n {j} {k} i e h = go (ltb n k) refl
 
 -- ---- rows 7, 8 and 11
 
-module _ {index : Index} {lent : Lengths} {marks : List ℕ} {wrong : Bool} (over : Bool) (scratch : ℕ) {r : ℕ} (d : Decided index lent marks wrong [] r) where
+module _ {index : Index} {lent : Lengths} {looked : Labels} {wrong : Bool} (over : Bool) (scratch : ℕ) {r : ℕ} (d : Decided index lent looked wrong [] r) where
   abbrev Turns : ℕ → Type 0
-  Turns n = Decided index lent marks wrong (report-tests index over scratch) n
+  Turns n = Decided index lent looked wrong (report-tests index over scratch) n
 
   pub turns-before : (r ≡ 0 → ⊥) → Turns r
   turns-before n = decided-before d _ n
@@ -70,7 +70,7 @@ module _ {index : Index} {lent : Lengths} {marks : List ℕ} {wrong : Bool} (ove
 
 -- ---- the report
 
-module _ (index : Index) (s : Slices) (wrong over : Bool) (scratch : List ℕ) {r : ℕ} (d : Decided index (lengths-of s) (s .marks) wrong (report-tests index over (length scratch)) r) where
+module _ (index : Index) (s : Slices) (wrong over : Bool) (scratch : List ℕ) {r : ℕ} (d : Decided index (lengths-of s) (labels-of s) wrong (report-tests index over (length scratch)) r) where
   numbered : All Numbered (report-tests index over (length scratch))
   numbered = (omega arith, (omega arith, (omega arith, tt)))
 
@@ -84,7 +84,7 @@ module _ (index : Index) (s : Slices) (wrong over : Bool) (scratch : List ℕ) {
   number-given n = turned-back index s numbered d n
 
   pub tested-back : (ids checked lost : List ℕ) → (r ≡ 0 → ⊥) → Tested index s wrong over ids checked lost scratch checked lost scratch (not-assessed r)
-  unfolding number-of
+  unfolding refusal-of
   tested-back ids checked lost n =
       record {
         decided = d;
@@ -122,10 +122,10 @@ module _ (index : Index) (s : Slices) (wrong over : Bool) (scratch : List ℕ) {
       pub tested-on : {checked′ lost′ scratch′ : List ℕ} {n : Report}
           → Reporting.Assessed (arrays (index .dim) (index .degree) (s .vectors) (s .targets) (s .edges) (s .versions) (s .marks)) (index .entry) (t .count) (t .sample) (t .beam) (take (t .pool) (s .pool)) ids checked checked′ lost lost′ n
           → Tested index s wrong over ids checked lost scratch checked′ lost′ scratch′ (Assessed-so n)
-      unfolding number-of
+      unfolding refusal-of
       tested-on {checked′} {lost′} {n = n} f =
           record {
-            decided = subst (λ k. Decided index (lengths-of s) (s .marks) wrong (report-tests index over (length scratch)) k) z d;
+            decided = subst (λ k. Decided index (lengths-of s) (labels-of s) wrong (report-tests index over (length scratch)) k) z d;
             back = λ m h. absurd (let x : _≡_ {A = ℕ} 0 1 = cc in omega arith);
             on = λ v h. let i : n ≡ v = cc in subst (λ x. Reports (report-of (shown stored (state-of index s)) ids) checked checked′ lost lost′ x) i (reported able e ids f);
           }

@@ -20,7 +20,7 @@ use Rattle.guarding.specs.Guarding.{numbers-of}
 
 -- the three lists that a guarded delete is lent
 abbrev pub guarded-outputs : List Stats → List ℕ → List ℕ → Outputs
-guarded-outputs stats checked lost = record { slots = []; dists = []; stats = stats; checked = checked; lost = lost }
+guarded-outputs stats checked lost = record { slots = []; dists = []; numbers = []; stats = stats; checked = checked; lost = lost }
 
 unfoldable pub guarded-as : Guarded → List Stats → Guard.Report → Answer
 guarded-as (Refused n) ts report = refused n

@@ -71,7 +71,7 @@ assessing ids = record { ids = ids }
 
 -- the two lists that an assessment is lent
 abbrev pub report-outputs : List ℕ → List ℕ → Outputs
-report-outputs checked lost = record { slots = []; dists = []; stats = []; checked = checked; lost = lost }
+report-outputs checked lost = record { slots = []; dists = []; numbers = []; stats = []; checked = checked; lost = lost }
 
 -- a report without its lists: how many they hold; no entry is blank
 abbrev pub numbers-of : Guards.Report → Report

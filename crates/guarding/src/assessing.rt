@@ -19,7 +19,7 @@ ghost use Rattle.slots.specs.Store.{arrays};
 ghost use Rattle.admission.specs.contracts.Reports.{Assessable, Assessed as Reported};
 ghost use Rattle.calls.specs.Refusals.{is-off};
 ghost use Rattle.index.specs.Index.{guard-of, lengths-in};
-ghost use Rattle.index.specs.contracts.Deciding.{Decided};
+ghost use Rattle.index.specs.contracts.Deciding.{labels, Decided};
 ghost use Rattle.guarding.specs.Guarding.{assessing, report-outputs, Assesses};
 ghost use Rattle.guarding.specs.contracts.Testing.{report-tests, Testable, Tested};
 
@@ -48,14 +48,16 @@ fn report_refusal(
     index: Index,
     lent: Lengths,
     marks: &[u8],
+    numbers: &[u32],
+    summary: &[u32],
     wrong: bool,
     over: bool,
     scratch: usize,
 ) -> u32
-    requires { ⌜ lent .marks ≡ length (now marks) ⌝ }
-    ensures { λ r. ⌜ Decided index (lengths-in lent) (now (marks .entry)) wrong (report-tests index over scratch) r ⌝ }
+    requires { ⌜ (lent .marks ≡ length (now marks)) × (lent .numbers ≡ length (now numbers)) × (lent .summary ≡ length (now summary)) ⌝ }
+    ensures { λ r. ⌜ Decided index (lengths-in lent) (labels (now (marks .entry)) (now (numbers .entry)) (now (summary .entry))) wrong (report-tests index over scratch) r ⌝ }
 {
-    let r = index_refusal(index, lent, marks, wrong);
+    let r = index_refusal(index, lent, marks, numbers, summary, wrong);
     if r != 0 {
         return r;
     }
@@ -120,6 +122,8 @@ pub fn tested_report(
     versions: &[u16],
     marks: &[u8],
     pool: &[u32],
+    numbers: &[u32],
+    summary: &[u32],
     ids: &[u32],
     wrong: bool,
     over: bool,
@@ -128,7 +132,7 @@ pub fn tested_report(
     scratch: &mut [u32],
 ) -> Assessed
     requires { ⌜ Testable wrong over (now ids) (now checked) (now lost) ⌝ }
-    ensures { λ r. ⌜ Tested index (slices (now (vectors .entry)) (now (targets .entry)) (now (edges .entry)) (now (versions .entry)) (now (marks .entry)) (now (pool .entry))) wrong over (now (ids .entry))
+    ensures { λ r. ⌜ Tested index (slices (now (vectors .entry)) (now (targets .entry)) (now (edges .entry)) (now (versions .entry)) (now (marks .entry)) (now (pool .entry)) (now (numbers .entry)) (now (summary .entry))) wrong over (now (ids .entry))
         (now (checked .entry)) (now (lost .entry)) (now (scratch .entry)) (now (checked .exit)) (now (lost .exit)) (now (scratch .exit)) r ⌝ }
 {
     let lent = Lengths {
@@ -138,8 +142,19 @@ pub fn tested_report(
         versions: versions.len(),
         marks: marks.len(),
         pool: pool.len(),
+        numbers: numbers.len(),
+        summary: summary.len(),
     };
-    let r = report_refusal(index, lent, marks, wrong, over, scratch.len());
+    let r = report_refusal(
+        index,
+        lent,
+        marks,
+        numbers,
+        summary,
+        wrong,
+        over,
+        scratch.len(),
+    );
     if r != 0 {
         return Assessed::Refused(r);
     }
@@ -172,12 +187,14 @@ pub fn assess_delete(
     versions: &[u16],
     marks: &[u8],
     pool: &[u32],
+    numbers: &[u32],
+    summary: &[u32],
     ids: &[u32],
     checked: &mut [u32],
     lost: &mut [u32],
     scratch: &mut [u32],
 ) -> Assessed
-    ensures { λ r. ⌜ Assesses index (slices (now (vectors .entry)) (now (targets .entry)) (now (edges .entry)) (now (versions .entry)) (now (marks .entry)) (now (pool .entry))) (assessing (now (ids .entry)))
+    ensures { λ r. ⌜ Assesses index (slices (now (vectors .entry)) (now (targets .entry)) (now (edges .entry)) (now (versions .entry)) (now (marks .entry)) (now (pool .entry)) (now (numbers .entry)) (now (summary .entry))) (assessing (now (ids .entry)))
         (report-outputs (now (checked .entry)) (now (lost .entry))) (now (scratch .entry)) (report-outputs (now (checked .exit)) (now (lost .exit))) (now (scratch .exit)) r ⌝ }
 {
     let wrong = lists_short(checked.len(), lost.len());
@@ -190,6 +207,8 @@ pub fn assess_delete(
         versions,
         marks,
         pool,
+        numbers,
+        summary,
         ids,
         wrong,
         over,

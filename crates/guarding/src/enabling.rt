@@ -18,7 +18,7 @@ ghost use Rattle.slots.specs.Sizes.{slices};
 ghost use Rattle.guard.specs.Guard.{config};
 ghost use Rattle.admission.specs.contracts.Pools.{Poolable, Pooled};
 ghost use Rattle.index.specs.Index.{lengths-in};
-ghost use Rattle.index.specs.contracts.Deciding.{Decided};
+ghost use Rattle.index.specs.contracts.Deciding.{labels, Decided};
 ghost use Rattle.guarding.specs.Guarding.{Enables};
 ghost use Rattle.guarding.specs.contracts.Testing.{enable-tests, Normal, guarded-index};
 
@@ -47,16 +47,18 @@ fn enable_refusal(
     index: Index,
     lent: Lengths,
     marks: &[u8],
+    numbers: &[u32],
+    summary: &[u32],
     count: u32,
     multiplier: u32,
     sample: u32,
     beam: u32,
     scratch: usize,
 ) -> u32
-    requires { ⌜ lent .marks ≡ length (now marks) ⌝ }
-    ensures { λ r. ⌜ Decided index (lengths-in lent) (now (marks .entry)) false (enable-tests index (config count multiplier sample beam) scratch) r ⌝ }
+    requires { ⌜ (lent .marks ≡ length (now marks)) × (lent .numbers ≡ length (now numbers)) × (lent .summary ≡ length (now summary)) ⌝ }
+    ensures { λ r. ⌜ Decided index (lengths-in lent) (labels (now (marks .entry)) (now (numbers .entry)) (now (summary .entry))) false (enable-tests index (config count multiplier sample beam) scratch) r ⌝ }
 {
-    let r = index_refusal(index, lent, marks, false);
+    let r = index_refusal(index, lent, marks, numbers, summary, false);
     if r != 0 {
         return r;
     }
@@ -131,14 +133,16 @@ pub fn enable_guard(
     versions: &[u16],
     marks: &[u8],
     pool: &mut [u32],
+    numbers: &[u32],
+    summary: &[u32],
     count: u32,
     multiplier: u32,
     sample: u32,
     beam: u32,
     scratch: &mut [u32],
 ) -> Enabled
-    ensures { λ r. ⌜ Enables index (slices (now (vectors .entry)) (now (targets .entry)) (now (edges .entry)) (now (versions .entry)) (now (marks .entry)) (now (pool .entry))) (config count multiplier sample beam) (now (scratch .entry))
-        (slices (now (vectors .entry)) (now (targets .entry)) (now (edges .entry)) (now (versions .entry)) (now (marks .entry)) (now (pool .exit))) (now (scratch .exit)) r ⌝ }
+    ensures { λ r. ⌜ Enables index (slices (now (vectors .entry)) (now (targets .entry)) (now (edges .entry)) (now (versions .entry)) (now (marks .entry)) (now (pool .entry)) (now (numbers .entry)) (now (summary .entry))) (config count multiplier sample beam) (now (scratch .entry))
+        (slices (now (vectors .entry)) (now (targets .entry)) (now (edges .entry)) (now (versions .entry)) (now (marks .entry)) (now (pool .exit)) (now (numbers .entry)) (now (summary .entry))) (now (scratch .exit)) r ⌝ }
 {
     let lent = Lengths {
         vectors: vectors.len(),
@@ -147,11 +151,15 @@ pub fn enable_guard(
         versions: versions.len(),
         marks: marks.len(),
         pool: pool.len(),
+        numbers: numbers.len(),
+        summary: summary.len(),
     };
     let r = enable_refusal(
         index,
         lent,
         marks,
+        numbers,
+        summary,
         count,
         multiplier,
         sample,

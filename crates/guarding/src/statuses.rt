@@ -49,8 +49,10 @@ pub fn guard_status(
     versions: &[u16],
     marks: &[u8],
     pool: &[u32],
+    numbers: &[u32],
+    summary: &[u32],
 ) -> Standing
-    ensures { λ r. ⌜ Stands index (slices (now (vectors .entry)) (now (targets .entry)) (now (edges .entry)) (now (versions .entry)) (now (marks .entry)) (now (pool .entry))) r ⌝ }
+    ensures { λ r. ⌜ Stands index (slices (now (vectors .entry)) (now (targets .entry)) (now (edges .entry)) (now (versions .entry)) (now (marks .entry)) (now (pool .entry)) (now (numbers .entry)) (now (summary .entry))) r ⌝ }
 {
     let lent = Lengths {
         vectors: vectors.len(),
@@ -59,8 +61,10 @@ pub fn guard_status(
         versions: versions.len(),
         marks: marks.len(),
         pool: pool.len(),
+        numbers: numbers.len(),
+        summary: summary.len(),
     };
-    let r = index_refusal(index, lent, marks, false);
+    let r = index_refusal(index, lent, marks, numbers, summary, false);
     if r != 0 {
         return Standing::Refused(r);
     }

@@ -38,13 +38,15 @@ fn assess_with(
     versions: &[u16],
     marks: &[u8],
     pool: &[u32],
+    numbers: &[u32],
+    summary: &[u32],
     checked: &mut [u32],
     lost: &mut [u32],
     scratch: &mut [u32],
 ) -> bool {
     let refusal = first(line, end);
-    let c = part(lent, 6, checked.len());
-    let l = part(lent, 7, lost.len());
+    let c = part(lent, 8, checked.len());
+    let l = part(lent, 9, lost.len());
     let assessed = guarding::assess_delete(
         index,
         vectors,
@@ -53,6 +55,8 @@ fn assess_with(
         versions,
         marks,
         pool,
+        numbers,
+        summary,
         ids,
         &mut checked[..c],
         &mut lost[..l],
@@ -74,6 +78,8 @@ pub fn assess(
     versions: &[u16],
     marks: &[u8],
     pool: &[u32],
+    numbers: &[u32],
+    summary: &[u32],
     scratch: &mut [u32],
 ) -> bool {
     let mut checked = [0u32; 1024];
@@ -90,6 +96,8 @@ pub fn assess(
         versions,
         marks,
         pool,
+        numbers,
+        summary,
         &mut checked,
         &mut lost,
         scratch,

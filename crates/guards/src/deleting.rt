@@ -1,5 +1,7 @@
 // Lines `guarded`.
 use super::reports::same_report;
+use changes::naming_of;
+use changes::no_naming;
 use changes::same_emptied;
 use guarding::Guarded;
 use lines::kinds::GUARDED;
@@ -43,31 +45,39 @@ fn delete_with(
     line: &[u8],
     word: Word,
     step: Step,
-    ids: &[u32],
+    names: &[u32],
     vectors: &[u8],
     targets: &mut [u32],
     edges: &mut [u16],
     versions: &mut [u16],
     marks: &mut [u8],
     pool: &[u32],
+    numbers: &mut [u32],
+    summary: &mut [u32],
     checked: &mut [u32],
     lost: &mut [u32],
     scratch: &mut [u32],
 ) -> Step {
-    let beam = first(line, word.end);
+    let naming = first(line, word.end);
+    if no_naming(naming) {
+        return step;
+    }
+    let beam = after(line, naming);
     let degree = after(line, beam);
     let refusal = after(line, degree);
     let lent = step.lent;
-    let i = part(lent, GIVEN_ROWS, ids.len());
+    let i = part(lent, GIVEN_ROWS, names.len());
     let v = part(lent, 0, vectors.len());
     let t = part(lent, 1, targets.len());
     let e = part(lent, 2, edges.len());
     let n = part(lent, 3, versions.len());
     let m = part(lent, 4, marks.len());
     let p = part(lent, 5, pool.len());
-    let c = part(lent, 6, checked.len());
-    let l = part(lent, 7, lost.len());
-    let w = part(lent, 8, scratch.len());
+    let f = part(lent, 6, numbers.len());
+    let u = part(lent, 7, summary.len());
+    let c = part(lent, 8, checked.len());
+    let l = part(lent, 9, lost.len());
+    let w = part(lent, 11, scratch.len());
     let guarded = guarding::guarded_delete(
         step.index,
         &vectors[..v],
@@ -76,7 +86,10 @@ fn delete_with(
         &mut versions[..n],
         &mut marks[..m],
         &pool[..p],
-        &ids[..i],
+        &mut numbers[..f],
+        &mut summary[..u],
+        &names[..i],
+        naming_of(naming.value),
         beam.value,
         degree.value,
         c,
@@ -92,13 +105,15 @@ pub fn delete(
     line: &[u8],
     word: Word,
     step: Step,
-    ids: &[u32],
+    names: &[u32],
     vectors: &[u8],
     targets: &mut [u32],
     edges: &mut [u16],
     versions: &mut [u16],
     marks: &mut [u8],
     pool: &[u32],
+    numbers: &mut [u32],
+    summary: &mut [u32],
     scratch: &mut [u32],
 ) -> Step {
     if word.kind != GUARDED {
@@ -110,13 +125,15 @@ pub fn delete(
         line,
         word,
         step,
-        ids,
+        names,
         vectors,
         targets,
         edges,
         versions,
         marks,
         pool,
+        numbers,
+        summary,
         &mut checked,
         &mut lost,
         scratch,

@@ -43,6 +43,8 @@ pub fn enable(
     versions: &[u16],
     marks: &[u8],
     pool: &mut [u32],
+    numbers: &[u32],
+    summary: &[u32],
     scratch: &mut [u32],
 ) -> Step {
     if word.kind != ENABLE {
@@ -60,7 +62,9 @@ pub fn enable(
     let n = part(lent, 3, versions.len());
     let m = part(lent, 4, marks.len());
     let p = part(lent, 5, pool.len());
-    let w = part(lent, 8, scratch.len());
+    let f = part(lent, 6, numbers.len());
+    let s = part(lent, 7, summary.len());
+    let w = part(lent, 11, scratch.len());
     let enabled = guarding::enable_guard(
         step.index,
         &vectors[..v],
@@ -69,6 +73,8 @@ pub fn enable(
         &versions[..n],
         &marks[..m],
         &mut pool[..p],
+        &numbers[..f],
+        &summary[..s],
         count.value,
         multiplier.value,
         sample.value,

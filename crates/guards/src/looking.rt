@@ -20,6 +20,8 @@ fn answer(
     versions: &[u16],
     marks: &[u8],
     pool: &[u32],
+    numbers: &[u32],
+    summary: &[u32],
     scratch: &mut [u32],
 ) -> bool {
     let end = word.end;
@@ -36,6 +38,8 @@ fn answer(
             versions,
             marks,
             pool,
+            numbers,
+            summary,
         ),
         ASSESS => assess(
             line,
@@ -49,6 +53,8 @@ fn answer(
             versions,
             marks,
             pool,
+            numbers,
+            summary,
             scratch,
         ),
         _ => step.good,
@@ -67,6 +73,8 @@ pub fn look(
     versions: &[u16],
     marks: &[u8],
     pool: &[u32],
+    numbers: &[u32],
+    summary: &[u32],
     scratch: &mut [u32],
 ) -> Step {
     let lent = step.lent;
@@ -77,7 +85,9 @@ pub fn look(
     let n = part(lent, 3, versions.len());
     let m = part(lent, 4, marks.len());
     let p = part(lent, 5, pool.len());
-    let w = part(lent, 8, scratch.len());
+    let f = part(lent, 6, numbers.len());
+    let s = part(lent, 7, summary.len());
+    let w = part(lent, 11, scratch.len());
     let mut new = step;
     new.good = answer(
         line,
@@ -90,6 +100,8 @@ pub fn look(
         &versions[..n],
         &marks[..m],
         &pool[..p],
+        &numbers[..f],
+        &summary[..s],
         &mut scratch[..w],
     );
     new

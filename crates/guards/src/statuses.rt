@@ -33,8 +33,20 @@ pub fn status(
     versions: &[u16],
     marks: &[u8],
     pool: &[u32],
+    numbers: &[u32],
+    summary: &[u32],
 ) -> bool {
     let refusal = first(line, end);
-    let standing = guarding::guard_status(index, vectors, targets, edges, versions, marks, pool);
+    let standing = guarding::guard_status(
+        index,
+        vectors,
+        targets,
+        edges,
+        versions,
+        marks,
+        pool,
+        numbers,
+        summary,
+    );
     same_standing(line, refusal, standing)
 }

@@ -14,12 +14,19 @@ use lib.Dec.{eqb, ltb, leb}
 use Rattle.lists.proofs.Bools.{and-both}
 use Rattle.vectors.specs.Distance.{f32}
 use Rattle.lists.specs.Lists.{All, filter, range}
+use Rattle.lists.proofs.Filter.{filter-length}
+use Rattle.lists.proofs.Ranges.{length-range}
 use Rattle.slots.specs.Sizes.{Sizes, Slices, slices, Lengths, lengths-of, limits, within, sizes-ok, alpha-ok, lengths-ok}
 use Rattle.slots.specs.Scratch.{size-answer}
 use Rattle.vectors.specs.Vector.{Bytes}
+use Rattle.slots.specs.View.{View, live-slots}
 use Rattle.slots.specs.Store.{Store, is-valid, store-view, store-ops, arrays}
 use Rattle.slots.specs.contracts.Rows.{RowShape}
 use Rattle.slots.proofs.Places.{rows-shaped}
+use Rattle.numbers.specs.Numbers.{labels-ok}
+use Rattle.numbers.specs.contracts.Listed.{Listed}
+use Rattle.numbers.proofs.Exact.{labelled-exact}
+use Rattle.numbers.proofs.Listing.{labelled-listed}
 use Rattle.index.specs.declared.Index.{Index}
 use Rattle.index.specs.declared.ScratchWords.the-variants.{Refused, Words}
 use Rattle.calls.specs.Calls.{Call, refused-as}
@@ -27,7 +34,7 @@ use Rattle.calls.specs.Refusals.{Test, first-of, or-zero, index-tests, tests, g
 use Rattle.calls.specs.State.{State, stored, shown}
 use Rattle.calls.specs.Step.{perform, refusal, settle, step}
 use Rattle.index.specs.Index.{words-for, sizes, sizes-of, guard-of, state-of}
-use Rattle.index.specs.contracts.Deciding.{Decided, Passed}
+use Rattle.index.specs.contracts.Deciding.{Labels, labels-of, Decided, Passed}
 use Rattle.calls.proofs.Tests.{or-neither, passed-lengths}
 
 -- ---- numbers
@@ -97,55 +104,69 @@ bad₂ index = not (alpha-ok (index .alpha))
 abbrev bad₃ : Index → Lengths → Bool
 bad₃ index n = not (lengths-ok limits (sizes-of index) n)
 
-abbrev bad₆ : Index → List ℕ → ℕ → Bool
-bad₆ index marks n =
-    not (eqb (index .live) (length (filter (is-valid marks) (range 0 n)))) || not (ltb (index .entry) (index .capacity)) || guard-fault limits (guard-of (index .guard))
+abbrev bad₆ : Index → Labels → ℕ → Bool
+bad₆ index l n =
+    not (eqb (index .live) (length (filter (is-valid (l .marks)) (range 0 n)))) || not (ltb (index .entry) (index .capacity)) || guard-fault limits (guard-of (index .guard))
+    || not (labels-ok (is-valid (l .marks)) n (index .live) (l .numbers) (l .summary))
 
 abbrev four : Bool → Bool → Bool → Bool → List Test → List Test
 four q₁ q₂ q₃ q₆ rest = (1, q₁) ∷ (2, q₂) ∷ (3, q₃) ∷ (6, q₆) ∷ rest
 
-abbrev decides : Index → Lengths → List ℕ → Bool → List Test → ℕ
-decides index lent marks wrong rest = or-zero (first-of (four (bad₁ index) (bad₂ index) (bad₃ index lent || wrong) (bad₆ index marks (index .capacity)) rest))
+abbrev decides : Index → Lengths → Labels → Bool → List Test → ℕ
+decides index lent looked wrong rest = or-zero (first-of (four (bad₁ index) (bad₂ index) (bad₃ index lent || wrong) (bad₆ index looked (index .capacity)) rest))
 
--- these decide: the lengths lent are those of slices with these marks
-decided : (index : Index) (lent : Lengths) (marks : List ℕ) {wrong : Bool} {rest : List Test} {r : ℕ} → (lent .marks ≡ length marks → r ≡ decides index lent marks wrong rest)
-    → Decided index lent marks wrong rest r
+-- these decide: the lengths lent are those of slices with these contents
+decided : (index : Index) (lent : Lengths) (looked : Labels) {wrong : Bool} {rest : List Test} {r : ℕ} → (lent .marks ≡ length (looked .marks) → r ≡ decides index lent looked wrong rest)
+    → Decided index lent looked wrong rest r
 unfolding index-tests shown stored store-ops store-view state-of
-decided index lent marks {wrong} {rest} {r} f =
-    record { does = λ s e h. subst (λ m. r ≡ decides index lent m wrong rest) (sym h) (f (sym (ap (λ n. n .marks) e) ∙ ap length h)) }
+decided index lent looked {wrong} {rest} {r} f =
+    record { does = λ s e h. subst (λ l. r ≡ decides index lent l wrong rest) (sym h) (f (sym (ap (λ n. n .marks) e) ∙ ap (λ l. length (l .marks)) h)) }
 
 -- where the lengths are right, there are as many marks as slots
-marked : (index : Index) (lent : Lengths) (marks : List ℕ) {r₆ : Bool} → bad₃ index lent ≡ false → r₆ ≡ bad₆ index marks (length marks) → lent .marks ≡ length marks
-    → r₆ ≡ bad₆ index marks (index .capacity)
-marked index lent marks h sound k =
+marked : (index : Index) (lent : Lengths) (looked : Labels) {r₆ : Bool} → bad₃ index lent ≡ false → r₆ ≡ bad₆ index looked (length (looked .marks)) → lent .marks ≡ length (looked .marks)
+    → r₆ ≡ bad₆ index looked (index .capacity)
+marked index lent looked h sound k =
     let m : lent .marks ≡ index .capacity = ap (λ l. l .marks) (passed-lengths (sizes-of index) lent (not-false (lengths-ok limits (sizes-of index) lent) h)) in
     rw (sym k ∙ m) at sound
 
-module _ {index : Index} {lent : Lengths} {marks : List ℕ} {wrong r₁ : Bool}
+module _ {index : Index} {lent : Lengths} {looked : Labels} {wrong r₁ : Bool}
     (sized : (alpha : Float) → r₁ ≡ not (sizes-ok limits (sizes (index .dim) (index .capacity) (index .degree) alpha))) where
-  pub decided-sizes : r₁ ≡ true → Decided index lent marks wrong [] 1
-  decided-sizes t₁ = decided index lent marks (λ k. rw (sym (sized (index .alpha)) ∙ t₁))
+  pub decided-sizes : r₁ ≡ true → Decided index lent looked wrong [] 1
+  decided-sizes t₁ = decided index lent looked (λ k. rw (sym (sized (index .alpha)) ∙ t₁))
 
   module _ {r₂ : Bool} (t₁ : r₁ ≡ false) (grown : r₂ ≡ not (alpha-ok (index .alpha))) where
-    pub decided-alpha : r₂ ≡ true → Decided index lent marks wrong [] 2
-    decided-alpha t₂ = decided index lent marks (λ k. rw (sym (sized (index .alpha)) ∙ t₁, sym grown ∙ t₂))
+    pub decided-alpha : r₂ ≡ true → Decided index lent looked wrong [] 2
+    decided-alpha t₂ = decided index lent looked (λ k. rw (sym (sized (index .alpha)) ∙ t₁, sym grown ∙ t₂))
 
     module _ {r₃ : Bool} (t₂ : r₂ ≡ false) (long : (alpha : Float) → r₃ ≡ not (lengths-ok limits (sizes (index .dim) (index .capacity) (index .degree) alpha) lent)) where
-      pub decided-lengths : r₃ ≡ true → Decided index lent marks wrong [] 3
-      decided-lengths t₃ = decided index lent marks (λ k. rw (sym (sized (index .alpha)) ∙ t₁, sym grown ∙ t₂, sym (long (index .alpha)) ∙ t₃))
+      pub decided-lengths : r₃ ≡ true → Decided index lent looked wrong [] 3
+      decided-lengths t₃ = decided index lent looked (λ k. rw (sym (sized (index .alpha)) ∙ t₁, sym grown ∙ t₂, sym (long (index .alpha)) ∙ t₃))
 
       module _ (t₃ : r₃ ≡ false) where
-        pub decided-wrong : wrong ≡ true → Decided index lent marks wrong [] 3
-        decided-wrong t = decided index lent marks (λ k. rw (sym (sized (index .alpha)) ∙ t₁, sym grown ∙ t₂, sym (long (index .alpha)) ∙ t₃, t))
+        pub decided-wrong : wrong ≡ true → Decided index lent looked wrong [] 3
+        decided-wrong t = decided index lent looked (λ k. rw (sym (sized (index .alpha)) ∙ t₁, sym grown ∙ t₂, sym (long (index .alpha)) ∙ t₃, t))
 
-        module _ {r₆ : Bool} (t : wrong ≡ false) (sound : r₆ ≡ bad₆ index marks (length marks)) where
-          pub decided-index : r₆ ≡ true → Decided index lent marks wrong [] 6
+        module _ {r₆ : Bool} (t : wrong ≡ false) (sound : r₆ ≡ bad₆ index looked (length (looked .marks))) where
+          pub decided-index : r₆ ≡ true → Decided index lent looked wrong [] 6
           decided-index t₆ =
-              decided index lent marks (λ k. rw (sym (sized (index .alpha)) ∙ t₁, sym grown ∙ t₂, sym (long (index .alpha)) ∙ t₃, t, sym (marked index lent marks (sym (long (index .alpha)) ∙ t₃) sound k) ∙ t₆))
+              decided index lent looked (λ k. rw (sym (sized (index .alpha)) ∙ t₁, sym grown ∙ t₂, sym (long (index .alpha)) ∙ t₃, t, sym (marked index lent looked (sym (long (index .alpha)) ∙ t₃) sound k) ∙ t₆))
 
-          pub decided-none : r₆ ≡ false → Decided index lent marks wrong [] 0
+          pub decided-none : r₆ ≡ false → Decided index lent looked wrong [] 0
           decided-none t₆ =
-              decided index lent marks (λ k. rw (sym (sized (index .alpha)) ∙ t₁, sym grown ∙ t₂, sym (long (index .alpha)) ∙ t₃, t, sym (marked index lent marks (sym (long (index .alpha)) ∙ t₃) sound k) ∙ t₆))
+              decided index lent looked (λ k. rw (sym (sized (index .alpha)) ∙ t₁, sym grown ∙ t₂, sym (long (index .alpha)) ∙ t₃, t, sym (marked index lent looked (sym (long (index .alpha)) ∙ t₃) sound k) ∙ t₆))
+
+-- where the lengths are right, numbers and summary are as many as marks
+pub lent-alike : (dim capacity degree : ℕ) (lent : Lengths) {r : Bool} {m n k : ℕ} → ((alpha : Float) → r ≡ not (lengths-ok limits (sizes dim capacity degree alpha) lent)) → r ≡ false
+    → (lent .marks ≡ m) × (lent .numbers ≡ n) × (lent .summary ≡ k) → (n ≡ m) × (k ≡ m)
+lent-alike dim capacity degree lent long t h =
+    let z = sizes dim capacity degree (f32 1) in
+    let e = passed-lengths z lent (not-false (lengths-ok limits z lent) (sym (long (f32 1)) ∙ t)) in
+    let a = ap (λ l. l .marks) e in
+    (sym (h .1) ∙ ap (λ l. l .numbers) e ∙ sym a ∙ h .0, sym (h .2) ∙ ap (λ l. l .summary) e ∙ sym a ∙ h .0)
+
+-- as many are live as there are marks at most
+pub live-few : (marks : List ℕ) {live : ℕ} → live ≡ length (filter (is-valid marks) (range 0 (length marks))) → live ≤ length marks
+live-few marks e = omega (arith, filter-length (is-valid marks) (range 0 (length marks)), length-range 0 (length marks))
 
 -- ---- what the number says
 
@@ -186,19 +207,19 @@ first-four false false false false rest r e n = absurd (n e)
 after-four : (q₁ q₂ q₃ q₆ : Bool) (rest : List Test) (r : ℕ) → 0 ≡ or-zero (first-of (four q₁ q₂ q₃ q₆ [])) → r ≡ or-zero (first-of rest) → r ≡ or-zero (first-of (four q₁ q₂ q₃ q₆ rest))
 after-four q₁ q₂ q₃ q₆ rest r e h = let f = none-of q₁ q₂ q₃ q₆ [] tt (sym e) in rw (f .one, f .two, f .three, f .six) h
 
-module _ {index : Index} {lent : Lengths} {marks : List ℕ} {wrong : Bool} {r₁ : ℕ} (d : Decided index lent marks wrong [] r₁) where
-  pub decided-before : (rest : List Test) → (r₁ ≡ 0 → ⊥) → Decided index lent marks wrong rest r₁
+module _ {index : Index} {lent : Lengths} {looked : Labels} {wrong : Bool} {r₁ : ℕ} (d : Decided index lent looked wrong [] r₁) where
+  pub decided-before : (rest : List Test) → (r₁ ≡ 0 → ⊥) → Decided index lent looked wrong rest r₁
   unfolding index-tests shown stored store-ops store-view state-of
   decided-before rest n =
-      record { does = λ s e h. first-four (bad₁ index) (bad₂ index) (bad₃ index lent || wrong) (bad₆ index (s .marks) (index .capacity)) rest r₁ (d .does s e h) n }
+      record { does = λ s e h. first-four (bad₁ index) (bad₂ index) (bad₃ index lent || wrong) (bad₆ index (labels-of s) (index .capacity)) rest r₁ (d .does s e h) n }
 
-  pub decided-after : (rest : List Test) (r : ℕ) → r₁ ≡ 0 → r ≡ or-zero (first-of rest) → Decided index lent marks wrong rest r
+  pub decided-after : (rest : List Test) (r : ℕ) → r₁ ≡ 0 → r ≡ or-zero (first-of rest) → Decided index lent looked wrong rest r
   unfolding index-tests shown stored store-ops store-view state-of
   decided-after rest r z k =
-      record { does = λ s e h. after-four (bad₁ index) (bad₂ index) (bad₃ index lent || wrong) (bad₆ index (s .marks) (index .capacity)) rest r (sym z ∙ d .does s e h) k }
+      record { does = λ s e h. after-four (bad₁ index) (bad₂ index) (bad₃ index lent || wrong) (bad₆ index (labels-of s) (index .capacity)) rest r (sym z ∙ d .does s e h) k }
 
 -- an index of which none of the four holds: all that a call may rest on
-four-passed : (index : Index) (s : Slices) (wrong : Bool) → Four (bad₁ index) (bad₂ index) (bad₃ index (lengths-of s) || wrong) (bad₆ index (s .marks) (index .capacity)) → Passed index s
+four-passed : (index : Index) (s : Slices) (wrong : Bool) → Four (bad₁ index) (bad₂ index) (bad₃ index (lengths-of s) || wrong) (bad₆ index (labels-of s) (index .capacity)) → Passed index s
 unfolding store-view state-of
 four-passed index s wrong f =
     let m = sizes-of index in
@@ -207,8 +228,11 @@ four-passed index s wrong f =
     let l = passed-lengths m (lengths-of s) (not-false (lengths-ok limits m (lengths-of s)) (or-neither (bad₃ index (lengths-of s)) wrong (f .three) .0)) in
     let e = eqb (index .live) (length (filter (is-valid (s .marks)) (range 0 (index .capacity)))) in
     let i = ltb (index .entry) (index .capacity) in
-    let o = or-neither (not e || not i) (guard-fault limits (guard-of (index .guard))) (f .six) in
+    let ok = labels-ok (is-valid (s .marks)) (index .capacity) (index .live) (s .numbers) (s .summary) in
+    let six = or-neither (not e || not i || guard-fault limits (guard-of (index .guard))) (not ok) (f .six) in
+    let o = or-neither (not e || not i) (guard-fault limits (guard-of (index .guard))) (six .0) in
     let p = or-neither (not e) (not i) (o .0) in
+    let right = eqb-true (index .live) _ (not-false e (p .0)) in
     record {
       shaped = record {
         vectors-long = ap (λ x. x .vectors) l;
@@ -218,6 +242,8 @@ four-passed index s wrong f =
         marks-long = ap (λ x. x .marks) l;
       };
       pool-long = ap (λ x. x .pool) l;
+      numbers-long = ap (λ x. x .numbers) l;
+      summary-long = ap (λ x. x .summary) l;
       dim-low = b .dim-low;
       dim-high = b .dim-high;
       capacity-low = b .capacity-low;
@@ -227,9 +253,28 @@ four-passed index s wrong f =
       sizes-right = sized;
       alpha-right = not-false (alpha-ok (index .alpha)) (f .two);
       entry-inside = ltb-true (index .entry) (index .capacity) (not-false i (p .1));
-      live-right = eqb-true (index .live) _ (not-false e (p .0));
+      live-right = right;
       guard-right = o .1;
+      labelled = labelled-exact (is-valid (s .marks)) (index .capacity) (index .live) (s .numbers) (s .summary) right (ap (λ x. x .summary) l) (not-false ok (six .1));
     }
+
+-- a call's own tests do not count for those that calls share
+pub shared-none : (lent : Lengths) (w : State View) (wrong : Bool) (rest : List Test) → first-of (index-tests limits lent w wrong rest) ≡ none
+    → first-of (index-tests limits lent w false []) ≡ none
+unfolding index-tests
+shared-none lent w wrong rest e =
+    let v = w .graph in
+    go (not (sizes-ok limits (v .sizes))) (not (alpha-ok (v .sizes .alpha))) (not (lengths-ok limits (v .sizes) lent)) wrong
+    (not (eqb (w .live) (length (live-slots v))) || not (ltb (v .entry) (v .sizes .capacity)) || guard-fault limits (w .guard)
+    || not (labels-ok (v .live) (v .sizes .capacity) (w .live) (w .numbers) (w .summary))) e
+  where
+    go : (q₁ q₂ q₃ x q₆ : Bool) → first-of (four q₁ q₂ (q₃ || x) q₆ rest) ≡ none → first-of (four q₁ q₂ (q₃ || false) q₆ []) ≡ none
+    go true q₂ q₃ x q₆ h = absurd (let z : _≡_ {A = ℕ} 0 1 = cc in omega arith)
+    go false true q₃ x q₆ h = absurd (let z : _≡_ {A = ℕ} 0 1 = cc in omega arith)
+    go false false true x q₆ h = absurd (let z : _≡_ {A = ℕ} 0 1 = cc in omega arith)
+    go false false false true q₆ h = absurd (let z : _≡_ {A = ℕ} 0 1 = cc in omega arith)
+    go false false false false true h = absurd (let z : _≡_ {A = ℕ} 0 1 = cc in omega arith)
+    go false false false false false h = refl
 
 -- so of an index of which no test of a call holds
 pub passed-none : (index : Index) (s : Slices) (wrong : Bool) (rest : List Test) → All Numbered rest
@@ -237,15 +282,15 @@ pub passed-none : (index : Index) (s : Slices) (wrong : Bool) (rest : List Test)
 unfolding index-tests shown stored store-ops store-view state-of
 passed-none index s wrong rest p h = four-passed index s wrong (none-of _ _ _ _ rest p (ap or-zero h))
 
-module _ (index : Index) (s : Slices) {wrong : Bool} {rest : List Test} {r : ℕ} (p : All Numbered rest) (d : Decided index (lengths-of s) (s .marks) wrong rest r) where
+module _ (index : Index) (s : Slices) {wrong : Bool} {rest : List Test} {r : ℕ} (p : All Numbered rest) (d : Decided index (lengths-of s) (labels-of s) wrong rest r) where
   abbrev shared : List Test
-  shared = four (bad₁ index) (bad₂ index) (bad₃ index (lengths-of s) || wrong) (bad₆ index (s .marks) (index .capacity)) rest
+  shared = four (bad₁ index) (bad₂ index) (bad₃ index (lengths-of s) || wrong) (bad₆ index (labels-of s) (index .capacity)) rest
 
   found : r ≡ or-zero (first-of shared)
   unfolding index-tests shown stored store-ops store-view state-of
   found = d .does s refl refl
 
-  none-found : r ≡ 0 → Four (bad₁ index) (bad₂ index) (bad₃ index (lengths-of s) || wrong) (bad₆ index (s .marks) (index .capacity))
+  none-found : r ≡ 0 → Four (bad₁ index) (bad₂ index) (bad₃ index (lengths-of s) || wrong) (bad₆ index (labels-of s) (index .capacity))
   none-found z = none-of _ _ _ _ rest p (sym found ∙ z)
 
   -- a number that is not 0 is the number given
@@ -269,10 +314,13 @@ module _ (index : Index) (s : Slices) {wrong : Bool} {rest : List Test} {r : ℕ
   pub passed : r ≡ 0 → Passed index s
   passed z = four-passed index s wrong (none-found z)
 
--- before a call's own tests: the live count is that of the marks, whatever the other slices hold
-module _ (index : Index) {lent : Lengths} {marks : List ℕ} {wrong : Bool} (long : lent .marks ≡ length marks) (d : Decided index lent marks wrong [] 0) where
+-- before a call's own tests: the slices that were looked at pass, whatever the other slices hold
+module _ (index : Index) {lent : Lengths} {looked : Labels} {wrong : Bool} (long : lent .marks ≡ length (looked .marks)) (so-many : lent .numbers ≡ length (looked .numbers))
+    (as-many : lent .summary ≡ length (looked .summary)) (d : Decided index lent looked wrong [] 0) where
   abbrev some-slices : Slices
-  some-slices = slices (replicate (lent .vectors) 0) (replicate (lent .targets) 0) (replicate (lent .edges) 0) (replicate (lent .versions) 0) marks (replicate (lent .pool) 0)
+  some-slices =
+      slices (replicate (lent .vectors) 0) (replicate (lent .targets) 0) (replicate (lent .edges) 0) (replicate (lent .versions) 0) (looked .marks) (replicate (lent .pool) 0)
+      (looked .numbers) (looked .summary)
 
   zeros : (n : ℕ) → n ≡ length (replicate {A = ℕ} n 0)
   zeros n = sym (length-replicate {A = ℕ} n 0)
@@ -285,11 +333,24 @@ module _ (index : Index) {lent : Lengths} {marks : List ℕ} {wrong : Bool} (lon
     versions = zeros (lent .versions) i;
     marks = long i;
     pool = zeros (lent .pool) i;
+    numbers = so-many i;
+    summary = as-many i;
   }
 
-  pub decided-live : index .live ≡ length (filter (is-valid marks) (range 0 (index .capacity)))
+  pub decided-passed : Passed index some-slices
+  decided-passed = passed index some-slices tt (subst (λ n. Decided index n looked wrong [] 0) so-long d) refl
+
+  -- the numbers can be looked up
+  pub decided-listed : Listed (looked .numbers) (looked .summary) (index .live)
   unfolding store-view state-of
-  decided-live = passed index some-slices tt (subst (λ n. Decided index n marks wrong [] 0) so-long d) refl .live-right
+  decided-listed = let p = decided-passed in labelled-listed (p .labelled) (p .live-right) (p .numbers-long) (p .capacity-high)
+
+  pub decided-not-wrong : wrong ≡ false
+  decided-not-wrong = not-wrong index some-slices tt (subst (λ n. Decided index n looked wrong [] 0) so-long d) refl
+
+  pub decided-live : index .live ≡ length (filter (is-valid (looked .marks)) (range 0 (index .capacity)))
+  unfolding store-view state-of
+  decided-live = decided-passed .live-right
 
 -- what the functions on rows and on vectors ask
 module _ {index : Index} {s : Slices} (p : Passed index s) where

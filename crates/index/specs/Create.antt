@@ -17,9 +17,9 @@ use Rattle.calls.specs.Runs.{value-of, Run}
 use Rattle.index.specs.Index.{sizes, state-of}
 
 -- what making is given, one by one
-abbrev pub making : ℕ → ℕ → ℕ → Float → ℕ → ℕ → List ℕ → List ℕ → Making
-making dim capacity degree alpha entry count bytes rows =
-    record { sizes = sizes dim capacity degree alpha; count = count; bytes = bytes; rows = rows; entry = entry }
+abbrev pub making : ℕ → ℕ → ℕ → Float → ℕ → ℕ → List ℕ → List ℕ → List ℕ → Making
+making dim capacity degree alpha entry count bytes rows numbers =
+    record { sizes = sizes dim capacity degree alpha; count = count; bytes = bytes; rows = rows; entry = entry; numbers = numbers }
 
 -- the slices as they are lent, and as they are left
 module _ (m : Making) (before after : Slices) where

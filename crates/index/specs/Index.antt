@@ -1,4 +1,4 @@
--- The index by value with its six lent slices, as the definitions' state; the size answer. Assumes nothing.
+-- The index by value with its eight lent slices, as the definitions' state; the size answer. Assumes nothing.
 use Prim.Native.Nat.{ℕ}
 use mathlib.Core.Bool.{cond}
 use lib.Ieee.{Float}
@@ -29,7 +29,17 @@ sizes-of i = sizes (i .dim) (i .capacity) (i .degree) (i .alpha)
 
 -- the lengths that a struct holds
 abbrev pub lengths-in : Lengths → Sizes.Lengths
-lengths-in l = record { vectors = l .vectors; targets = l .targets; edges = l .edges; versions = l .versions; marks = l .marks; pool = l .pool }
+lengths-in l =
+    record {
+      vectors = l .vectors;
+      targets = l .targets;
+      edges = l .edges;
+      versions = l .versions;
+      marks = l .marks;
+      pool = l .pool;
+      numbers = l .numbers;
+      summary = l .summary;
+    }
 
 unfoldable pub guard-of : Guard → Guards.Guard
 guard-of Off = off

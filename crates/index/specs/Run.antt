@@ -1,4 +1,4 @@
--- A run of a call on an index by value and its six slices, as the theorem over runs takes it. Assumes nothing.
+-- A run of a call on an index by value and its eight slices, as the theorem over runs takes it. Assumes nothing.
 use Prim.Native.Nat.{ℕ}
 use mathlib.Core.List.{List, []}
 use Rattle.slots.specs.Sizes.{Slices}

@@ -1,4 +1,4 @@
-// An index by value and the six slices that are lent beside it: making one, and the tests that all calls share.
+// An index by value and the eight slices that are lent beside it: making one, and the tests that all calls share.
 mod making;
 pub mod refusals;
 
@@ -19,7 +19,7 @@ pub enum Guard {
     On(Settings),
 }
 
-// An index without its six slices.
+// An index without its eight slices.
 pub struct Index {
     pub dim: u32,
     pub capacity: u32,
@@ -30,7 +30,7 @@ pub struct Index {
     pub guard: Guard,
 }
 
-// The lengths of the six slices.
+// The lengths of the eight slices.
 pub struct Lengths {
     pub vectors: usize,
     pub targets: usize,
@@ -38,6 +38,8 @@ pub struct Lengths {
     pub versions: usize,
     pub marks: usize,
     pub pool: usize,
+    pub numbers: usize,
+    pub summary: usize,
 }
 
 // The size answer, or the number of a refusal.

@@ -3,6 +3,7 @@ use super::Guard;
 use super::Index;
 use super::Lengths;
 use super::ScratchWords;
+use numbers::labels_bad;
 use slots::limits;
 use slots::marks::wide;
 use slots::scratch::MARKS;
@@ -17,11 +18,12 @@ ghost use lib.ListN.{length};
 ghost use Rattle.lists.specs.Lists.{filter, range};
 ghost use Rattle.slots.specs.Sizes.{limits, within, sizes-ok, alpha-ok, lengths-ok};
 ghost use Rattle.slots.specs.Store.{is-valid};
+ghost use Rattle.numbers.specs.Numbers.{labels-ok};
 ghost use Rattle.guard.specs.Guard.{config};
 ghost use Rattle.calls.specs.Refusals.{guard-fault, config-over, config-zero};
 ghost use Rattle.slots.specs.Scratch.{size-answer};
 ghost use Rattle.index.specs.Index.{words-for, guard-of, sizes, lengths-in};
-ghost use Rattle.index.specs.contracts.Deciding.{Decided};
+ghost use Rattle.index.specs.contracts.Deciding.{labels, Decided};
 
 // Whether a number is outside a range that begins at 1.
 fn outside(high: u32, n: u32) -> bool
@@ -65,7 +67,7 @@ pub fn product(a: u32, b: u32) -> usize
     wide(a) * wide(b)
 }
 
-// Row 3, of the six slices of an index: one of them has another length.
+// Row 3, of the eight slices of an index: one of them has another length.
 pub fn lengths_bad(dim: u32, capacity: u32, degree: u32, lent: Lengths) -> bool
     ensures { λ r. ⌜ ((alpha : Float) → r ≡ not (lengths-ok limits (sizes dim capacity degree alpha) (lengths-in lent))) ⌝ }
 {
@@ -86,7 +88,13 @@ pub fn lengths_bad(dim: u32, capacity: u32, degree: u32, lent: Lengths) -> bool
     if lent.marks != count {
         return true;
     }
-    lent.pool != wide(limits::POOL)
+    if lent.pool != wide(limits::POOL) {
+        return true;
+    }
+    if lent.numbers != count {
+        return true;
+    }
+    lent.summary != count
 }
 
 // Row 7, of a guard's settings: one of them is over its limit.
@@ -137,9 +145,10 @@ fn guard_bad(guard: Guard) -> bool
     limits::POOL < s.pool
 }
 
-// Row 6: the live count is not that of the marks, the entry is outside, or the guard has a fault.
-fn index_bad(index: Index, marks: &[u8]) -> bool
-    ensures { λ r. ⌜ r ≡ (not (eqb (index .live) (length (filter (is-valid (now (marks .entry))) (range 0 (length (now (marks .entry))))))) || not (ltb (index .entry) (index .capacity)) || guard-fault limits (guard-of (index .guard))) ⌝ }
+// Row 6: the live count is not that of the marks, the entry is outside, the guard has a fault, or numbers and summary break a rule.
+fn index_bad(index: Index, marks: &[u8], numbers: &[u32], summary: &[u32]) -> bool
+    requires { ⌜ (length (now numbers) ≡ length (now marks)) × (length (now summary) ≡ length (now marks)) ⌝ }
+    ensures { λ r. ⌜ r ≡ (not (eqb (index .live) (length (filter (is-valid (now (marks .entry))) (range 0 (length (now (marks .entry))))))) || not (ltb (index .entry) (index .capacity)) || guard-fault limits (guard-of (index .guard)) || not (labels-ok (is-valid (now (marks .entry))) (length (now (marks .entry))) (index .live) (now (numbers .entry)) (now (summary .entry)))) ⌝ }
 {
     let live = wide(index.live);
     if live != slots::marks::count_valid(marks) {
@@ -149,13 +158,23 @@ fn index_bad(index: Index, marks: &[u8]) -> bool
         return true;
     }
     let guard = index.guard;
-    guard_bad(guard)
+    if guard_bad(guard) {
+        return true;
+    }
+    labels_bad(marks, numbers, summary, live)
 }
 
 // The first of rows 1, 2, 3 and 6 that turns a call back, else 0; `wrong` is the call's own part of row 3.
-pub fn index_refusal(index: Index, lent: Lengths, marks: &[u8], wrong: bool) -> u32
-    requires { ⌜ lent .marks ≡ length (now marks) ⌝ }
-    ensures { λ r. ⌜ Decided index (lengths-in lent) (now (marks .entry)) wrong [] r ⌝ }
+pub fn index_refusal(
+    index: Index,
+    lent: Lengths,
+    marks: &[u8],
+    numbers: &[u32],
+    summary: &[u32],
+    wrong: bool,
+) -> u32
+    requires { ⌜ (lent .marks ≡ length (now marks)) × (lent .numbers ≡ length (now numbers)) × (lent .summary ≡ length (now summary)) ⌝ }
+    ensures { λ r. ⌜ Decided index (lengths-in lent) (labels (now (marks .entry)) (now (numbers .entry)) (now (summary .entry))) wrong [] r ⌝ }
 {
     if sizes_bad(index.dim, index.capacity, index.degree) {
         return 1;
@@ -169,7 +188,7 @@ pub fn index_refusal(index: Index, lent: Lengths, marks: &[u8], wrong: bool) -> 
     if wrong {
         return 3;
     }
-    if index_bad(index, marks) {
+    if index_bad(index, marks, numbers, summary) {
         return 6;
     }
     0

@@ -2,6 +2,7 @@
 use super::kinds::GIVE;
 use super::kinds::LEND;
 use super::kinds::NOTE;
+use super::kinds::NUMBERS;
 use super::kinds::ROWS;
 use super::kinds::SET;
 use super::kinds::STORE;
@@ -15,12 +16,14 @@ use text::ends;
 use text::first;
 ghost use Prim.Native.Nat.{_≤_};
 
-// How many lengths a line `lend` has; after them come those of the given vectors and rows.
-pub const LENT: usize = 9;
+// How many lengths a line `lend` has; after them come those of the given vectors, rows and numbers.
+pub const LENT: usize = 12;
 
-pub const GIVEN: usize = 9;
+pub const GIVEN: usize = 12;
 
-pub const GIVEN_ROWS: usize = 10;
+pub const GIVEN_ROWS: usize = 13;
+
+pub const GIVEN_NUMBERS: usize = 14;
 
 // The whole length of each array that is lent.
 pub fn most(i: usize) -> u32 {
@@ -31,8 +34,11 @@ pub fn most(i: usize) -> u32 {
         3 => 65536,
         4 => 65536,
         5 => 1024,
-        6 => 1024,
-        7 => 1024,
+        6 => 65536,
+        7 => 65536,
+        8 => 1024,
+        9 => 1024,
+        10 => 1024,
         _ => 235520,
     }
 }
@@ -44,7 +50,7 @@ pub fn wide(n: u32) -> usize {
 
 // How much of each array is lent to a call.
 pub struct Lent {
-    pub of: [usize; 11],
+    pub of: [usize; 15],
 }
 
 // An index, what is lent to its calls, and whether the line was performed and its answer agrees.
@@ -65,7 +71,7 @@ pub fn least(asked: usize, most: usize) -> usize
 pub fn part(lent: Lent, i: usize, most: usize) -> usize
     ensures { λ r. ⌜ r ≤ most ⌝ }
 {
-    if i < 11 { least(lent.of[i], most) } else { 0 }
+    if i < 15 { least(lent.of[i], most) } else { 0 }
 }
 
 // Performs a line `lend`.
@@ -139,8 +145,8 @@ fn set_word(words: &mut [u32], i: usize, value: u32) -> bool {
     false
 }
 
-// Reads as many words as `count` says, each one more than it is, into the start of `rows`.
-fn words(line: &[u8], count: Number, rows: &mut [u32]) -> Number {
+// Reads as many words as `count` says, each `more` than it is, into the start of `given`.
+fn words(line: &[u8], count: Number, more: u32, given: &mut [u32]) -> Number {
     let mut last = count;
     let n = wide(count.value);
     let mut i: usize = 0;
@@ -149,8 +155,8 @@ fn words(line: &[u8], count: Number, rows: &mut [u32]) -> Number {
         if !last.good {
             return last;
         }
-        let word = std::num::wrapping_sub_u32(last.value, 1);
-        if !set_word(rows, i, word) {
+        let word = std::num::wrapping_sub_u32(last.value, more);
+        if !set_word(given, i, word) {
             last.good = false;
         }
         i += 1;
@@ -256,8 +262,15 @@ fn gave(line: &[u8], step: Step, lent: Lent, last: Number) -> Step {
     }
 }
 
-// Performs a line `give` or `rows`.
-pub fn give(line: &[u8], word: Word, step: Step, given: &mut [u8], rows: &mut [u32]) -> Step {
+// Performs a line `give`, `rows` or `numbers`.
+pub fn give(
+    line: &[u8],
+    word: Word,
+    step: Step,
+    given: &mut [u8],
+    rows: &mut [u32],
+    figures: &mut [u32],
+) -> Step {
     let mut lent = step.lent;
     let count = first(line, word.end);
     if word.kind == GIVE {
@@ -266,12 +279,16 @@ pub fn give(line: &[u8], word: Word, step: Step, given: &mut [u8], rows: &mut [u
     }
     if word.kind == ROWS {
         lent.of[GIVEN_ROWS] = wide(count.value);
-        return gave(line, step, lent, words(line, count, rows));
+        return gave(line, step, lent, words(line, count, 1, rows));
+    }
+    if word.kind == NUMBERS {
+        lent.of[GIVEN_NUMBERS] = wide(count.value);
+        return gave(line, step, lent, words(line, count, 0, figures));
     }
     step
 }
 
-// What a line `store` alters; array 5 is none.
+// What a line `store` alters; array 7 is none.
 struct Place {
     array: u32,
     i: usize,
@@ -286,6 +303,8 @@ fn is_lent(lent: Lent, array: u32, i: usize) -> bool {
         2 => i < lent.of[1],
         3 => i < lent.of[2],
         4 => i < lent.of[0],
+        5 => i < lent.of[6],
+        6 => i < lent.of[7],
         _ => false,
     }
 }
@@ -298,7 +317,7 @@ fn place_of(line: &[u8], word: Word, lent: Lent) -> Place {
     let i = wide(place.value);
     let good = word.kind == STORE && ends(line, value) && is_lent(lent, array.value, i);
     Place {
-        array: if good { array.value } else { 5 },
+        array: if good { array.value } else { 7 },
         i,
         value: value.value,
     }
@@ -314,6 +333,8 @@ pub fn store(
     edges: &mut [u16],
     versions: &mut [u16],
     marks: &mut [u8],
+    numbers: &mut [u32],
+    summary: &mut [u32],
 ) -> Step {
     let to = place_of(line, word, step.lent);
     let array = to.array;
@@ -324,6 +345,8 @@ pub fn store(
         2 => set_word(targets, to.i, to.value),
         3 => set_half(edges, to.i, to.value),
         4 => set_byte(vectors, to.i, to.value),
+        5 => set_word(numbers, to.i, to.value),
+        6 => set_word(summary, to.i, to.value),
         _ => step.good,
     };
     new

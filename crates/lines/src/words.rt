@@ -9,6 +9,7 @@ use super::kinds::LEND;
 use super::kinds::MAKE;
 use super::kinds::MALFORMED;
 use super::kinds::NOTE;
+use super::kinds::NUMBERS;
 use super::kinds::READ;
 use super::kinds::ROWS;
 use super::kinds::SEARCH;
@@ -52,6 +53,12 @@ fn preparing(line: &[u8]) -> Word {
     }
     if begins(line, b"rows ") {
         return Word { kind: ROWS, end: 4 };
+    }
+    if begins(line, b"numbers ") {
+        return Word {
+            kind: NUMBERS,
+            end: 7,
+        };
     }
     if begins(line, b"set ") {
         return Word { kind: SET, end: 3 };

@@ -32,7 +32,8 @@ fn reading(what: u32, slot: u32, place: u32) -> Reading {
         5 => Reading::Live,
         6 => Reading::Mark(slot),
         7 => Reading::Version(slot),
-        _ => Reading::Target(slot, place),
+        8 => Reading::Target(slot, place),
+        _ => Reading::Number(slot),
     }
 }
 
@@ -57,13 +58,15 @@ fn read(
     versions: &[u16],
     marks: &[u8],
     pool: &[u32],
+    numbers: &[u32],
+    summary: &[u32],
 ) -> bool {
     let what = first(line, end);
     let slot = after(line, what);
     let place = after(line, slot);
     let refusal = after(line, place);
     let value = after(line, refusal);
-    if 8 < what.value {
+    if 9 < what.value {
         return false;
     }
     let got = reading::read(
@@ -74,6 +77,8 @@ fn read(
         versions,
         marks,
         pool,
+        numbers,
+        summary,
         reading(what.value, slot.value, place.value),
     );
     same_value(got, refusal.value, value.value) && ends(line, value)
@@ -107,6 +112,8 @@ fn read_vector(
     versions: &[u16],
     marks: &[u8],
     pool: &[u32],
+    numbers: &[u32],
+    summary: &[u32],
 ) -> bool {
     let slot = first(line, end);
     let count = after(line, slot);
@@ -118,6 +125,8 @@ fn read_vector(
         versions,
         marks,
         pool,
+        numbers,
+        summary,
         slot.value,
     );
     same_bytes(line, count, got)
@@ -141,25 +150,36 @@ fn size(line: &[u8], end: usize) -> bool {
 fn same_candidate(
     slots: &[u32; 1024],
     dists: &[f32; 1024],
+    figures: &[u32; 1024],
     i: usize,
     slot: u32,
     dist: u32,
+    figure: u32,
 ) -> bool {
     if i < 1024 {
-        return slots[i] == slot && dists[i] == std::num::nearest_u32_to_f32(dist);
+        return slots[i] == slot
+            && dists[i] == std::num::nearest_u32_to_f32(dist)
+            && figures[i] == figure;
     }
     false
 }
 
 // Whether the rest of a line has these candidates.
-fn same_candidates(line: &[u8], count: Number, slots: &[u32; 1024], dists: &[f32; 1024]) -> bool {
+fn same_candidates(
+    line: &[u8],
+    count: Number,
+    slots: &[u32; 1024],
+    dists: &[f32; 1024],
+    figures: &[u32; 1024],
+) -> bool {
     let mut last = count;
     let n = wide(count.value);
     let mut i: usize = 0;
     while i < n {
         let slot = after(line, last);
-        last = after(line, slot);
-        if !same_candidate(slots, dists, i, slot.value, last.value) {
+        let dist = after(line, slot);
+        last = after(line, dist);
+        if !same_candidate(slots, dists, figures, i, slot.value, dist.value, last.value) {
             return false;
         }
         i += 1;
@@ -174,12 +194,15 @@ fn same_found(
     found: Found,
     slots: &[u32; 1024],
     dists: &[f32; 1024],
+    figures: &[u32; 1024],
 ) -> bool {
     match found {
         Found::Refused(r) => r == refusal.value && ends(line, refusal),
         Found::Found(n) => {
             let count = after(line, refusal);
-            refusal.value == 0 && n == count.value && same_candidates(line, count, slots, dists)
+            refusal.value == 0
+                && n == count.value
+                && same_candidates(line, count, slots, dists, figures)
         }
     }
 }
@@ -196,19 +219,23 @@ fn search(
     versions: &[u16],
     marks: &[u8],
     pool: &[u32],
+    numbers: &[u32],
+    summary: &[u32],
     scratch: &mut [u32],
 ) -> bool {
     let mut query = [0u8; 1024];
     let mut slots = [0u32; 1024];
     let mut dists = [0.0f32; 1024];
+    let mut figures = [0u32; 1024];
     let k = first(line, end);
     let beam = after(line, k);
     let count = after(line, beam);
     let refusal = after(line, bytes(line, count, &mut query));
     let n = least(wide(count.value), 1024);
-    let s = part(lent, 6, 1024);
-    let d = part(lent, 7, 1024);
-    let w = part(lent, 8, scratch.len());
+    let s = part(lent, 8, 1024);
+    let d = part(lent, 9, 1024);
+    let f = part(lent, 10, 1024);
+    let w = part(lent, 11, scratch.len());
     let found = reading::search(
         index,
         vectors,
@@ -217,14 +244,17 @@ fn search(
         versions,
         marks,
         pool,
+        numbers,
+        summary,
         &query[..n],
         k.value,
         beam.value,
         &mut slots[..s],
         &mut dists[..d],
+        &mut figures[..f],
         &mut scratch[..w],
     );
-    same_found(line, refusal, found, &slots, &dists)
+    same_found(line, refusal, found, &slots, &dists, &figures)
 }
 
 // Performs a line that reads the index.
@@ -238,6 +268,8 @@ fn answer(
     versions: &[u16],
     marks: &[u8],
     pool: &[u32],
+    numbers: &[u32],
+    summary: &[u32],
     scratch: &mut [u32],
 ) -> bool {
     let end = word.end;
@@ -254,6 +286,8 @@ fn answer(
             versions,
             marks,
             pool,
+            numbers,
+            summary,
         ),
         VECTOR => read_vector(
             line,
@@ -265,6 +299,8 @@ fn answer(
             versions,
             marks,
             pool,
+            numbers,
+            summary,
         ),
         SEARCH => search(
             line,
@@ -277,6 +313,8 @@ fn answer(
             versions,
             marks,
             pool,
+            numbers,
+            summary,
             scratch,
         ),
         WORDS => size(line, end),
@@ -295,6 +333,8 @@ pub fn look(
     versions: &[u16],
     marks: &[u8],
     pool: &[u32],
+    numbers: &[u32],
+    summary: &[u32],
     scratch: &mut [u32],
 ) -> Step {
     let lent = step.lent;
@@ -304,6 +344,8 @@ pub fn look(
     let n = part(lent, 3, versions.len());
     let m = part(lent, 4, marks.len());
     let p = part(lent, 5, pool.len());
+    let f = part(lent, 6, numbers.len());
+    let s = part(lent, 7, summary.len());
     let mut new = step;
     new.good = answer(
         line,
@@ -315,6 +357,8 @@ pub fn look(
         &versions[..n],
         &marks[..m],
         &pool[..p],
+        &numbers[..f],
+        &summary[..s],
         scratch,
     );
     new

@@ -8,8 +8,8 @@ use native.Mathlib.Omega.{arith}
 use borrow.Author.Tests.{lt-ltb, le-ltb, ltb-true, ltb-false, eqb-true, not-false}
 use lib.Dec.{eqb, ltb}
 use lib.Ieee.{Float}
-use lib.ListN.{length, take, set, length-set}
-use lib.Seq.{take-all}
+use lib.ListN.{length, take, drop, set, length-set, length-map}
+use lib.Seq.{take-all, take-at}
 use Rattle.lists.specs.Lists.{All, put-front}
 use Rattle.lists.proofs.All.{all-take}
 use Rattle.lists.proofs.Front.{front-map}
@@ -20,6 +20,7 @@ use Rattle.vectors.specs.Distance.{f32}
 use Rattle.candidates.specs.contracts.Words.{cand, cands, Small}
 use Rattle.candidates.proofs.Words.{cands-none, cands-length, cands-snoc, cands-each, cands-take}
 use Rattle.slots.specs.Store.{Store, store-view, store-ops, arrays}
+use Rattle.numbers.specs.Numbers.{number-of}
 use Rattle.walk.specs.Walk.{search-pool}
 use Rattle.walk.specs.contracts.Scratch.{Ready, Pool}
 use Rattle.index.specs.declared.Index.{Index}
@@ -31,7 +32,7 @@ use Rattle.calls.specs.State.{stored, shown}
 use Rattle.calls.specs.Step.{refusal, perform}
 use Rattle.calls.specs.Runs.{lent-of, slices-of, call-of, run-refusal}
 use Rattle.index.specs.Index.{state-of}
-use Rattle.index.specs.contracts.Deciding.{Decided, Passed}
+use Rattle.index.specs.contracts.Deciding.{Labels, labels-of, Decided, Passed}
 use Rattle.reading.specs.contracts.Finding.{search-tests, Fits, Shown}
 use Rattle.reading.specs.Search.{found-as, searching, search-outputs, Searches}
 use Rattle.calls.proofs.Tests.{first-none, or-neither}
@@ -39,36 +40,46 @@ use Rattle.index.proofs.Decide.{Numbered, decided-before, decided-after, turned
 
 -- ---- rows 7 and 8
 
-module _ (k beam m n : ℕ) where
-  pub over-beam : 1024 < beam → true ≡ (ltb (limits .beam) beam || ltb (min m n) k)
+module _ (k beam l m n : ℕ) where
+  -- row 7, of outputs that are l, m and n long
+  abbrev over-any : Bool
+  over-any = ltb (limits .beam) beam || ltb (min (min l m) n) k
+
+  pub over-beam : 1024 < beam → true ≡ over-any
   unfolding limits
   over-beam h = rw (lt-ltb 1024 beam h)
 
   module _ (b : beam ≤ 1024) where
-    pub over-first : m < k → true ≡ (ltb (limits .beam) beam || ltb (min m n) k)
+    less : min (min l m) n < k → true ≡ over-any
     unfolding limits
-    over-first h = let g : min m n < k = omega arith in rw (le-ltb 1024 beam b, lt-ltb (min m n) k g)
+    less g = rw (le-ltb 1024 beam b, lt-ltb (min (min l m) n) k g)
 
-    pub over-second : k ≤ m → ltb n k ≡ (ltb (limits .beam) beam || ltb (min m n) k)
+    pub over-first : l < k → true ≡ over-any
+    over-first h = less (omega arith)
+
+    pub over-second : m < k → true ≡ over-any
+    over-second h = less (omega arith)
+
+    pub over-third : k ≤ l → k ≤ m → ltb n k ≡ over-any
     unfolding limits
-    over-second h = rw (le-ltb 1024 beam b) (go (ltb n k) refl)
+    over-third h h′ = rw (le-ltb 1024 beam b) (go (ltb n k) refl)
       where
-        go : (q : Bool) → ltb n k ≡ q → ltb n k ≡ ltb (min m n) k
-        go true e = let g : min m n < k = omega (arith, ltb-true n k e) in e ∙ sym (lt-ltb (min m n) k g)
-        go false e = let g : k ≤ min m n = omega (arith, ltb-false n k e) in e ∙ sym (le-ltb (min m n) k g)
+        go : (q : Bool) → ltb n k ≡ q → ltb n k ≡ ltb (min (min l m) n) k
+        go true e = let g : min (min l m) n < k = omega (arith, ltb-true n k e) in e ∙ sym (lt-ltb (min (min l m) n) k g)
+        go false e = let g : k ≤ min (min l m) n = omega (arith, ltb-false n k e) in e ∙ sym (le-ltb (min (min l m) n) k g)
 
-module _ {index : Index} {lent : Lengths} {marks : List ℕ} (query k beam slots dists scratch : ℕ) {dim r : ℕ} (e : dim ≡ index .dim)
-    (d : Decided index lent marks (not (eqb query dim)) [] r) where
+module _ {index : Index} {lent : Lengths} {looked : Labels} (query k beam slots dists numbers scratch : ℕ) {dim r : ℕ} (e : dim ≡ index .dim)
+    (d : Decided index lent looked (not (eqb query dim)) [] r) where
   abbrev Turns : ℕ → Type 0
-  Turns n = Decided index lent marks (not (eqb query (index .dim))) (search-tests (index .capacity) k beam slots dists scratch) n
+  Turns n = Decided index lent looked (not (eqb query (index .dim))) (search-tests (index .capacity) k beam slots dists numbers scratch) n
 
-  right : Decided index lent marks (not (eqb query (index .dim))) [] r
-  right = subst (λ x. Decided index lent marks (not (eqb query x)) [] r) e d
+  right : Decided index lent looked (not (eqb query (index .dim))) [] r
+  right = subst (λ x. Decided index lent looked (not (eqb query x)) [] r) e d
 
   pub turns-before : (r ≡ 0 → ⊥) → Turns r
   turns-before n = decided-before right _ n
 
-  module _ {q : Bool} (z : r ≡ 0) (o : q ≡ (ltb (limits .beam) beam || ltb (min slots dists) k)) where
+  module _ {q : Bool} (z : r ≡ 0) (o : q ≡ (ltb (limits .beam) beam || ltb (min (min slots dists) numbers) k)) where
     pub turns-over : q ≡ true → Turns 7
     turns-over t = decided-after right _ 7 z (rw (sym o ∙ t))
 
@@ -118,19 +129,20 @@ module _ {w : List ℕ} {n : ℕ} {slots : List ℕ} {dists : List Float} {slots
 
 -- ---- a search
 
-module _ (index : Index) (s : Slices) (a : Search) (slots : List ℕ) (dists : List Float) (scratch : List ℕ) {r : ℕ}
-    (d : Decided index (lengths-of s) (s .marks) (not (eqb (length (a .query)) (index .dim))) (search-tests (index .capacity) (a .k) (a .beam) (length slots) (length dists) (length scratch)) r) where
+module _ (index : Index) (s : Slices) (a : Search) (slots : List ℕ) (dists : List Float) (numbers scratch : List ℕ) {r : ℕ}
+    (d : Decided index (lengths-of s) (labels-of s) (not (eqb (length (a .query)) (index .dim))) (search-tests (index .capacity) (a .k) (a .beam) (length slots) (length dists) (length numbers) (length scratch)) r) where
   abbrev call : Call
-  call = record { lent = lent-of s (search-outputs slots dists) scratch; operation = search a }
+  call = record { lent = lent-of s (search-outputs slots dists numbers) scratch; operation = search a }
 
-  numbered : All Numbered (search-tests (index .capacity) (a .k) (a .beam) (length slots) (length dists) (length scratch))
+  numbered : All Numbered (search-tests (index .capacity) (a .k) (a .beam) (length slots) (length dists) (length numbers) (length scratch))
   numbered = (omega arith, (omega arith, tt))
 
-  pub searches-back : (r ≡ 0 → ⊥) → Searches index s a (search-outputs slots dists) scratch (search-outputs slots dists) scratch (Refused r)
+  pub searches-back : (r ≡ 0 → ⊥) → Searches index s a (search-outputs slots dists numbers) scratch (search-outputs slots dists numbers) scratch (Refused r)
   unfolding tests refused-as found-as written state-of stored store-ops store-view shown room-of call-of slices-of
   searches-back n =
       record {
         nearest = [];
+        numbers = [];
         counts = λ m e. absurd (let z : _≡_ {A = ℕ} 0 1 = cc in omega arith);
         meets = record { does = sym (step-back (state-of index s) call r (turned-back index s numbered d n)); writes = refl; keeps = λ m e. refl };
       }
@@ -140,7 +152,7 @@ module _ (index : Index) (s : Slices) (a : Search) (slots : List ℕ) (dists : L
     able = passed index s numbered d z
 
     abbrev over : Bool
-    over = ltb (limits .beam) (a .beam) || ltb (min (length slots) (length dists)) (a .k)
+    over = ltb (limits .beam) (a .beam) || ltb (min (min (length slots) (length dists)) (length numbers)) (a .k)
 
     abbrev small : Bool
     small = ltb (length scratch) (size-answer (index .capacity))
@@ -153,8 +165,8 @@ module _ (index : Index) (s : Slices) (a : Search) (slots : List ℕ) (dists : L
     unfolding limits
     beam-most = ltb-false 1024 (a .beam) (or-neither (ltb 1024 (a .beam)) _ (own .0) .0)
 
-    pub room : a .k ≤ min (length slots) (length dists)
-    room = ltb-false (min (length slots) (length dists)) (a .k) (or-neither (ltb (limits .beam) (a .beam)) _ (own .0) .1)
+    pub room : a .k ≤ min (min (length slots) (length dists)) (length numbers)
+    room = ltb-false (min (min (length slots) (length dists)) (length numbers)) (a .k) (or-neither (ltb (limits .beam) (a .beam)) _ (own .0) .1)
 
     words : marks-at + length (s .marks) ≤ length scratch
     unfolding size-answer
@@ -201,6 +213,10 @@ module _ (index : Index) (s : Slices) (a : Search) (slots : List ℕ) (dists : L
             dists-long = omega (arith, e, room);
           }
 
+      -- room for their numbers, beside slots as many as before
+      pub search-copies : {m : ℕ} → m ≡ length slots → (n ≤ m) × (n ≤ length numbers)
+      search-copies l = (omega (arith, e, room), omega (arith, e, room))
+
       nearest-found : cands scratch′ 0 n ≡ take (a .k) (search-pool (store-view (state-of index s .graph)) (a .query) (a .beam))
       unfolding state-of
       nearest-found = sym first ∙ ap (take (a .k)) (f .list (state-of index s .graph) refl (sym (passed-marks able)) refl)
@@ -209,16 +225,31 @@ module _ (index : Index) (s : Slices) (a : Search) (slots : List ℕ) (dists : L
       unfolding refusal tests state-of stored store-ops store-view shown room-of
       not-refused m h = let g = sym (let-through index s numbered d z) ∙ h in let x : _≡_ {A = ℕ} 0 1 = cc in omega arith
 
-      pub searches-on : {slots′ : List ℕ} {dists′ : List Float} → Shown scratch′ n slots dists slots′ dists′
-          → Searches index s a (search-outputs slots dists) scratch (search-outputs slots′ dists′) scratch′ (Nearest n)
-      unfolding tests perform found-as written state-of stored store-ops store-view shown room-of call-of slices-of run-refusal
-      searches-on h =
-          record {
-            nearest = cands scratch′ 0 n;
-            counts = λ m h. let g : n ≡ m = cc in sym g ∙ sym (cands-length scratch′ 0 n);
-            meets = record {
-              does = ap (λ cs. (state-of index s, found cs)) nearest-found ∙ sym (step-on (state-of index s) call (let-through index s numbered d z));
-              writes = λ i. search-outputs (h .slots-written i) (h .dists-written i);
-              keeps = λ m g. absurd (not-refused m g);
-            };
-          }
+      module _ {slots′ : List ℕ} {dists′ : List Float} {numbers′ : List ℕ} (h : Shown scratch′ n slots dists slots′ dists′)
+          (g : numbers′ ≡ put-front (map (number-of (s .numbers)) (take n slots′)) numbers) where
+        -- the numbers found
+        abbrev figures : List ℕ
+        figures = map (number-of (s .numbers)) (ids (cands scratch′ 0 n))
+
+        -- the slots written are those whose numbers are copied
+        shown-first : take n slots′ ≡ ids (cands scratch′ 0 n)
+        shown-first =
+            let l = ids (cands scratch′ 0 n) in
+            ap (take n) (h .slots-written) ∙ take-at l (drop (length l) slots) n (length-map (cands scratch′ 0 n) (λ c. c .id) ∙ cands-length scratch′ 0 n)
+
+        figures-written : numbers′ ≡ put-front figures numbers
+        figures-written = g ∙ ap (λ l. put-front (map (number-of (s .numbers)) l) numbers) shown-first
+
+        pub searches-on : Searches index s a (search-outputs slots dists numbers) scratch (search-outputs slots′ dists′ numbers′) scratch′ (Nearest n)
+        unfolding tests perform found-as written state-of stored store-ops store-view shown room-of call-of slices-of run-refusal
+        searches-on =
+            record {
+              nearest = cands scratch′ 0 n;
+              numbers = figures;
+              counts = λ m o. let q : n ≡ m = cc in sym q ∙ sym (cands-length scratch′ 0 n);
+              meets = record {
+                does = ap (λ cs. (state-of index s, found cs (map (number-of (s .numbers)) (ids cs)))) nearest-found ∙ sym (step-on (state-of index s) call (let-through index s numbered d z));
+                writes = λ i. search-outputs (h .slots-written i) (h .dists-written i) (figures-written i);
+                keeps = λ m o. absurd (not-refused m o);
+              };
+            }

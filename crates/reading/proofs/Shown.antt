@@ -14,9 +14,10 @@ use Rattle.slots.specs.contracts.Rows.{RowShape, ref-at, live-from, LiveVector}
 use Rattle.slots.specs.declared.rows.Ref.{Ref}
 use Rattle.slots.specs.declared.rows.Ref.the-variants.{At, Dead}
 use Rattle.slots.proofs.Places.{live-from-whole, live-from-end, live-from-at, live-from-dead}
+use Rattle.numbers.specs.Numbers.{number-of}
 use Rattle.index.specs.declared.Index.{Index}
 use Rattle.reading.specs.declared.Reading.{Reading}
-use Rattle.reading.specs.declared.Reading.the-variants.{Dim, Capacity, Degree, Alpha, Entry, Live, Mark, Version, Target}
+use Rattle.reading.specs.declared.Reading.the-variants.{Dim, Capacity, Degree, Alpha, Entry, Live, Mark, Version, Number as Figure, Target}
 use Rattle.reading.specs.declared.Value.{Value}
 use Rattle.reading.specs.declared.Value.the-variants.{Refused, Number, Alpha as Factor, Version as Stamp}
 use Rattle.slots.specs.Sizes.{Slices, lengths-of}
@@ -28,7 +29,7 @@ use Rattle.calls.specs.Step.{reading, perform, step}
 use Rattle.calls.specs.Runs.{lent-of, slices-of, call-of, Meets}
 use Rattle.index.specs.Index.{state-of}
 use Rattle.index.specs.Run as Run
-use Rattle.index.specs.contracts.Deciding.{Decided}
+use Rattle.index.specs.contracts.Deciding.{labels-of, Decided}
 use Rattle.reading.specs.contracts.Answering.{Answers}
 use Rattle.reading.specs.Read.{reading-of, answer-of, Reads, Reads-vector, Gives-vector}
 use Rattle.index.proofs.Decide.{turned-back, let-through, step-back, step-on}
@@ -91,44 +92,48 @@ no-row {degree} {targets} {edges} {versions} {marks} s place f h dim vectors =
 
 -- ---- one number
 
-module _ {index : Index} {targets edges versions marks : List ℕ} {q : Reading} where
-  pub answers-dim : q ≡ Dim → Answers index targets edges versions marks q (Number (index .dim))
+module _ {index : Index} {targets edges versions marks numbers : List ℕ} {q : Reading} where
+  pub answers-dim : q ≡ Dim → Answers index targets edges versions marks numbers q (Number (index .dim))
   unfolding reading-of answer-of reading stored store-ops store-view state-of
-  answers-dim e = record { does = λ vectors pool. rw e }
+  answers-dim e = record { does = λ vectors pool summary. rw e }
 
-  pub answers-capacity : q ≡ Capacity → Answers index targets edges versions marks q (Number (index .capacity))
+  pub answers-capacity : q ≡ Capacity → Answers index targets edges versions marks numbers q (Number (index .capacity))
   unfolding reading-of answer-of reading stored store-ops store-view state-of
-  answers-capacity e = record { does = λ vectors pool. rw e }
+  answers-capacity e = record { does = λ vectors pool summary. rw e }
 
-  pub answers-degree : q ≡ Degree → Answers index targets edges versions marks q (Number (index .degree))
+  pub answers-degree : q ≡ Degree → Answers index targets edges versions marks numbers q (Number (index .degree))
   unfolding reading-of answer-of reading stored store-ops store-view state-of
-  answers-degree e = record { does = λ vectors pool. rw e }
+  answers-degree e = record { does = λ vectors pool summary. rw e }
 
-  pub answers-alpha : q ≡ Alpha → Answers index targets edges versions marks q (Factor (index .alpha))
+  pub answers-alpha : q ≡ Alpha → Answers index targets edges versions marks numbers q (Factor (index .alpha))
   unfolding reading-of answer-of reading stored store-ops store-view state-of
-  answers-alpha e = record { does = λ vectors pool. rw e }
+  answers-alpha e = record { does = λ vectors pool summary. rw e }
 
-  pub answers-entry : q ≡ Entry → Answers index targets edges versions marks q (Number (index .entry))
+  pub answers-entry : q ≡ Entry → Answers index targets edges versions marks numbers q (Number (index .entry))
   unfolding reading-of answer-of reading stored store-ops store-view state-of
-  answers-entry e = record { does = λ vectors pool. rw e }
+  answers-entry e = record { does = λ vectors pool summary. rw e }
 
-  pub answers-live : q ≡ Live → Answers index targets edges versions marks q (Number (index .live))
+  pub answers-live : q ≡ Live → Answers index targets edges versions marks numbers q (Number (index .live))
   unfolding reading-of answer-of reading stored store-ops store-view state-of
-  answers-live e = record { does = λ vectors pool. rw e }
+  answers-live e = record { does = λ vectors pool summary. rw e }
 
-  pub answers-mark : {s r : ℕ} → q ≡ Mark s → r ≡ cond (is-valid marks s) 1 0 → Answers index targets edges versions marks q (Number r)
+  pub answers-mark : {s r : ℕ} → q ≡ Mark s → r ≡ cond (is-valid marks s) 1 0 → Answers index targets edges versions marks numbers q (Number r)
   unfolding reading-of answer-of reading stored store-ops store-view state-of
-  answers-mark e h = record { does = λ vectors pool. rw e (ap number h) }
+  answers-mark e h = record { does = λ vectors pool summary. rw e (ap number h) }
 
-  pub answers-version : {s r : ℕ} → q ≡ Version s → r ≡ getD versions s 0 → Answers index targets edges versions marks q (Stamp r)
+  pub answers-version : {s r : ℕ} → q ≡ Version s → r ≡ getD versions s 0 → Answers index targets edges versions marks numbers q (Stamp r)
   unfolding reading-of answer-of reading stored store-ops store-view state-of
-  answers-version e h = record { does = λ vectors pool. rw e (ap version h) }
+  answers-version e h = record { does = λ vectors pool summary. rw e (ap version h) }
+
+  pub answers-number : {s r : ℕ} → q ≡ Figure s → r ≡ number-of numbers s → Answers index targets edges versions marks numbers q (Number r)
+  unfolding reading-of answer-of reading stored store-ops store-view state-of
+  answers-number e h = record { does = λ vectors pool summary. rw e (ap number h) }
 
   pub answers-target : {s place r : ℕ} → q ≡ Target s place
       → ((dim : ℕ) (vectors : List ℕ) → r ≡ getD (filter (is-valid marks) (refs-of (arrays dim (index .degree) vectors targets edges versions marks) s)) place blank)
-      → Answers index targets edges versions marks q (Number r)
+      → Answers index targets edges versions marks numbers q (Number r)
   unfolding reading-of answer-of reading stored store-ops store-view state-of
-  answers-target e h = record { does = λ vectors pool. rw e (ap number (h (index .dim) vectors)) }
+  answers-target e h = record { does = λ vectors pool summary. rw e (ap number (h (index .dim) vectors)) }
 
 -- ---- a reading, turned back or not
 
@@ -140,7 +145,7 @@ only-answered (Number n) = refl
 only-answered (Factor a) = refl
 only-answered (Stamp n) = refl
 
-module _ (index : Index) (s : Slices) {r : ℕ} (d : Decided index (lengths-of s) (s .marks) false [] r) where
+module _ (index : Index) (s : Slices) {r : ℕ} (d : Decided index (lengths-of s) (labels-of s) false [] r) where
   -- the call on these slices
   abbrev call : Operation → Call
   call o = record { lent = lent-of s no-outputs []; operation = o }
@@ -150,12 +155,12 @@ module _ (index : Index) (s : Slices) {r : ℕ} (d : Decided index (lengths-of s
   reads-back {q} n =
       record { meets = record { does = sym (step-back (state-of index s) (call (read (reading-of q))) r (turned-back index s tt d n)); writes = refl; keeps = λ k e. refl } }
 
-  pub reads-on : {q : Reading} {v : Value} → r ≡ 0 → Answers index (s .targets) (s .edges) (s .versions) (s .marks) q v → Reads index s q v
+  pub reads-on : {q : Reading} {v : Value} → r ≡ 0 → Answers index (s .targets) (s .edges) (s .versions) (s .marks) (s .numbers) q v → Reads index s q v
   unfolding tests perform call-of slices-of state-of
   reads-on {q} {v} z a =
       record {
         meets = record {
-          does = ap (λ a. (state-of index s, a)) (a .does (s .vectors) (s .pool)) ∙ sym (step-on (state-of index s) (call (read (reading-of q))) (let-through index s tt d z));
+          does = ap (λ a. (state-of index s, a)) (a .does (s .vectors) (s .pool) (s .summary)) ∙ sym (step-on (state-of index s) (call (read (reading-of q))) (let-through index s tt d z));
           writes = only-answered v;
           keeps = λ k e. refl;
         };

@@ -7,10 +7,10 @@ use Rattle.vectors.specs.Vector.{VectorAt}
 use Rattle.slots.specs.Sizes.{Slices}
 use Rattle.index.specs.declared.Index.{Index}
 use Rattle.reading.specs.declared.Reading.{Reading}
-use Rattle.reading.specs.declared.Reading.the-variants.{Dim, Capacity, Degree, Alpha, Entry, Live, Mark, Version, Target}
+use Rattle.reading.specs.declared.Reading.the-variants.{Dim, Capacity, Degree, Alpha, Entry, Live, Mark, Version, Number as Figure, Target}
 use Rattle.reading.specs.declared.Value.{Value}
 use Rattle.reading.specs.declared.Value.the-variants.{Refused, Number, Alpha as Factor, Version as Stamp}
-use Rattle.calls.specs.Calls.{read-dim, read-capacity, read-degree, read-alpha, read-entry, read-live, read-mark, read-version, read-target, read, read-vector, Answer, refused, number, alpha, version, vector}
+use Rattle.calls.specs.Calls.{read-dim, read-capacity, read-degree, read-alpha, read-entry, read-live, read-mark, read-version, read-number, read-target, read, read-vector, Answer, refused, number, alpha, version, vector}
 use Rattle.calls.specs.Calls as Calls
 use Rattle.calls.specs.Step.{reading}
 use Rattle.calls.specs.Runs.{Run, Meets}
@@ -25,6 +25,7 @@ reading-of Entry = read-entry
 reading-of Live = read-live
 reading-of (Mark s) = read-mark s
 reading-of (Version s) = read-version s
+reading-of (Figure s) = read-number s
 reading-of (Target s place) = read-target s place
 
 unfoldable pub answer-of : Value → Answer

@@ -19,16 +19,17 @@ use Rattle.index.specs.Run.{looking}
 abbrev pub searching : List ℕ → ℕ → ℕ → Search
 searching query k beam = record { query = query; k = k; beam = beam }
 
--- the two lists that a search is lent
-abbrev pub search-outputs : List ℕ → List Float → Outputs
-search-outputs slots dists = record { slots = slots; dists = dists; stats = []; checked = []; lost = [] }
+-- the three lists that a search is lent
+abbrev pub search-outputs : List ℕ → List Float → List ℕ → Outputs
+search-outputs slots dists numbers = record { slots = slots; dists = dists; numbers = numbers; stats = []; checked = []; lost = [] }
 
-unfoldable pub found-as : Found → List Candidate → Answer
-found-as (Refused n) cs = refused n
-found-as (Nearest n) cs = found cs
+unfoldable pub found-as : Found → List Candidate → List ℕ → Answer
+found-as (Refused n) cs ns = refused n
+found-as (Nearest n) cs ns = found cs ns
 
 -- the outputs and the scratch as they are left have a prime; the code answers only how many are found
 pub record Searches (index : Index) (s : Slices) (a : Search) (outputs : Outputs) (scratch : List ℕ) (outputs′ : Outputs) (scratch′ : List ℕ) (r : Found) : Type 0 where
   pub nearest : List Candidate
+  pub numbers : List ℕ
   pub counts : (n : ℕ) → r ≡ Nearest n → n ≡ length nearest
-  pub meets : Meets (looking index s (search a) outputs scratch outputs′ scratch′ (found-as r nearest))
+  pub meets : Meets (looking index s (search a) outputs scratch outputs′ scratch′ (found-as r nearest numbers))

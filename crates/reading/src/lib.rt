@@ -16,6 +16,8 @@ pub enum Reading {
     Live,
     Mark(u32),
     Version(u32),
+    // The figure number of a slot.
+    Number(u32),
     // A slot, and a place among the live targets of its row.
     Target(u32, u32),
 }

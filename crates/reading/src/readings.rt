@@ -4,6 +4,7 @@ use super::Value;
 use index::Index;
 use index::Lengths;
 use index::refusals::index_refusal;
+use numbers::number_at;
 use slots::marks::is_valid;
 use slots::marks::live_vector;
 use slots::marks::node_version;
@@ -70,10 +71,11 @@ fn answer(
     edges: &[u16],
     versions: &[u16],
     marks: &[u8],
+    numbers: &[u32],
     reading: Reading,
 ) -> Value
     requires { ⌜ RowShape (index .degree) (now targets) (now edges) (now versions) (now marks) ⌝ }
-    ensures { λ r. ⌜ Answers index (now (targets .entry)) (now (edges .entry)) (now (versions .entry)) (now (marks .entry)) reading r ⌝ }
+    ensures { λ r. ⌜ Answers index (now (targets .entry)) (now (edges .entry)) (now (versions .entry)) (now (marks .entry)) (now (numbers .entry)) reading r ⌝ }
 {
     match reading {
         Reading::Dim => Value::Number(index.dim),
@@ -84,6 +86,7 @@ fn answer(
         Reading::Live => Value::Number(index.live),
         Reading::Mark(s) => Value::Number(mark(marks, s)),
         Reading::Version(s) => Value::Version(node_version(versions, s as usize)),
+        Reading::Number(s) => Value::Number(number_at(numbers, s as usize)),
         Reading::Target(s, place) => {
             let degree = index.degree as usize;
             Value::Number(target(degree, targets, edges, versions, marks, s as usize, place))
@@ -100,9 +103,11 @@ pub fn read(
     versions: &[u16],
     marks: &[u8],
     pool: &[u32],
+    numbers: &[u32],
+    summary: &[u32],
     reading: Reading,
 ) -> Value
-    ensures { λ r. ⌜ Reads index (slices (now (vectors .entry)) (now (targets .entry)) (now (edges .entry)) (now (versions .entry)) (now (marks .entry)) (now (pool .entry))) reading r ⌝ }
+    ensures { λ r. ⌜ Reads index (slices (now (vectors .entry)) (now (targets .entry)) (now (edges .entry)) (now (versions .entry)) (now (marks .entry)) (now (pool .entry)) (now (numbers .entry)) (now (summary .entry))) reading r ⌝ }
 {
     let lent = Lengths {
         vectors: vectors.len(),
@@ -111,12 +116,14 @@ pub fn read(
         versions: versions.len(),
         marks: marks.len(),
         pool: pool.len(),
+        numbers: numbers.len(),
+        summary: summary.len(),
     };
-    let r = index_refusal(index, lent, marks, false);
+    let r = index_refusal(index, lent, marks, numbers, summary, false);
     if r != 0 {
         return Value::Refused(r);
     }
-    answer(index, targets, edges, versions, marks, reading)
+    answer(index, targets, edges, versions, marks, numbers, reading)
 }
 
 // The vector of a slot, as that part of `vectors`; the empty part where the slot is dead or outside, and where the call is turned back.
@@ -128,9 +135,11 @@ pub fn read_vector<'a>(
     versions: &[u16],
     marks: &[u8],
     pool: &[u32],
+    numbers: &[u32],
+    summary: &[u32],
     slot: u32,
 ) -> &'a [u8]
-    ensures { λ r. ⌜ Gives-vector index (slices (now (vectors .entry)) (now (targets .entry)) (now (edges .entry)) (now (versions .entry)) (now (marks .entry)) (now (pool .entry))) slot (vectors .entry) r ⌝ }
+    ensures { λ r. ⌜ Gives-vector index (slices (now (vectors .entry)) (now (targets .entry)) (now (edges .entry)) (now (versions .entry)) (now (marks .entry)) (now (pool .entry)) (now (numbers .entry)) (now (summary .entry))) slot (vectors .entry) r ⌝ }
 {
     let lent = Lengths {
         vectors: vectors.len(),
@@ -139,8 +148,10 @@ pub fn read_vector<'a>(
         versions: versions.len(),
         marks: marks.len(),
         pool: pool.len(),
+        numbers: numbers.len(),
+        summary: summary.len(),
     };
-    let r = index_refusal(index, lent, marks, false);
+    let r = index_refusal(index, lent, marks, numbers, summary, false);
     if r != 0 {
         return &vectors[0..0];
     }

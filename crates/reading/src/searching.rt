@@ -7,6 +7,7 @@ use index::Index;
 use index::Lengths;
 use index::refusals::index_refusal;
 use index::refusals::scratch_short;
+use numbers::copy_numbers;
 use slots::limits;
 use slots::marks::wide;
 ghost use mathlib.Core.Bool.{not, _||_};
@@ -18,13 +19,13 @@ ghost use Rattle.slots.specs.Sizes.{limits, slices};
 ghost use Rattle.slots.specs.Store.{arrays};
 ghost use Rattle.walk.specs.contracts.Scratch.{Ready, Pool};
 ghost use Rattle.index.specs.Index.{lengths-in};
-ghost use Rattle.index.specs.contracts.Deciding.{Decided};
+ghost use Rattle.index.specs.contracts.Deciding.{labels, Decided};
 ghost use Rattle.reading.specs.Search.{searching, search-outputs, Searches};
 ghost use Rattle.reading.specs.contracts.Finding.{search-tests, Fits, Shown};
 
 // Row 7: the beam is over its limit, or more are asked for than an output holds.
-fn search_over(k: u32, beam: u32, slots: usize, dists: usize) -> bool
-    ensures { λ r. ⌜ r ≡ (ltb (limits .beam) beam || ltb (min slots dists) k) ⌝ }
+fn search_over(k: u32, beam: u32, slots: usize, dists: usize, numbers: usize) -> bool
+    ensures { λ r. ⌜ r ≡ (ltb (limits .beam) beam || ltb (min (min slots dists) numbers) k) ⌝ }
 {
     if limits::BEAM < beam {
         return true;
@@ -32,7 +33,10 @@ fn search_over(k: u32, beam: u32, slots: usize, dists: usize) -> bool
     if slots < wide(k) {
         return true;
     }
-    dists < wide(k)
+    if dists < wide(k) {
+        return true;
+    }
+    numbers < wide(k)
 }
 
 // The first of rows 1, 2, 3, 6, 7 and 8 that turns a search back, else 0.
@@ -40,22 +44,25 @@ fn search_refusal(
     index: Index,
     lent: Lengths,
     marks: &[u8],
+    numbers: &[u32],
+    summary: &[u32],
     query: usize,
     k: u32,
     beam: u32,
     slots: usize,
     dists: usize,
+    found: usize,
     scratch: usize,
 ) -> u32
-    requires { ⌜ lent .marks ≡ length (now marks) ⌝ }
-    ensures { λ r. ⌜ Decided index (lengths-in lent) (now (marks .entry)) (not (eqb query (index .dim))) (search-tests (index .capacity) k beam slots dists scratch) r ⌝ }
+    requires { ⌜ (lent .marks ≡ length (now marks)) × (lent .numbers ≡ length (now numbers)) × (lent .summary ≡ length (now summary)) ⌝ }
+    ensures { λ r. ⌜ Decided index (lengths-in lent) (labels (now (marks .entry)) (now (numbers .entry)) (now (summary .entry))) (not (eqb query (index .dim))) (search-tests (index .capacity) k beam slots dists found scratch) r ⌝ }
 {
     let wrong = query != wide(index.dim);
-    let r = index_refusal(index, lent, marks, wrong);
+    let r = index_refusal(index, lent, marks, numbers, summary, wrong);
     if r != 0 {
         return r;
     }
-    if search_over(k, beam, slots, dists) {
+    if search_over(k, beam, slots, dists, found) {
         return 7;
     }
     if scratch_short(index.capacity, scratch) {
@@ -119,7 +126,7 @@ fn walk_from_entry(
     )
 }
 
-// The `k` nearest that the walk from the entry finds: their slots and distances, nearest first.
+// The `k` nearest that the walk from the entry finds: their slots, distances and figure numbers, nearest first.
 pub fn search(
     index: Index,
     vectors: &[u8],
@@ -128,15 +135,18 @@ pub fn search(
     versions: &[u16],
     marks: &[u8],
     pool: &[u32],
+    numbers: &[u32],
+    summary: &[u32],
     query: &[u8],
     k: u32,
     beam: u32,
     slots: &mut [u32],
     dists: &mut [f32],
+    found_numbers: &mut [u32],
     scratch: &mut [u32],
 ) -> Found
-    ensures { λ r. ⌜ Searches index (slices (now (vectors .entry)) (now (targets .entry)) (now (edges .entry)) (now (versions .entry)) (now (marks .entry)) (now (pool .entry))) (searching (now (query .entry)) k beam)
-        (search-outputs (now (slots .entry)) (now (dists .entry))) (now (scratch .entry)) (search-outputs (now (slots .exit)) (now (dists .exit))) (now (scratch .exit)) r ⌝ }
+    ensures { λ r. ⌜ Searches index (slices (now (vectors .entry)) (now (targets .entry)) (now (edges .entry)) (now (versions .entry)) (now (marks .entry)) (now (pool .entry)) (now (numbers .entry)) (now (summary .entry))) (searching (now (query .entry)) k beam)
+        (search-outputs (now (slots .entry)) (now (dists .entry)) (now («found_numbers» .entry))) (now (scratch .entry)) (search-outputs (now (slots .exit)) (now (dists .exit)) (now («found_numbers» .exit))) (now (scratch .exit)) r ⌝ }
 {
     let lent = Lengths {
         vectors: vectors.len(),
@@ -145,16 +155,21 @@ pub fn search(
         versions: versions.len(),
         marks: marks.len(),
         pool: pool.len(),
+        numbers: numbers.len(),
+        summary: summary.len(),
     };
     let r = search_refusal(
         index,
         lent,
         marks,
+        numbers,
+        summary,
         query.len(),
         k,
         beam,
         slots.len(),
         dists.len(),
+        found_numbers.len(),
         scratch.len(),
     );
     if r != 0 {
@@ -173,5 +188,6 @@ pub fn search(
     );
     let n = lesser(found, k);
     show(scratch, n, slots, dists);
+    copy_numbers(numbers, slots, n, found_numbers);
     Found::Found(n as u32)
 }

@@ -14,6 +14,7 @@ use Rattle.lists.proofs.Filtered.{count-without}
 use Rattle.lists.proofs.Firsts.{filter-same}
 use Rattle.lists.proofs.Ranges.{times-once}
 use Rattle.lists.proofs.Unique.{Unique, or-false-l, or-false-r, eqb-flip, unique-distinct, all-distinct}
+use Rattle.lists.proofs.Bools.{and-both}
 use Rattle.slots.specs.Sizes.{Sizes}
 use Rattle.slots.specs.View.{live-slots, emptied}
 use Rattle.slots.specs.Ops.{Ops, Row, write-rows}
@@ -82,13 +83,19 @@ module _ {B : Type 0} (O : Ops B) (Fit : B → Type 0) (k : Marking O Fit) where
     fits : Fit b′
     sizes : O .view b′ .sizes ≡ O .view b .sizes
     count : length (live-of b) ≡ length (live-of b′) + n
+    fewer : (t : ℕ) → O .view b′ .live t ≡ true → O .view b .live t ≡ true
 
   kills-count : (ss : List ℕ) (b : B) → Fit b → Unique ss → All (λ t. O .view b .live t ≡ true) ss → Killed b (length ss) (foldl (O .kill) b ss)
-  kills-count [] b h u a = record { fits = h; sizes = refl; count = omega arith }
+  kills-count [] b h u a = record { fits = h; sizes = refl; count = omega arith; fewer = λ t e. e }
   kills-count (s ∷ ss) b h u a =
       let m = k .kills b h s in
       let r = kills-count ss (O .kill b s) (m .fits) (u .1) (still-live b h s (k .inside b h s (a .0)) ss (u .0) (a .1)) in
-      record { fits = r .fits; sizes = r .sizes ∙ m .sizes; count = omega (arith, kill-count b h s (a .0), r .count) }
+      record {
+        fits = r .fits;
+        sizes = r .sizes ∙ m .sizes;
+        count = omega (arith, kill-count b h s (a .0), r .count);
+        fewer = λ t e. and-both (O .view b .live t) (not (eqb t s)) (sym (killed b h s (k .inside b h s (a .0)) t) ∙ r .fewer t e) .0;
+      }
 
   -- ---- the delete
 
@@ -104,7 +111,12 @@ module _ {B : Type 0} (O : Ops B) (Fit : B → Type 0) (k : Marking O Fit) where
       let m₂ = k .enters b₁ (r .fits) (new-entry (O .view b₁) ss) in
       let m₃ = kept-then b₁ b₂ b₃ m₂ (rows-kept rows b₂ (m₂ .fits)) in
       let m₄ = kept-then b₁ b₃ b₄ m₃ (finishes-kept ss b₃ (m₃ .fits)) in
-      record { fits = m₄ .fits; sizes = m₄ .sizes ∙ r .sizes; count = r .count ∙ ap (λ (l : List ℕ). length l + length ss) (sym (same-live b₁ b₄ m₄)) }
+      record {
+        fits = m₄ .fits;
+        sizes = m₄ .sizes ∙ r .sizes;
+        count = r .count ∙ ap (λ (l : List ℕ). length l + length ss) (sym (same-live b₁ b₄ m₄));
+        fewer = λ t e. r .fewer t (sym (ap (λ (l : ℕ → Bool). l t) (m₄ .live)) ∙ e);
+      }
 
   module _ (b : B) (h : Fit b) (beam degree : ℕ) (ids : List ℕ) where
     batch-count : Killed b (length (emptied (O .view b) ids)) (delete-batch O beam degree b ids .0)
@@ -123,3 +135,7 @@ module _ {B : Type 0} (O : Ops B) (Fit : B → Type 0) (k : Marking O Fit) where
 
     pub live-after-delete : length (live-slots (O .view b)) ≡ length (live-slots (O .view (delete-batch O beam degree b ids .0))) + length (emptied (O .view b) ids)
     live-after-delete = batch-count .count
+
+    -- a delete revives no slot
+    pub none-revived : (s : ℕ) → O .view (delete-batch O beam degree b ids .0) .live s ≡ true → O .view b .live s ≡ true
+    none-revived = batch-count .fewer

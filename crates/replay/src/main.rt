@@ -1,7 +1,7 @@
-// Performs the calls of a stored list of histories, and compares each answer with the one that the Rust gave. compare/replay/README.md has the form of
-// the list. It prints the number of each line that differs, malformed ones and those that ask for more than its arrays hold included, and then how many
-// calls of each kind agreed, how many lines there were, and how many differed. The list has wrong answers of every kind, so that a comparison that does
-// not compare is seen.
+// Performs the calls of a stored list of histories, and compares each answer with the stored one. compare/replay/README.md has the form of the list and
+// says where its answers come from. It prints the number of each line that differs, malformed ones and those that ask for more than its arrays hold
+// included, and then how many calls of each kind agreed, how many lines there were, and how many differed. The list has wrong answers of every kind, so
+// that a comparison that does not compare is seen.
 use index::Guard;
 use index::Index;
 use lines::kinds::ASSESS;
@@ -27,7 +27,7 @@ ghost use lib.ListN.{length};
 
 // How many lines there were of each kind.
 struct Counts {
-    of: [u64; 20],
+    of: [u64; 21],
 }
 
 // Prints one count with its name.
@@ -74,7 +74,7 @@ fn nothing() -> Step {
         live: 0,
         guard: Guard::Off,
     };
-    let lent = Lent { of: [0; 11] };
+    let lent = Lent { of: [0; 15] };
     Step {
         index,
         lent,
@@ -89,15 +89,29 @@ fn prepare(
     step: Step,
     given: &mut [u8; 262144],
     rows: &mut [u32; 131072],
+    figures: &mut [u32; 2048],
     vectors: &mut [u8; 262144],
     targets: &mut [u32; 131072],
     edges: &mut [u16; 131072],
     versions: &mut [u16; 65536],
     marks: &mut [u8; 65536],
+    numbers: &mut [u32; 65536],
+    summary: &mut [u32; 65536],
 ) -> Step {
     let mut new = lines::prepare::set_or_lend(line, word, step);
-    new = lines::prepare::give(line, word, new, given, rows);
-    lines::prepare::store(line, word, new, vectors, targets, edges, versions, marks)
+    new = lines::prepare::give(line, word, new, given, rows, figures);
+    lines::prepare::store(
+        line,
+        word,
+        new,
+        vectors,
+        targets,
+        edges,
+        versions,
+        marks,
+        numbers,
+        summary,
+    )
 }
 
 // Performs a line that makes or changes an index.
@@ -107,12 +121,15 @@ fn change(
     step: Step,
     given: &[u8; 262144],
     rows: &[u32; 131072],
+    figures: &[u32; 2048],
     vectors: &mut [u8; 262144],
     targets: &mut [u32; 131072],
     edges: &mut [u16; 131072],
     versions: &mut [u16; 65536],
     marks: &mut [u8; 65536],
     pool: &mut [u32; 1024],
+    numbers: &mut [u32; 65536],
+    summary: &mut [u32; 65536],
     scratch: &mut [u32; 235520],
 ) -> Step {
     let mut new = changes::make(
@@ -121,24 +138,30 @@ fn change(
         step,
         given,
         rows,
+        figures,
         vectors,
         targets,
         edges,
         versions,
         marks,
         pool,
+        numbers,
+        summary,
     );
     new = changes::insert(
         line,
         word,
         new,
         given,
+        figures,
         vectors,
         targets,
         edges,
         versions,
         marks,
         pool,
+        numbers,
+        summary,
         scratch,
     );
     changes::delete(
@@ -152,6 +175,8 @@ fn change(
         versions,
         marks,
         pool,
+        numbers,
+        summary,
         scratch,
     )
 }
@@ -163,12 +188,15 @@ fn perform(
     step: Step,
     given: &mut [u8; 262144],
     rows: &mut [u32; 131072],
+    figures: &mut [u32; 2048],
     vectors: &mut [u8; 262144],
     targets: &mut [u32; 131072],
     edges: &mut [u16; 131072],
     versions: &mut [u16; 65536],
     marks: &mut [u8; 65536],
     pool: &mut [u32; 1024],
+    numbers: &mut [u32; 65536],
+    summary: &mut [u32; 65536],
     scratch: &mut [u32; 235520],
 ) -> Step {
     let mut new = prepare(
@@ -177,11 +205,14 @@ fn perform(
         step,
         given,
         rows,
+        figures,
         vectors,
         targets,
         edges,
         versions,
         marks,
+        numbers,
+        summary,
     );
     new = change(
         line,
@@ -189,12 +220,15 @@ fn perform(
         new,
         given,
         rows,
+        figures,
         vectors,
         targets,
         edges,
         versions,
         marks,
         pool,
+        numbers,
+        summary,
         scratch,
     );
     new = guards::perform(
@@ -208,6 +242,8 @@ fn perform(
         versions,
         marks,
         pool,
+        numbers,
+        summary,
         scratch,
     );
     looks::look(
@@ -220,6 +256,8 @@ fn perform(
         versions,
         marks,
         pool,
+        numbers,
+        summary,
         scratch,
     )
 }
@@ -230,17 +268,20 @@ fn replay(
     n: usize,
     given: &mut [u8; 262144],
     rows: &mut [u32; 131072],
+    figures: &mut [u32; 2048],
     vectors: &mut [u8; 262144],
     targets: &mut [u32; 131072],
     edges: &mut [u16; 131072],
     versions: &mut [u16; 65536],
     marks: &mut [u8; 65536],
     pool: &mut [u32; 1024],
+    numbers: &mut [u32; 65536],
+    summary: &mut [u32; 65536],
     scratch: &mut [u32; 235520],
 ) -> Counts
     requires { ⌜ n ≤ length (now list) ⌝ }
 {
-    let mut counts = Counts { of: [0; 20] };
+    let mut counts = Counts { of: [0; 21] };
     let mut step = nothing();
     let mut at: usize = 0;
     while at < n {
@@ -254,12 +295,15 @@ fn replay(
             step,
             given,
             rows,
+            figures,
             vectors,
             targets,
             edges,
             versions,
             marks,
             pool,
+            numbers,
+            summary,
             scratch,
         );
         counts = counted(counts, line, word.kind, step.good);
@@ -290,24 +334,30 @@ fn replay_list(list: &[u8], n: usize)
 {
     let mut given = [0u8; 262144];
     let mut rows = [0u32; 131072];
+    let mut figures = [0u32; 2048];
     let mut vectors = [0u8; 262144];
     let mut targets = [0u32; 131072];
     let mut edges = [0u16; 131072];
     let mut versions = [0u16; 65536];
     let mut marks = [0u8; 65536];
     let mut pool = [0u32; 1024];
+    let mut numbers = [0u32; 65536];
+    let mut summary = [0u32; 65536];
     let mut scratch = [0u32; 235520];
     report(replay(
         list,
         n,
         &mut given,
         &mut rows,
+        &mut figures,
         &mut vectors,
         &mut targets,
         &mut edges,
         &mut versions,
         &mut marks,
         &mut pool,
+        &mut numbers,
+        &mut summary,
         &mut scratch,
     ));
 }

@@ -1,10 +1,11 @@
-// Document 01's small shelf: it is made, 6 is inserted and slot 1 deleted; then it is printed, as read.
+// Document 01's small shelf: it is made with the numbers 30, 10 and 20, 6 is inserted with 41 and slot 1 deleted; then it is printed, as read.
 use index::Created;
 use index::Index;
 use reading::Reading;
 use reading::Value;
 use updating::Deleted;
 use updating::Inserted;
+use updating::Naming;
 
 const BLANK: u32 = 4294967295;
 
@@ -28,9 +29,22 @@ fn print_reading(
     versions: &[u16],
     marks: &[u8],
     pool: &[u32],
+    numbers: &[u32],
+    summary: &[u32],
     what: Reading,
 ) {
-    let value = reading::read(index, vectors, targets, edges, versions, marks, pool, what);
+    let value = reading::read(
+        index,
+        vectors,
+        targets,
+        edges,
+        versions,
+        marks,
+        pool,
+        numbers,
+        summary,
+        what,
+    );
     io::write_all(1, word);
     io::print_decimal(1, number(value) as u64);
 }
@@ -44,11 +58,24 @@ fn print_target(
     versions: &[u16],
     marks: &[u8],
     pool: &[u32],
+    numbers: &[u32],
+    summary: &[u32],
     slot: u32,
     place: u32,
 ) {
     let what = Reading::Target(slot, place);
-    let target = number(reading::read(index, vectors, targets, edges, versions, marks, pool, what));
+    let target = number(reading::read(
+        index,
+        vectors,
+        targets,
+        edges,
+        versions,
+        marks,
+        pool,
+        numbers,
+        summary,
+        what,
+    ));
     if target != BLANK {
         io::write_all(1, b" ");
         io::print_decimal(1, target as u64);
@@ -64,6 +91,8 @@ fn print_slot(
     versions: &[u16],
     marks: &[u8],
     pool: &[u32],
+    numbers: &[u32],
+    summary: &[u32],
     slot: u32,
 ) {
     io::print_decimal(1, slot as u64);
@@ -76,6 +105,8 @@ fn print_slot(
         versions,
         marks,
         pool,
+        numbers,
+        summary,
         Reading::Mark(slot),
     );
     print_reading(
@@ -87,6 +118,8 @@ fn print_slot(
         versions,
         marks,
         pool,
+        numbers,
+        summary,
         Reading::Version(slot),
     );
     print_target(
@@ -97,6 +130,8 @@ fn print_slot(
         versions,
         marks,
         pool,
+        numbers,
+        summary,
         slot,
         0,
     );
@@ -108,6 +143,8 @@ fn print_slot(
         versions,
         marks,
         pool,
+        numbers,
+        summary,
         slot,
         1,
     );
@@ -123,6 +160,8 @@ fn print_shelf(
     versions: &[u16],
     marks: &[u8],
     pool: &[u32],
+    numbers: &[u32],
+    summary: &[u32],
 ) {
     print_reading(
         b"entry ",
@@ -133,6 +172,8 @@ fn print_shelf(
         versions,
         marks,
         pool,
+        numbers,
+        summary,
         Reading::Entry,
     );
     print_reading(
@@ -144,13 +185,59 @@ fn print_shelf(
         versions,
         marks,
         pool,
+        numbers,
+        summary,
         Reading::Live,
     );
     io::write_all(1, b"\n");
-    print_slot(index, vectors, targets, edges, versions, marks, pool, 0);
-    print_slot(index, vectors, targets, edges, versions, marks, pool, 1);
-    print_slot(index, vectors, targets, edges, versions, marks, pool, 2);
-    print_slot(index, vectors, targets, edges, versions, marks, pool, 3);
+    print_slot(
+        index,
+        vectors,
+        targets,
+        edges,
+        versions,
+        marks,
+        pool,
+        numbers,
+        summary,
+        0,
+    );
+    print_slot(
+        index,
+        vectors,
+        targets,
+        edges,
+        versions,
+        marks,
+        pool,
+        numbers,
+        summary,
+        1,
+    );
+    print_slot(
+        index,
+        vectors,
+        targets,
+        edges,
+        versions,
+        marks,
+        pool,
+        numbers,
+        summary,
+        2,
+    );
+    print_slot(
+        index,
+        vectors,
+        targets,
+        edges,
+        versions,
+        marks,
+        pool,
+        numbers,
+        summary,
+        3,
+    );
 }
 
 // Inserts 6, deletes slot 1 and prints what is left.
@@ -162,10 +249,13 @@ fn change(
     versions: &mut [u16; 4],
     marks: &mut [u8; 4],
     pool: &[u32; 1024],
+    numbers: &mut [u32; 4],
+    summary: &mut [u32; 4],
 ) {
     let mut scratch = [0u32; 169988];
     let mut slots = [0u32; 1];
     let bytes = [6u8];
+    let given = [41u32];
     let ids = [1u32];
     let inserted = updating::insert(
         index,
@@ -175,7 +265,10 @@ fn change(
         versions,
         marks,
         pool,
+        numbers,
+        summary,
         &bytes,
+        &given,
         2,
         &mut slots,
         &mut scratch,
@@ -191,7 +284,10 @@ fn change(
         versions,
         marks,
         pool,
+        numbers,
+        summary,
         &ids,
+        Naming::Slots,
         2,
         1,
         1,
@@ -200,7 +296,17 @@ fn change(
     let Deleted::Done(left, _) = deleted else {
         return;
     };
-    print_shelf(left, vectors, targets, edges, versions, marks, pool);
+    print_shelf(
+        left,
+        vectors,
+        targets,
+        edges,
+        versions,
+        marks,
+        pool,
+        numbers,
+        summary,
+    );
 }
 
 fn main() {
@@ -210,8 +316,11 @@ fn main() {
     let mut versions = [0u16; 4];
     let mut marks = [0u8; 4];
     let mut pool = [0u32; 1024];
+    let mut numbers = [0u32; 4];
+    let mut summary = [0u32; 4];
     let bytes = [0u8, 3, 10];
     let rows = [1u32, BLANK, 0, 2, 1, BLANK];
+    let given = [30u32, 10, 20];
     let made = index::create(
         1,
         4,
@@ -221,12 +330,15 @@ fn main() {
         3,
         &bytes,
         &rows,
+        &given,
         &mut vectors,
         &mut targets,
         &mut edges,
         &mut versions,
         &mut marks,
         &mut pool,
+        &mut numbers,
+        &mut summary,
     );
     let Created::Done(shelf) = made else {
         return;
@@ -239,5 +351,7 @@ fn main() {
         &mut versions,
         &mut marks,
         &pool,
+        &mut numbers,
+        &mut summary,
     );
 }

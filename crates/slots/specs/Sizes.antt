@@ -1,4 +1,4 @@
--- Sizes of an index, their limits, its six slices and their lengths: document 01, rows 1, 2, 3 and 7 of "Turned-back calls". Assumes nothing.
+-- Sizes of an index, their limits, its eight slices and their lengths: document 01, rows 1, 2, 3 and 7 of "Turned-back calls". Assumes nothing.
 use Prim.Native.Nat.{ℕ, _*_}
 use mathlib.Core.Bool.{Bool, _&&_}
 use mathlib.Core.List.{List}
@@ -52,7 +52,8 @@ sizes-ok l z = within 1 (l .dim) (z .dim) && within 1 (l .capacity) (z .capacity
 unfoldable pub alpha-ok : Float → Bool
 alpha-ok alpha = le (f32 1) alpha && le alpha (f32 2)
 
--- what an index's six slices hold: dim bytes, degree targets and as many edge versions, a version and a mark for each slot; words of the landmark pool
+-- what an index's eight slices hold: dim bytes, degree targets and as many edge versions, a version and a mark for each slot; words of the landmark pool; a
+-- figure number for each slot, and the summary, a word for each slot (document 02, E1)
 pub record Slices : Type 0 where
   pub vectors : List ℕ
   pub targets : List ℕ
@@ -60,11 +61,13 @@ pub record Slices : Type 0 where
   pub versions : List ℕ
   pub marks : List ℕ
   pub pool : List ℕ
+  pub numbers : List ℕ
+  pub summary : List ℕ
 
 -- one by one
-abbrev pub slices : List ℕ → List ℕ → List ℕ → List ℕ → List ℕ → List ℕ → Slices
-slices vectors targets edges versions marks pool =
-    record { vectors = vectors; targets = targets; edges = edges; versions = versions; marks = marks; pool = pool }
+abbrev pub slices : List ℕ → List ℕ → List ℕ → List ℕ → List ℕ → List ℕ → List ℕ → List ℕ → Slices
+slices vectors targets edges versions marks pool numbers summary =
+    record { vectors = vectors; targets = targets; edges = edges; versions = versions; marks = marks; pool = pool; numbers = numbers; summary = summary }
 
 -- their lengths
 pub record Lengths : Type 0 where
@@ -74,6 +77,8 @@ pub record Lengths : Type 0 where
   pub versions : ℕ
   pub marks : ℕ
   pub pool : ℕ
+  pub numbers : ℕ
+  pub summary : ℕ
 
 abbrev pub lengths-of : Slices → Lengths
 lengths-of s =
@@ -84,6 +89,8 @@ lengths-of s =
       versions = length (s .versions);
       marks = length (s .marks);
       pool = length (s .pool);
+      numbers = length (s .numbers);
+      summary = length (s .summary);
     }
 
 -- the only lengths that pass
@@ -96,6 +103,8 @@ exact l z =
       versions = z .capacity;
       marks = z .capacity;
       pool = l .pool;
+      numbers = z .capacity;
+      summary = z .capacity;
     }
 
 unfoldable pub lengths-ok : Limits → Sizes → Lengths → Bool
@@ -103,3 +112,4 @@ lengths-ok l z n =
     let e = exact l z in
     eqb (n .vectors) (e .vectors) && eqb (n .targets) (e .targets) && eqb (n .edges) (e .edges)
     && eqb (n .versions) (e .versions) && eqb (n .marks) (e .marks) && eqb (n .pool) (e .pool)
+    && eqb (n .numbers) (e .numbers) && eqb (n .summary) (e .summary)

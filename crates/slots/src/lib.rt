@@ -3,7 +3,7 @@ pub mod limits;
 pub mod making;
 pub mod marks;
 mod ops;
-mod parts;
+pub mod parts;
 pub mod rows;
 pub mod scratch;
 

@@ -1,2 +1,3 @@
 pub mod Fills
 pub mod Empties
+pub mod Named

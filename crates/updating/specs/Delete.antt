@@ -10,19 +10,26 @@ use Rattle.deletion.specs.Batch.{stats-at, stats-of}
 use Rattle.index.specs.declared.Index.{Index}
 use Rattle.updating.specs.declared.Deleted.{Deleted}
 use Rattle.updating.specs.declared.Deleted.the-variants.{Refused, Done}
-use Rattle.calls.specs.Calls.{Delete, delete, Answer, refused, deleted}
+use Rattle.updating.specs.declared.Naming.{Naming}
+use Rattle.updating.specs.declared.Naming.the-variants.{Slots, Numbers}
+use Rattle.calls.specs.Calls as Calls
+use Rattle.calls.specs.Calls.{of-slots, of-numbers, Delete, delete, Answer, refused, deleted}
 use Rattle.calls.specs.Outputs.{Outputs, written}
 use Rattle.calls.specs.Runs.{Meets}
 use Rattle.index.specs.Run.{changing}
 
 -- ---- the run, and what `delete` promises
 
-abbrev pub deleting : List ℕ → ℕ → ℕ → Delete
-deleting ids repair-beam repair-degree = record { ids = ids; repair-beam = repair-beam; repair-degree = repair-degree }
+abbrev pub naming-of : Naming → Calls.Naming
+naming-of Slots = of-slots
+naming-of Numbers = of-numbers
+
+abbrev pub deleting : List ℕ → Naming → ℕ → ℕ → Delete
+deleting names naming repair-beam repair-degree = record { names = names; naming = naming-of naming; repair-beam = repair-beam; repair-degree = repair-degree }
 
 -- the list that a delete is lent
 abbrev pub stats-outputs : List Stats → Outputs
-stats-outputs stats = record { slots = []; dists = []; stats = stats; checked = []; lost = [] }
+stats-outputs stats = record { slots = []; dists = []; numbers = []; stats = stats; checked = []; lost = [] }
 
 unfoldable pub deleted-as : Deleted → List Stats → Answer
 deleted-as (Refused n) ts = refused n

@@ -14,12 +14,12 @@ use Rattle.index.specs.Run.{changing}
 
 -- ---- the run, and what `insert` promises
 
-abbrev pub inserting : List ℕ → ℕ → Insert
-inserting bytes beam = record { bytes = bytes; beam = beam }
+abbrev pub inserting : List ℕ → List ℕ → ℕ → Insert
+inserting bytes numbers beam = record { bytes = bytes; numbers = numbers; beam = beam }
 
 -- the list that an insert is lent
 abbrev pub insert-outputs : List ℕ → Outputs
-insert-outputs slots = record { slots = slots; dists = []; stats = []; checked = []; lost = [] }
+insert-outputs slots = record { slots = slots; dists = []; numbers = []; stats = []; checked = []; lost = [] }
 
 unfoldable pub inserted-as : Inserted → List ℕ → Answer
 inserted-as (Refused n) ss = refused n

@@ -27,9 +27,10 @@ use Rattle.calls.specs.Calls.{Delete, delete, Call, deleted, refused-as}
 use Rattle.calls.specs.Outputs.{room-of, written}
 use Rattle.calls.specs.Refusals.{Test, first-of, guard-fault, index-tests, tests}
 use Rattle.calls.specs.State.{State, stored, shown, with-graph}
-use Rattle.calls.specs.Step.{perform}
+use Rattle.calls.specs.Step.{named, deletion, perform}
 use Rattle.calls.specs.Runs.{lent-of, slices-of, call-of}
-use Rattle.calls.proofs.Tests.{first-none, or-neither}
+use Rattle.calls.proofs.Tests.{first-none, or-neither, index-finds}
+use Rattle.calls.proofs.Labelled.{named-many}
 use Rattle.index.specs.declared.Index.{Index}
 use Rattle.index.specs.Index.{state-of}
 use Rattle.index.proofs.Decide.{passed-none, passed-marks, step-back, step-on}
@@ -72,17 +73,6 @@ stats-many : (beam degree : ℕ) (b : Store) (ids : List ℕ) → length (delete
 unfolding delete-batch delete-slots store-ops
 stats-many beam degree b ids = maps-many _ _ (snapshot (store-view b)) (emptied (store-view b) ids)
 
--- a call's own tests, where none of all holds
-own-none : (slices : Lengths) (w : State View) (wrong : Bool) (rest : List Test) → first-of (index-tests limits slices w wrong rest) ≡ none → first-of rest ≡ none
-unfolding index-tests
-own-none slices w wrong rest e =
-    let v = w .graph in
-    let q₁ = not (sizes-ok limits (v .sizes)) in
-    let q₂ = not (alpha-ok (v .sizes .alpha)) in
-    let q₃ = not (lengths-ok limits (v .sizes) slices) || wrong in
-    let q₆ = not (eqb (w .live) (length (live-slots v))) || not (ltb (v .entry) (v .sizes .capacity)) || guard-fault limits (w .guard) in
-    first-none 6 q₆ rest (first-none 3 q₃ ((6, q₆) ∷ rest) (first-none 2 q₂ ((3, q₃) ∷ (6, q₆) ∷ rest) (first-none 1 q₁ ((2, q₂) ∷ (3, q₃) ∷ (6, q₆) ∷ rest) e .1) .1) .1) .1
-
 -- ---- a delete that was carried out: alpha is the one that was accepted, and the stats stand inside the scratch
 
 pub record Accepted (index i : Index) (n : ℕ) (scratch : List ℕ) : Type 0 where
@@ -106,7 +96,7 @@ module _ {index : Index} {s : Slices} {a : Delete} {room : ℕ} {scratch : List 
   long = length-map (range 0 room) (stats-of [] 0) ∙ length-range 0 room
 
   pub accepted : Accepted index i n scratch
-  unfolding tests perform with-graph refused-as deleted-as index-left state-of stored store-ops store-view shown room-of call-of slices-of limits size-answer
+  unfolding tests perform deletion with-graph refused-as deleted-as index-left state-of stored store-ops store-view shown room-of call-of slices-of limits size-answer
   accepted = go _ refl
     where
       go : (o : Option ℕ) → first-of (tests limits (call .lent) (shown stored on) (delete a)) ≡ o → Accepted index i n scratch
@@ -115,28 +105,30 @@ module _ {index : Index} {s : Slices} {a : Delete} {room : ℕ} {scratch : List 
           absurd (let z : _≡_ {A = ℕ} 0 1 = cc in omega arith)
       go none e =
           let over = ltb 256 (a .repair-beam) || ltb 16 (a .repair-degree) in
-          let many = ltb 256 (length (a .ids)) in
+          let many = ltb 256 (length (a .names)) in
           let short = ltb (length scratch) (size-answer (index .capacity)) in
           let p = passed-none index s _ _ (omega arith, (omega arith, tt)) e in
           let g = on .graph in
-          let d = delete-batch store-ops (a .repair-beam) (a .repair-degree) g (a .ids) in
+          let ids = named on a in
+          let d = delete-batch store-ops (a .repair-beam) (a .repair-degree) g ids in
           let r = c .meets before long .does ∙ step-on on call e in
-          let w : state-of i s′ ≡ with-graph stored on (d .0) = ap (λ x. x .0) r in
+          let w : state-of i s′ ≡ deletion stored on a .0 = ap (λ x. x .0) r in
           let f : deleted (c .stats) ≡ deleted (d .1) = ap (λ x. x .1) r in
           let t : c .stats ≡ d .1 = cc in
-          let o = own-none (lengths-of s) (shown stored on) (ltb (length before) (length (a .ids))) ((7, over || many) ∷ (8, short) ∷ []) e in
+          let o = index-finds (lengths-of s) (shown stored on) (ltb (length before) (length (a .names))) ((7, over || many) ∷ (8, short) ∷ []) e .own in
           let o₇ = first-none 7 (over || many) ((8, short) ∷ []) o in
           let counted : n ≡ length (d .1) =
           sym (ap length (c .words i n refl) ∙ length-map (range 0 n) (stats-of scratch′ (stats-at (index .capacity))) ∙ length-range 0 n) ∙ ap length t in
           record {
-            same-alpha = ap (λ x. x .graph .alpha) w ∙ ap (λ z. z .alpha) (sizes-after-delete store-ops Marks-fit store-marking g (passed-marks p) (a .repair-beam) (a .repair-degree) (a .ids));
+            same-alpha = ap (λ x. x .graph .alpha) w ∙ ap (λ z. z .alpha) (sizes-after-delete store-ops Marks-fit store-marking g (passed-marks p) (a .repair-beam) (a .repair-degree) ids);
             right-alpha = p .alpha-right;
             inside = omega (
               arith,
               counted,
-              stats-many (a .repair-beam) (a .repair-degree) g (a .ids),
-              emptied-few (store-view g) (a .ids),
-              ltb-false 256 (length (a .ids)) (or-neither over many (o₇ .0) .1),
+              stats-many (a .repair-beam) (a .repair-degree) g ids,
+              emptied-few (store-view g) ids,
+              named-many (s .numbers) (a .naming) (a .names),
+              ltb-false 256 (length (a .names)) (or-neither over many (o₇ .0) .1),
               ltb-false (length scratch) (size-answer (index .capacity)) (first-none 8 short [] (o₇ .1) .0),
             );
           }

@@ -21,7 +21,7 @@ use Rattle.calls.specs.Refusals.{Test, first-of, guard-fault, index-tests, test
 use Rattle.calls.specs.State.{State, stored, shown, with-guard}
 use Rattle.calls.specs.Step.{perform}
 use Rattle.calls.specs.Runs.{lent-of, slices-of, call-of}
-use Rattle.calls.proofs.Tests.{first-none}
+use Rattle.calls.proofs.Tests.{index-finds}
 use Rattle.index.specs.declared.Index.{Index}
 use Rattle.index.specs.Index.{state-of}
 use Rattle.index.proofs.Decide.{step-back, step-on}
@@ -81,18 +81,6 @@ module _ {r : Assessed} (place : List ℕ) where
 
 -- ---- an index whose guard was enabled
 
--- row 2 does not hold where no test does
-alpha-passed : (slices : Lengths) (w : State View) (wrong : Bool) (rest : List Test) → first-of (index-tests limits slices w wrong rest) ≡ none
-    → alpha-ok (w .graph .sizes .alpha) ≡ true
-unfolding index-tests
-alpha-passed slices w wrong rest e =
-    let v = w .graph in
-    let q₁ = not (sizes-ok limits (v .sizes)) in
-    let q₂ = not (alpha-ok (v .sizes .alpha)) in
-    let q₃ = not (lengths-ok limits (v .sizes) slices) || wrong in
-    let q₆ = not (eqb (w .live) (length (live-slots v))) || not (ltb (v .entry) (v .sizes .capacity)) || guard-fault limits (w .guard) in
-    not-false (alpha-ok (v .sizes .alpha)) (first-none 2 q₂ ((3, q₃) ∷ (6, q₆) ∷ rest) (first-none 1 q₁ ((2, q₂) ∷ (3, q₃) ∷ (6, q₆) ∷ rest) e .1) .0)
-
 abbrev enabling : Slices → Config → List ℕ → Call
 enabling s c scratch = record { lent = lent-of s no-outputs scratch; operation = enable c }
 
@@ -108,7 +96,7 @@ module _ {index : Index} {s : Slices} {c : Config} {scratch : List ℕ} {s′ : 
           absurd (let y : _≡_ {A = ℕ} 0 1 = cc in omega arith)
       go none e = (
         ap (λ x. x .0 .graph .alpha) (f .meets .does ∙ step-on (state-of index s) (enabling s c scratch) e),
-        alpha-passed (lengths-of s) (shown stored (state-of index s)) false _ e,
+        index-finds (lengths-of s) (shown stored (state-of index s)) false _ e .grown,
       )
 
   pub enabled-number : {r : Enabled} → Enables index s c scratch s′ scratch′ r → (i : Index) (t : Status) → r ≡ Enabled-with i t → T (not (isNan (i .alpha)))

@@ -30,7 +30,7 @@ use Rattle.index.specs.Create.{Creates}
 use Rattle.reading.specs.declared.Found.{Found}
 use Rattle.reading.specs.declared.Found.the-variants.{Refused as none-found, Found as Nearest}
 use Rattle.reading.specs.declared.Reading.{Reading}
-use Rattle.reading.specs.declared.Reading.the-variants.{Dim, Capacity, Degree, Alpha, Entry, Live, Mark, Version, Target}
+use Rattle.reading.specs.declared.Reading.the-variants.{Dim, Capacity, Degree, Alpha, Entry, Live, Mark, Version, Number as Figure, Target}
 use Rattle.reading.specs.declared.Value.{Value}
 use Rattle.reading.specs.declared.Value.the-variants.{Refused, Number, Alpha as Factor, Version as Stamp}
 use Rattle.reading.specs.Read.{reading-of, answer-of, Reads, Reads-vector}
@@ -52,7 +52,7 @@ positive ((k, false) ∷ ts) p e z = positive ts (p .1) e z
 making-positive : (lent : Lengths) (m : Making) {n : ℕ} → first-of (making-tests limits lent m) ≡ some n → n ≡ 0 → ⊥
 unfolding making-tests
 making-positive lent m e =
-    positive (making-tests limits lent m) (omega arith, (omega arith, (omega arith, (omega arith, (omega arith, tt))))) e
+    positive (making-tests limits lent m) (omega arith, (omega arith, (omega arith, (omega arith, (omega arith, (omega arith, tt)))))) e
 
 -- ---- a status, and what is written beside it
 
@@ -140,7 +140,7 @@ back (alpha a) = Factor a
 back (version n) = Stamp n
 back created = Refused 0
 back (vector l) = Refused 0
-back (found l) = Refused 0
+back (found l ns) = Refused 0
 back (inserted l) = Refused 0
 back (deleted l) = Refused 0
 back (standing s) = Refused 0
@@ -198,6 +198,7 @@ shape w Entry e = record { n = _; says = refl }
 shape w Live e = record { n = _; says = refl }
 shape w (Mark s) e = record { n = _; says = refl }
 shape w (Version s) e = record { n = _; says = refl }
+shape w (Figure s) e = record { n = _; says = refl }
 shape w (Target s place) e = record { n = _; says = refl }
 
 put-in : (q : Reading) (n before : ℕ) → number-put (value-in q n) before ≡ (0, n)
@@ -210,6 +211,7 @@ put-in Entry n before = refl
 put-in Live n before = refl
 put-in (Mark s) n before = refl
 put-in (Version s) n before = refl
+put-in (Figure s) n before = refl
 put-in (Target s place) n before = refl
 
 reads-outcome : {i : Index} {s : Slices} {q : Reading} (v : Value) → Reads i s q v → Outcome (state-of i s) q v

@@ -18,7 +18,7 @@ use Rattle.index.specs.declared.Created.the-variants.{Refused as not-made, Done
 use Rattle.index.specs.Index.{sizes, words-for}
 use Rattle.index.specs.Create.{Creates}
 use Rattle.reading.specs.declared.Reading.{Reading}
-use Rattle.reading.specs.declared.Reading.the-variants.{Dim, Capacity, Degree, Alpha, Entry, Live, Mark, Version, Target}
+use Rattle.reading.specs.declared.Reading.the-variants.{Dim, Capacity, Degree, Alpha, Entry, Live, Mark, Version, Number as Figure, Target}
 use Rattle.reading.specs.declared.Value.{Value}
 use Rattle.reading.specs.declared.Value.the-variants.{Refused, Number, Alpha as Factor, Version as Stamp}
 use Rattle.reading.specs.declared.Found.{Found}
@@ -79,6 +79,7 @@ value-in Entry n = Number n
 value-in Live n = Number n
 value-in (Mark slot) n = Number n
 value-in (Version slot) n = Stamp n
+value-in (Figure slot) n = Number n
 value-in (Target slot place) n = Number n
 
 -- the value that a status and a number give

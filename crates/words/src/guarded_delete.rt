@@ -5,6 +5,7 @@ use super::index_words::index_from;
 use super::index_words::words_from;
 use deletion::stats_place;
 use guarding::Guarded;
+use updating::Naming;
 ghost use mathlib.Core.Bool.{not};
 ghost use mathlib.Core.Path.{_≡_};
 ghost use Prim.Native.Nat.{ℕ};
@@ -66,7 +67,10 @@ pub fn guarded_words(
     versions: &mut [u16],
     marks: &mut [u8],
     pool: &[u32],
-    ids: &[u32],
+    numbers: &mut [u32],
+    summary: &mut [u32],
+    names: &[u32],
+    naming: Naming,
     repair_beam: u32,
     repair_degree: u32,
     room: usize,
@@ -76,7 +80,7 @@ pub fn guarded_words(
     found: &mut u32,
     report: &mut [u32; 8],
 ) -> Left
-    ensures { λ r. ⌜ Leaves-guarded (now (words .entry)) (slices (now (vectors .entry)) (now (targets .entry)) (now (edges .entry)) (now (versions .entry)) (now (marks .entry)) (now (pool .entry))) (deleting (now (ids .entry)) «repair_beam» «repair_degree») room (now (checked .entry)) (now (lost .entry)) (now (scratch .entry)) (now (words .exit)) (slices (now (vectors .entry)) (now (targets .exit)) (now (edges .exit)) (now (versions .exit)) (now (marks .exit)) (now (pool .entry))) (now (checked .exit)) (now (lost .exit)) (now (scratch .exit)) (now (found .entry)) (now (found .exit)) (now (report .entry)) (now (report .exit)) r ⌝ }
+    ensures { λ r. ⌜ Leaves-guarded (now (words .entry)) (slices (now (vectors .entry)) (now (targets .entry)) (now (edges .entry)) (now (versions .entry)) (now (marks .entry)) (now (pool .entry)) (now (numbers .entry)) (now (summary .entry))) (deleting (now (names .entry)) naming «repair_beam» «repair_degree») room (now (checked .entry)) (now (lost .entry)) (now (scratch .entry)) (now (words .exit)) (slices (now (vectors .entry)) (now (targets .exit)) (now (edges .exit)) (now (versions .exit)) (now (marks .exit)) (now (pool .entry)) (now (numbers .exit)) (now (summary .exit))) (now (checked .exit)) (now (lost .exit)) (now (scratch .exit)) (now (found .entry)) (now (found .exit)) (now (report .entry)) (now (report .exit)) r ⌝ }
 {
     let held = index_from(words);
     let place = stats_place(held.capacity);
@@ -88,7 +92,10 @@ pub fn guarded_words(
         versions,
         marks,
         pool,
-        ids,
+        numbers,
+        summary,
+        names,
+        naming,
         repair_beam,
         repair_degree,
         room,

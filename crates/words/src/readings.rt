@@ -20,9 +20,11 @@ pub fn read_value(
     versions: &[u16],
     marks: &[u8],
     pool: &[u32],
+    numbers: &[u32],
+    summary: &[u32],
     reading: Reading,
 ) -> Value
-    ensures { λ r. ⌜ Reads (index-of (now (words .entry))) (slices (now (vectors .entry)) (now (targets .entry)) (now (edges .entry)) (now (versions .entry)) (now (marks .entry)) (now (pool .entry))) reading r ⌝ }
+    ensures { λ r. ⌜ Reads (index-of (now (words .entry))) (slices (now (vectors .entry)) (now (targets .entry)) (now (edges .entry)) (now (versions .entry)) (now (marks .entry)) (now (pool .entry)) (now (numbers .entry)) (now (summary .entry))) reading r ⌝ }
 {
     let held = index_from(words);
     reading::read(
@@ -33,6 +35,8 @@ pub fn read_value(
         versions,
         marks,
         pool,
+        numbers,
+        summary,
         reading,
     )
 }
@@ -79,11 +83,13 @@ pub fn read_number(
     versions: &[u16],
     marks: &[u8],
     pool: &[u32],
+    numbers: &[u32],
+    summary: &[u32],
     reading: Reading,
     value: &mut u32,
 ) -> u32
     requires { ⌜ gives-number reading ≡ true ⌝ }
-    ensures { λ r. ⌜ Reads-number (now (words .entry)) (slices (now (vectors .entry)) (now (targets .entry)) (now (edges .entry)) (now (versions .entry)) (now (marks .entry)) (now (pool .entry))) reading (now (value .entry)) (now (value .exit)) r ⌝ }
+    ensures { λ r. ⌜ Reads-number (now (words .entry)) (slices (now (vectors .entry)) (now (targets .entry)) (now (edges .entry)) (now (versions .entry)) (now (marks .entry)) (now (pool .entry)) (now (numbers .entry)) (now (summary .entry))) reading (now (value .entry)) (now (value .exit)) r ⌝ }
 {
     let read = read_value(
         words,
@@ -93,6 +99,8 @@ pub fn read_number(
         versions,
         marks,
         pool,
+        numbers,
+        summary,
         reading,
     );
     put_number(read, value)

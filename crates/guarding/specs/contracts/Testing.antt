@@ -20,7 +20,7 @@ use Rattle.index.specs.declared.Index.{Index}
 use Rattle.index.specs.declared.Settings.{Settings}
 use Rattle.index.specs.declared.Guard.the-variants.{On}
 use Rattle.index.specs.Index.{guard-of, state-of}
-use Rattle.index.specs.contracts.Deciding.{Decided}
+use Rattle.index.specs.contracts.Deciding.{labels-of, Decided}
 use Rattle.guarding.specs.declared.Status.{Status}
 use Rattle.guarding.specs.declared.Assessed.{Assessed}
 use Rattle.guarding.specs.declared.Assessed.the-variants.{Refused as not-assessed, Assessed as Assessed-so}
@@ -41,13 +41,13 @@ pub record Testable (wrong over : Bool) (ids checked lost : List ℕ) : Type 0 w
   pub few : over ≡ false → length ids ≤ limits .ids
 
 -- the number of the test that holds, 0 where none does
-unfoldable pub number-of : Assessed → ℕ
-number-of (not-assessed n) = n
-number-of (Assessed-so v) = 0
+unfoldable pub refusal-of : Assessed → ℕ
+refusal-of (not-assessed n) = n
+refusal-of (Assessed-so v) = 0
 
 -- a report, or the number of the first test that holds, and then nothing is written
 pub record Tested (index : Index) (s : Slices) (wrong over : Bool) (ids checked lost scratch checked′ lost′ scratch′ : List ℕ) (r : Assessed) : Type 0 where
-  pub decided : Decided index (lengths-of s) (s .marks) wrong (report-tests index over (length scratch)) (number-of r)
+  pub decided : Decided index (lengths-of s) (labels-of s) wrong (report-tests index over (length scratch)) (refusal-of r)
   pub back : (n : ℕ) → r ≡ not-assessed n → (n ≡ 0 → ⊥) × (checked′ ≡ checked) × (lost′ ≡ lost) × (scratch′ ≡ scratch)
   pub on : (v : Report) → r ≡ Assessed-so v → Reports (report-of (shown stored (state-of index s)) ids) checked checked′ lost lost′ v
 
@@ -73,7 +73,7 @@ guarded-index i s n =
 
 -- the slices with another pool
 abbrev pub with-pool : Slices → List ℕ → Slices
-with-pool s pool = slices (s .vectors) (s .targets) (s .edges) (s .versions) (s .marks) pool
+with-pool s pool = slices (s .vectors) (s .targets) (s .edges) (s .versions) (s .marks) pool (s .numbers) (s .summary)
 
 -- the status of a guard, by the marks
 pub record Stood (g : Guards.Guard) (marks pool : List ℕ) (r : Status) : Type 0 where

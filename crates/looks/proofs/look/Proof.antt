@@ -22,6 +22,12 @@ part-requires-5 c κs = tt
 part-requires-6 : tie.Need-part-requires-6
 part-requires-6 c κs = tt
 
+part-requires-7 : tie.Need-part-requires-7
+part-requires-7 c κs = tt
+
+part-requires-8 : tie.Need-part-requires-8
+part-requires-8 c κs = tt
+
 slice-aggregate-answer : tie.Need-slice-aggregate-answer
 slice-aggregate-answer c = simp length-take (omega arith)
 
@@ -39,6 +45,12 @@ slice-aggregate-answer-5 c = simp length-take (omega arith)
 
 slice-aggregate-answer-6 : tie.Need-slice-aggregate-answer-6
 slice-aggregate-answer-6 c = simp length-take (omega arith)
+
+slice-aggregate-answer-7 : tie.Need-slice-aggregate-answer-7
+slice-aggregate-answer-7 c = simp length-take (omega arith)
+
+slice-aggregate-answer-8 : tie.Need-slice-aggregate-answer-8
+slice-aggregate-answer-8 c = simp length-take (omega arith)
 
 answer-requires : tie.Need-answer-requires
 answer-requires c κs = tt
@@ -59,12 +71,16 @@ look-spec =
     part-requires-4
     part-requires-5
     part-requires-6
+    part-requires-7
+    part-requires-8
     slice-aggregate-answer
     slice-aggregate-answer-2
     slice-aggregate-answer-3
     slice-aggregate-answer-4
     slice-aggregate-answer-5
     slice-aggregate-answer-6
+    slice-aggregate-answer-7
+    slice-aggregate-answer-8
     answer-requires
     same-length
     returns)

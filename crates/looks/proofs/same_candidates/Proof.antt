@@ -4,10 +4,10 @@ use Rattle.looks.proofs.same_candidates.Statement.{statement}
 use Rattle.looks.proofs.same_candidates.Tie as tie
 
 abbrev Inv-loop : tie.InvT-loop
-Inv-loop line slots dists last₀ n i₀ last i = i ≤ n
+Inv-loop line slots dists figures last₀ n i₀ last i = i ≤ n
 
 abbrev μ-loop : tie.MeasureT-loop
-μ-loop line slots dists last₀ n i₀ last i = n - i
+μ-loop line slots dists figures last₀ n i₀ last i = n - i
 
 wide-requires : tie.Need-wide-requires Inv-loop μ-loop
 wide-requires c κs = search needs
@@ -20,6 +20,9 @@ after-requires c κs = search needs
 
 after-requires-2 : tie.Need-after-requires-2 Inv-loop μ-loop
 after-requires-2 c κs = search needs
+
+after-requires-3 : tie.Need-after-requires-3 Inv-loop μ-loop
+after-requires-3 c κs = search needs
 
 same-candidate-requires : tie.Need-same-candidate-requires Inv-loop μ-loop
 same-candidate-requires c κs = search needs
@@ -52,6 +55,7 @@ same-candidates-spec =
     loop-holds
     after-requires
     after-requires-2
+    after-requires-3
     same-candidate-requires
     returns
     add-i

@@ -37,6 +37,9 @@ part-requires-2 c κs = tt
 part-requires-3 : tie.Need-part-requires-3
 part-requires-3 c κs = tt
 
+part-requires-4 : tie.Need-part-requires-4
+part-requires-4 c κs = tt
+
 array-share-prefix-query : tie.Need-array-share-prefix-query
 array-share-prefix-query c = search needs
 
@@ -55,11 +58,17 @@ array-borrow-prefix-dists c = search needs
 slice-aggregate-search-3 : tie.Need-slice-aggregate-search-3
 slice-aggregate-search-3 c = simp length-take (omega arith)
 
-slice-relend-prefix-search : tie.Need-slice-relend-prefix-search
-slice-relend-prefix-search c = search needs
+array-borrow-prefix-figures : tie.Need-array-borrow-prefix-figures
+array-borrow-prefix-figures c = search needs
 
 slice-aggregate-search-4 : tie.Need-slice-aggregate-search-4
 slice-aggregate-search-4 c = simp length-take (omega arith)
+
+slice-relend-prefix-search : tie.Need-slice-relend-prefix-search
+slice-relend-prefix-search c = search needs
+
+slice-aggregate-search-5 : tie.Need-slice-aggregate-search-5
+slice-aggregate-search-5 c = simp length-take (omega arith)
 
 search-requires : tie.Need-search-requires
 search-requires c κs = tt
@@ -88,14 +97,17 @@ search-spec =
     part-requires
     part-requires-2
     part-requires-3
+    part-requires-4
     array-share-prefix-query
     slice-aggregate-search
     array-borrow-prefix-slots
     slice-aggregate-search-2
     array-borrow-prefix-dists
     slice-aggregate-search-3
-    slice-relend-prefix-search
+    array-borrow-prefix-figures
     slice-aggregate-search-4
+    slice-relend-prefix-search
+    slice-aggregate-search-5
     search-requires
     same-found-requires
     same-length

@@ -11,6 +11,6 @@ use Rattle.calls.specs.Step.{reading}
 use Rattle.index.specs.Index.{state-of}
 use Rattle.reading.specs.Read.{reading-of, answer-of}
 
--- where no test holds, the rows, versions and marks decide
-pub record Answers (index : Index) (targets edges versions marks : List ℕ) (q : Reading) (r : Value) : Type 0 where
-  pub does : (vectors pool : List ℕ) → answer-of r ≡ reading stored (state-of index (slices vectors targets edges versions marks pool)) (reading-of q)
+-- where no test holds, the rows, versions, marks and numbers decide
+pub record Answers (index : Index) (targets edges versions marks numbers : List ℕ) (q : Reading) (r : Value) : Type 0 where
+  pub does : (vectors pool summary : List ℕ) → answer-of r ≡ reading stored (state-of index (slices vectors targets edges versions marks pool numbers summary)) (reading-of q)

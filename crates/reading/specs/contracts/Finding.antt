@@ -15,9 +15,9 @@ use Rattle.calls.specs.Outputs.{distances}
 use Rattle.calls.specs.Refusals.{Test}
 
 -- 7 and 8
-abbrev pub search-tests : ℕ → ℕ → ℕ → ℕ → ℕ → ℕ → List Test
-search-tests capacity k beam slots dists scratch =
-    (7, ltb (limits .beam) beam || ltb (min slots dists) k) ∷ (8, ltb scratch (size-answer capacity)) ∷ []
+abbrev pub search-tests : ℕ → ℕ → ℕ → ℕ → ℕ → ℕ → ℕ → List Test
+search-tests capacity k beam slots dists numbers scratch =
+    (7, ltb (limits .beam) beam || ltb (min (min slots dists) numbers) k) ∷ (8, ltb scratch (size-answer capacity)) ∷ []
 
 -- n candidates in the words, and room for them
 pub record Fits (words : List ℕ) (n : ℕ) (slots : List ℕ) (dists : List Float) : Type 0 where

@@ -5,11 +5,11 @@ use Rattle.replay.proofs.replay.Statement.{statement}
 use Rattle.replay.proofs.replay.Tie as tie
 
 abbrev Inv-loop : tie.InvT-loop
-Inv-loop list n given₀ rows₀ vectors₀ targets₀ edges₀ versions₀ marks₀ pool₀ scratch₀ counts₀ step₀ at₀ given rows vectors targets edges versions marks pool scratch counts step at =
+Inv-loop list n given₀ rows₀ figures₀ vectors₀ targets₀ edges₀ versions₀ marks₀ pool₀ numbers₀ summary₀ scratch₀ counts₀ step₀ at₀ given rows figures vectors targets edges versions marks pool numbers summary scratch counts step at =
     at ≤ n + 1
 
 abbrev μ-loop : tie.MeasureT-loop
-μ-loop list n given₀ rows₀ vectors₀ targets₀ edges₀ versions₀ marks₀ pool₀ scratch₀ counts₀ step₀ at₀ given rows vectors targets edges versions marks pool scratch counts step at =
+μ-loop list n given₀ rows₀ figures₀ vectors₀ targets₀ edges₀ versions₀ marks₀ pool₀ numbers₀ summary₀ scratch₀ counts₀ step₀ at₀ given rows figures vectors targets edges versions marks pool numbers summary scratch counts step at =
     n + 1 - at
 
 nothing-requires : tie.Need-nothing-requires Inv-loop μ-loop
@@ -43,10 +43,10 @@ counted-requires : tie.Need-counted-requires Inv-loop μ-loop
 counted-requires c κs = tt
 
 loop-less : tie.Need-loop-less Inv-loop μ-loop
-loop-less c = omega (arith, c .before .before .before .before .before .before .before .before .before .before .before .before .before .line-end .ensures .0, c .before .before .before .before .before .before .before .before .before .before .before .before .before .before .loop-test .taken)
+loop-less c = omega (arith, c .before .before .before .before .before .before .before .before .before .before .before .before .before .before .before .before .line-end .ensures .0, c .before .before .before .before .before .before .before .before .before .before .before .before .before .before .before .before .before .loop-test .taken)
 
 loop-again : tie.Need-loop-again Inv-loop μ-loop
-loop-again c = omega (arith, c .before .before .before .before .before .before .before .before .before .before .before .before .before .line-end .ensures .1)
+loop-again c = omega (arith, c .before .before .before .before .before .before .before .before .before .before .before .before .before .before .before .before .line-end .ensures .1)
 
 returns : tie.Need-returns Inv-loop μ-loop
 returns c = tt

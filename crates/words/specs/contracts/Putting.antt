@@ -11,7 +11,7 @@ use Rattle.calls.specs.Calls.{Delete}
 use Rattle.index.specs.declared.Created.{Created}
 use Rattle.index.specs.declared.Created.the-variants.{Refused as not-made, Done}
 use Rattle.reading.specs.declared.Reading.{Reading}
-use Rattle.reading.specs.declared.Reading.the-variants.{Dim, Capacity, Degree, Alpha, Entry, Live, Mark, Version, Target}
+use Rattle.reading.specs.declared.Reading.the-variants.{Dim, Capacity, Degree, Alpha, Entry, Live, Mark, Version, Number as Figure, Target}
 use Rattle.reading.specs.declared.Value.{Value}
 use Rattle.reading.specs.declared.Value.the-variants.{Refused, Number, Alpha as Factor, Version as Stamp}
 use Rattle.reading.specs.declared.Found.{Found}
@@ -43,6 +43,7 @@ gives-number Entry = true
 gives-number Live = true
 gives-number (Mark slot) = true
 gives-number (Version slot) = true
+gives-number (Figure slot) = true
 gives-number (Target slot place) = true
 
 -- the status of a value that was read, and what is left where a number is to be written

@@ -40,6 +40,15 @@ part-requires-8 c κs = tt
 part-requires-9 : tie.Need-part-requires-9
 part-requires-9 c κs = tt
 
+part-requires-10 : tie.Need-part-requires-10
+part-requires-10 c κs = tt
+
+part-requires-11 : tie.Need-part-requires-11
+part-requires-11 c κs = tt
+
+part-requires-12 : tie.Need-part-requires-12
+part-requires-12 c κs = tt
+
 slice-relend-prefix-insert : tie.Need-slice-relend-prefix-insert
 slice-relend-prefix-insert c = search needs
 
@@ -70,20 +79,35 @@ slice-aggregate-insert-5 c = simp length-take (omega arith)
 slice-aggregate-insert-6 : tie.Need-slice-aggregate-insert-6
 slice-aggregate-insert-6 c = simp length-take (omega arith)
 
+slice-relend-prefix-insert-5 : tie.Need-slice-relend-prefix-insert-5
+slice-relend-prefix-insert-5 c = search needs
+
 slice-aggregate-insert-7 : tie.Need-slice-aggregate-insert-7
 slice-aggregate-insert-7 c = simp length-take (omega arith)
 
-array-borrow-prefix-slots : tie.Need-array-borrow-prefix-slots
-array-borrow-prefix-slots c = search needs
+slice-relend-prefix-insert-6 : tie.Need-slice-relend-prefix-insert-6
+slice-relend-prefix-insert-6 c = search needs
 
 slice-aggregate-insert-8 : tie.Need-slice-aggregate-insert-8
 slice-aggregate-insert-8 c = simp length-take (omega arith)
 
-slice-relend-prefix-insert-5 : tie.Need-slice-relend-prefix-insert-5
-slice-relend-prefix-insert-5 c = search needs
-
 slice-aggregate-insert-9 : tie.Need-slice-aggregate-insert-9
 slice-aggregate-insert-9 c = simp length-take (omega arith)
+
+slice-aggregate-insert-10 : tie.Need-slice-aggregate-insert-10
+slice-aggregate-insert-10 c = simp length-take (omega arith)
+
+array-borrow-prefix-slots : tie.Need-array-borrow-prefix-slots
+array-borrow-prefix-slots c = search needs
+
+slice-aggregate-insert-11 : tie.Need-slice-aggregate-insert-11
+slice-aggregate-insert-11 c = simp length-take (omega arith)
+
+slice-relend-prefix-insert-7 : tie.Need-slice-relend-prefix-insert-7
+slice-relend-prefix-insert-7 c = search needs
+
+slice-aggregate-insert-12 : tie.Need-slice-aggregate-insert-12
+slice-aggregate-insert-12 c = simp length-take (omega arith)
 
 insert-requires : tie.Need-insert-requires
 insert-requires c κs = tt
@@ -106,6 +130,12 @@ same-length-4 c = search needs
 same-length-5 : tie.Need-same-length-5
 same-length-5 c = search needs
 
+same-length-6 : tie.Need-same-length-6
+same-length-6 c = search needs
+
+same-length-7 : tie.Need-same-length-7
+same-length-7 c = search needs
+
 returns-2 : tie.Need-returns-2
 returns-2 c = tt
 
@@ -125,6 +155,9 @@ insert-spec =
     part-requires-7
     part-requires-8
     part-requires-9
+    part-requires-10
+    part-requires-11
+    part-requires-12
     slice-relend-prefix-insert
     slice-aggregate-insert
     slice-relend-prefix-insert-2
@@ -135,11 +168,16 @@ insert-spec =
     slice-relend-prefix-insert-4
     slice-aggregate-insert-5
     slice-aggregate-insert-6
-    slice-aggregate-insert-7
-    array-borrow-prefix-slots
-    slice-aggregate-insert-8
     slice-relend-prefix-insert-5
+    slice-aggregate-insert-7
+    slice-relend-prefix-insert-6
+    slice-aggregate-insert-8
     slice-aggregate-insert-9
+    slice-aggregate-insert-10
+    array-borrow-prefix-slots
+    slice-aggregate-insert-11
+    slice-relend-prefix-insert-7
+    slice-aggregate-insert-12
     insert-requires
     after-insert-requires
     same-length
@@ -147,4 +185,6 @@ insert-spec =
     same-length-3
     same-length-4
     same-length-5
+    same-length-6
+    same-length-7
     returns-2)

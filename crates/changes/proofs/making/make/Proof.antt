@@ -34,47 +34,71 @@ part-requires-7 c κs = tt
 part-requires-8 : tie.Need-part-requires-8
 part-requires-8 c κs = tt
 
+part-requires-9 : tie.Need-part-requires-9
+part-requires-9 c κs = tt
+
+part-requires-10 : tie.Need-part-requires-10
+part-requires-10 c κs = tt
+
+part-requires-11 : tie.Need-part-requires-11
+part-requires-11 c κs = tt
+
 slice-aggregate-create : tie.Need-slice-aggregate-create
 slice-aggregate-create c = simp length-take (omega arith)
 
 slice-aggregate-create-2 : tie.Need-slice-aggregate-create-2
 slice-aggregate-create-2 c = simp length-take (omega arith)
 
-slice-relend-prefix-create : tie.Need-slice-relend-prefix-create
-slice-relend-prefix-create c = search needs
-
 slice-aggregate-create-3 : tie.Need-slice-aggregate-create-3
 slice-aggregate-create-3 c = simp length-take (omega arith)
 
-slice-relend-prefix-create-2 : tie.Need-slice-relend-prefix-create-2
-slice-relend-prefix-create-2 c = search needs
+slice-relend-prefix-create : tie.Need-slice-relend-prefix-create
+slice-relend-prefix-create c = search needs
 
 slice-aggregate-create-4 : tie.Need-slice-aggregate-create-4
 slice-aggregate-create-4 c = simp length-take (omega arith)
 
-slice-relend-prefix-create-3 : tie.Need-slice-relend-prefix-create-3
-slice-relend-prefix-create-3 c = search needs
+slice-relend-prefix-create-2 : tie.Need-slice-relend-prefix-create-2
+slice-relend-prefix-create-2 c = search needs
 
 slice-aggregate-create-5 : tie.Need-slice-aggregate-create-5
 slice-aggregate-create-5 c = simp length-take (omega arith)
 
-slice-relend-prefix-create-4 : tie.Need-slice-relend-prefix-create-4
-slice-relend-prefix-create-4 c = search needs
+slice-relend-prefix-create-3 : tie.Need-slice-relend-prefix-create-3
+slice-relend-prefix-create-3 c = search needs
 
 slice-aggregate-create-6 : tie.Need-slice-aggregate-create-6
 slice-aggregate-create-6 c = simp length-take (omega arith)
 
-slice-relend-prefix-create-5 : tie.Need-slice-relend-prefix-create-5
-slice-relend-prefix-create-5 c = search needs
+slice-relend-prefix-create-4 : tie.Need-slice-relend-prefix-create-4
+slice-relend-prefix-create-4 c = search needs
 
 slice-aggregate-create-7 : tie.Need-slice-aggregate-create-7
 slice-aggregate-create-7 c = simp length-take (omega arith)
 
-slice-relend-prefix-create-6 : tie.Need-slice-relend-prefix-create-6
-slice-relend-prefix-create-6 c = search needs
+slice-relend-prefix-create-5 : tie.Need-slice-relend-prefix-create-5
+slice-relend-prefix-create-5 c = search needs
 
 slice-aggregate-create-8 : tie.Need-slice-aggregate-create-8
 slice-aggregate-create-8 c = simp length-take (omega arith)
+
+slice-relend-prefix-create-6 : tie.Need-slice-relend-prefix-create-6
+slice-relend-prefix-create-6 c = search needs
+
+slice-aggregate-create-9 : tie.Need-slice-aggregate-create-9
+slice-aggregate-create-9 c = simp length-take (omega arith)
+
+slice-relend-prefix-create-7 : tie.Need-slice-relend-prefix-create-7
+slice-relend-prefix-create-7 c = search needs
+
+slice-aggregate-create-10 : tie.Need-slice-aggregate-create-10
+slice-aggregate-create-10 c = simp length-take (omega arith)
+
+slice-relend-prefix-create-8 : tie.Need-slice-relend-prefix-create-8
+slice-relend-prefix-create-8 c = search needs
+
+slice-aggregate-create-11 : tie.Need-slice-aggregate-create-11
+slice-aggregate-create-11 c = simp length-take (omega arith)
 
 create-requires : tie.Need-create-requires
 create-requires c κs = tt
@@ -100,6 +124,12 @@ same-length-5 c = search needs
 same-length-6 : tie.Need-same-length-6
 same-length-6 c = search needs
 
+same-length-7 : tie.Need-same-length-7
+same-length-7 c = search needs
+
+same-length-8 : tie.Need-same-length-8
+same-length-8 c = search needs
+
 returns-2 : tie.Need-returns-2
 returns-2 c = tt
 
@@ -117,20 +147,28 @@ make-spec =
     part-requires-6
     part-requires-7
     part-requires-8
+    part-requires-9
+    part-requires-10
+    part-requires-11
     slice-aggregate-create
     slice-aggregate-create-2
-    slice-relend-prefix-create
     slice-aggregate-create-3
-    slice-relend-prefix-create-2
+    slice-relend-prefix-create
     slice-aggregate-create-4
-    slice-relend-prefix-create-3
+    slice-relend-prefix-create-2
     slice-aggregate-create-5
-    slice-relend-prefix-create-4
+    slice-relend-prefix-create-3
     slice-aggregate-create-6
-    slice-relend-prefix-create-5
+    slice-relend-prefix-create-4
     slice-aggregate-create-7
-    slice-relend-prefix-create-6
+    slice-relend-prefix-create-5
     slice-aggregate-create-8
+    slice-relend-prefix-create-6
+    slice-aggregate-create-9
+    slice-relend-prefix-create-7
+    slice-aggregate-create-10
+    slice-relend-prefix-create-8
+    slice-aggregate-create-11
     create-requires
     after-making-requires
     same-length
@@ -139,4 +177,6 @@ make-spec =
     same-length-4
     same-length-5
     same-length-6
+    same-length-7
+    same-length-8
     returns-2)

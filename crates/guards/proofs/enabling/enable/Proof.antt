@@ -43,6 +43,12 @@ part-requires-6 c κs = tt
 part-requires-7 : tie.Need-part-requires-7
 part-requires-7 c κs = tt
 
+part-requires-8 : tie.Need-part-requires-8
+part-requires-8 c κs = tt
+
+part-requires-9 : tie.Need-part-requires-9
+part-requires-9 c κs = tt
+
 slice-aggregate-enable-guard : tie.Need-slice-aggregate-enable-guard
 slice-aggregate-enable-guard c = simp length-take (omega arith)
 
@@ -64,11 +70,17 @@ slice-relend-prefix-enable-guard c = search needs
 slice-aggregate-enable-guard-6 : tie.Need-slice-aggregate-enable-guard-6
 slice-aggregate-enable-guard-6 c = simp length-take (omega arith)
 
+slice-aggregate-enable-guard-7 : tie.Need-slice-aggregate-enable-guard-7
+slice-aggregate-enable-guard-7 c = simp length-take (omega arith)
+
+slice-aggregate-enable-guard-8 : tie.Need-slice-aggregate-enable-guard-8
+slice-aggregate-enable-guard-8 c = simp length-take (omega arith)
+
 slice-relend-prefix-enable-guard-2 : tie.Need-slice-relend-prefix-enable-guard-2
 slice-relend-prefix-enable-guard-2 c = search needs
 
-slice-aggregate-enable-guard-7 : tie.Need-slice-aggregate-enable-guard-7
-slice-aggregate-enable-guard-7 c = simp length-take (omega arith)
+slice-aggregate-enable-guard-9 : tie.Need-slice-aggregate-enable-guard-9
+slice-aggregate-enable-guard-9 c = simp length-take (omega arith)
 
 enable-guard-requires : tie.Need-enable-guard-requires
 enable-guard-requires c κs = tt
@@ -102,6 +114,8 @@ enable-spec =
     part-requires-5
     part-requires-6
     part-requires-7
+    part-requires-8
+    part-requires-9
     slice-aggregate-enable-guard
     slice-aggregate-enable-guard-2
     slice-aggregate-enable-guard-3
@@ -109,8 +123,10 @@ enable-spec =
     slice-aggregate-enable-guard-5
     slice-relend-prefix-enable-guard
     slice-aggregate-enable-guard-6
-    slice-relend-prefix-enable-guard-2
     slice-aggregate-enable-guard-7
+    slice-aggregate-enable-guard-8
+    slice-relend-prefix-enable-guard-2
+    slice-aggregate-enable-guard-9
     enable-guard-requires
     after-enabling-requires
     same-length

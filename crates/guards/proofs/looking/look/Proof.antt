@@ -28,6 +28,12 @@ part-requires-7 c κs = tt
 part-requires-8 : tie.Need-part-requires-8
 part-requires-8 c κs = tt
 
+part-requires-9 : tie.Need-part-requires-9
+part-requires-9 c κs = tt
+
+part-requires-10 : tie.Need-part-requires-10
+part-requires-10 c κs = tt
+
 slice-aggregate-answer : tie.Need-slice-aggregate-answer
 slice-aggregate-answer c = simp length-take (omega arith)
 
@@ -49,11 +55,17 @@ slice-aggregate-answer-6 c = simp length-take (omega arith)
 slice-aggregate-answer-7 : tie.Need-slice-aggregate-answer-7
 slice-aggregate-answer-7 c = simp length-take (omega arith)
 
+slice-aggregate-answer-8 : tie.Need-slice-aggregate-answer-8
+slice-aggregate-answer-8 c = simp length-take (omega arith)
+
+slice-aggregate-answer-9 : tie.Need-slice-aggregate-answer-9
+slice-aggregate-answer-9 c = simp length-take (omega arith)
+
 slice-relend-prefix-answer : tie.Need-slice-relend-prefix-answer
 slice-relend-prefix-answer c = search needs
 
-slice-aggregate-answer-8 : tie.Need-slice-aggregate-answer-8
-slice-aggregate-answer-8 c = simp length-take (omega arith)
+slice-aggregate-answer-10 : tie.Need-slice-aggregate-answer-10
+slice-aggregate-answer-10 c = simp length-take (omega arith)
 
 answer-requires : tie.Need-answer-requires
 answer-requires c κs = tt
@@ -76,6 +88,8 @@ look-spec =
     part-requires-6
     part-requires-7
     part-requires-8
+    part-requires-9
+    part-requires-10
     slice-aggregate-answer
     slice-aggregate-answer-2
     slice-aggregate-answer-3
@@ -83,8 +97,10 @@ look-spec =
     slice-aggregate-answer-5
     slice-aggregate-answer-6
     slice-aggregate-answer-7
-    slice-relend-prefix-answer
     slice-aggregate-answer-8
+    slice-aggregate-answer-9
+    slice-relend-prefix-answer
+    slice-aggregate-answer-10
     answer-requires
     same-length
     returns)

@@ -4,10 +4,10 @@ use Rattle.lines.proofs.prepare.lend.Statement.{statement}
 use Rattle.lines.proofs.prepare.lend.Tie as tie
 
 abbrev Inv-loop : tie.InvT-loop
-Inv-loop line end step lent₀ last₀ i₀ lent last i = i ≤ 9
+Inv-loop line end step lent₀ last₀ i₀ lent last i = i ≤ 12
 
 abbrev μ-loop : tie.MeasureT-loop
-μ-loop line end step lent₀ last₀ i₀ lent last i = 9 - i
+μ-loop line end step lent₀ last₀ i₀ lent last i = 12 - i
 
 loop-holds : tie.Need-loop-holds Inv-loop μ-loop
 loop-holds c = search needs

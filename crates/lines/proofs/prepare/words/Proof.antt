@@ -6,10 +6,10 @@ use Rattle.lines.proofs.prepare.words.Statement.{statement}
 use Rattle.lines.proofs.prepare.words.Tie as tie
 
 abbrev Inv-loop : tie.InvT-loop
-Inv-loop line rows₀ last₀ n i₀ rows last i = (i ≤ n) × (length rows ≡ length rows₀)
+Inv-loop line more given₀ last₀ n i₀ given last i = (i ≤ n) × (length given ≡ length given₀)
 
 abbrev μ-loop : tie.MeasureT-loop
-μ-loop line rows₀ last₀ n i₀ rows last i = n - i
+μ-loop line more given₀ last₀ n i₀ given last i = n - i
 
 wide-requires : tie.Need-wide-requires Inv-loop μ-loop
 wide-requires c κs = search needs

@@ -1,4 +1,4 @@
-use Rattle.reading.proofs.Shown.{answers-dim, answers-capacity, answers-degree, answers-alpha, answers-entry, answers-live, answers-mark, answers-version, answers-target}
+use Rattle.reading.proofs.Shown.{answers-dim, answers-capacity, answers-degree, answers-alpha, answers-entry, answers-live, answers-mark, answers-version, answers-number, answers-target}
 use borrow.Author.Needs.{needs}
 use Rattle.reading.proofs.readings.answer.Statement.{statement}
 use Rattle.reading.proofs.readings.answer.Tie as tie
@@ -39,6 +39,15 @@ node-version-requires c κs = search needs
 enum-known-reading-3 : tie.Need-enum-known-reading-3
 enum-known-reading-3 c = search needs
 
+cast-number-at : tie.Need-cast-number-at
+cast-number-at c = search needs
+
+number-at-requires : tie.Need-number-at-requires
+number-at-requires c κs = search needs
+
+enum-known-reading-4 : tie.Need-enum-known-reading-4
+enum-known-reading-4 c = search needs
+
 cast-degree : tie.Need-cast-degree
 cast-degree c = search needs
 
@@ -73,7 +82,10 @@ returns-8 : tie.Need-returns-8
 returns-8 c = answers-version (c .before .before .reading2 .given .1) (c .node-version .ensures)
 
 returns-9 : tie.Need-returns-9
-returns-9 c = answers-target (c .before .before .before .reading3 .given .1) (c .target .ensures)
+returns-9 c = answers-number (c .before .before .reading3 .given .1) (c .number-at .ensures)
+
+returns-10 : tie.Need-returns-10
+returns-10 c = answers-target (c .before .before .before .reading4 .given .1) (c .target .ensures)
 
 pub answer-spec : {M : Type 1} → statement M
 answer-spec =
@@ -91,6 +103,9 @@ answer-spec =
     cast-node-version
     node-version-requires
     enum-known-reading-3
+    cast-number-at
+    number-at-requires
+    enum-known-reading-4
     cast-degree
     cast-target
     target-requires
@@ -102,4 +117,5 @@ answer-spec =
     returns-6
     returns-7
     returns-8
-    returns-9)
+    returns-9
+    returns-10)

@@ -7,17 +7,17 @@ use Rattle.reading.proofs.readings.read.Tie as tie
 
 -- the slices as they are lent
 abbrev lent : tie.Start → Slices
-lent s = let a = s .args in slices (a .vectors .now) (a .targets .now) (a .edges .now) (a .versions .now) (a .marks .now) (a .pool .now)
+lent s = let a = s .args in slices (a .vectors .now) (a .targets .now) (a .edges .now) (a .versions .now) (a .marks .now) (a .pool .now) (a .numbers .now) (a .summary .now)
 
 -- places before the needs below, each named by what was done last there
 abbrev start₁ : tie.Then1 → tie.Start
-start₁ c = c .before .before .before .before .before .before .before .before
+start₁ c = c .before .before .before .before .before .before .before .before .before .before
 
 abbrev start₂ : tie.Else1 → tie.Start
-start₂ c = c .before .before .before .before .before .before .before .before
+start₂ c = c .before .before .before .before .before .before .before .before .before .before
 
 abbrev start₃ : tie.After-answer → tie.Start
-start₃ c = c .before .before .before .before .before .before .before .before .before
+start₃ c = c .before .before .before .before .before .before .before .before .before .before .before
 
 index-refusal-requires : tie.Need-index-refusal-requires
 index-refusal-requires c κs = search needs
