@@ -1,13 +1,13 @@
 /*
  * The picture finder for C++11 and later: classes that own the memory of an index and of a scratch, over finder.h, which says what each call does.
  *
- *     picture_finder::Index index(256, 1000, 32);                   dim, capacity, degree
+ *     picture_finder::Index index(256, 1000, 32);                                dim, capacity, degree
  *     picture_finder::Scratch scratch(index);
- *     if (!index || !scratch) ..                                    sizes outside their ranges, or no memory
- *     if (index.create(1.2f)) ..                                    alpha 1.2, no vector yet; a refusal, else 0
- *     auto inserted = index.insert(grey, 64, slots, scratch);       beam 64
- *     auto near = index.search(query, 10, 64, slots, dists, scratch);
- *     if (near) ..                                                  near.value slots were found
+ *     if (!index || !scratch) ..                                                 sizes outside their ranges, or no memory
+ *     if (index.create(1.2f)) ..                                                 alpha 1.2, no vector yet; a refusal, else 0
+ *     auto inserted = index.insert(grey, { &number, 1 }, 64, slots, scratch);    one vector and its figure number, beam 64
+ *     auto near = index.search(query, 10, 64, slots, dists, numbers, scratch);
+ *     if (near) ..                                                               near.value slots were found
  *
  * Nothing here throws. A call gives an Answer: the number of the refusal, or 0, and a value, which is 0 where the call is refused. An Index or a Scratch without
  * memory, a moved one among them, may be used: every call is refused. None of this is proved; it only calls finder.h.
@@ -155,11 +155,13 @@ public:
     }
 
     /* Without vectors. */
-    FINDER_CHECKED uint32_t create(float alpha) noexcept { return create(alpha, 0, 0, nullptr, nullptr); }
+    FINDER_CHECKED uint32_t create(float alpha) noexcept { return create(alpha, 0, 0, nullptr, nullptr, nullptr); }
 
-    FINDER_CHECKED uint32_t create(float alpha, uint32_t entry, uint32_t count, List<const uint8_t> bytes, List<const uint32_t> rows) noexcept
+    FINDER_CHECKED uint32_t create(float alpha, uint32_t entry, uint32_t count, List<const uint8_t> bytes, List<const uint32_t> rows,
+        List<const uint32_t> given_numbers) noexcept
     {
-        return finder_create_in(&f_, alpha, entry, count, bytes.first(), bytes.length(), rows.first(), rows.length());
+        return finder_create_in(&f_, alpha, entry, count, bytes.first(), bytes.length(), rows.first(), rows.length(), given_numbers.first(),
+            given_numbers.length());
     }
 
     FINDER_CHECKED Answer<uint32_t> dim() const noexcept { return read(finder_dim_in); }
@@ -189,6 +191,13 @@ public:
         return a;
     }
 
+    FINDER_CHECKED Answer<uint32_t> number(uint32_t slot) const noexcept
+    {
+        Answer<uint32_t> a = { 0, 0 };
+        a.refusal = finder_number_in(&f_, slot, &a.value);
+        return a;
+    }
+
     FINDER_CHECKED Answer<uint32_t> target(uint32_t slot, uint32_t place) const noexcept
     {
         Answer<uint32_t> a = { 0, 0 };
@@ -203,22 +212,24 @@ public:
         return first ? List<const uint8_t>(first, f_.words[FINDER_WORD_DIM]) : List<const uint8_t>();
     }
 
-    /* Gives how many were found. A k over the length of slots or of dists is refused. */
+    /* Gives how many were found. A k over the length of slots, dists or found_numbers is refused. */
     FINDER_CHECKED Answer<uint32_t> search(List<const uint8_t> query, uint32_t k, uint32_t beam, List<uint32_t> slots, List<float> dists,
-        Scratch &scratch) const noexcept
+        List<uint32_t> found_numbers, Scratch &scratch) const noexcept
     {
         Answer<uint32_t> a = { 0, 0 };
-        bool room = k <= slots.length() && k <= dists.length();
+        bool room = k <= slots.length() && k <= dists.length() && k <= found_numbers.length();
         a.refusal = finder_search_in(&f_, query.first(), query.length(), k, beam, room ? slots.first() : nullptr, room ? dists.first() : nullptr,
-            scratch.get(), &a.value);
+            room ? found_numbers.first() : nullptr, scratch.get(), &a.value);
         return a;
     }
 
     /* Gives how many were inserted. */
-    FINDER_CHECKED Answer<uint32_t> insert(List<const uint8_t> bytes, uint32_t beam, List<uint32_t> slots, Scratch &scratch) noexcept
+    FINDER_CHECKED Answer<uint32_t> insert(List<const uint8_t> bytes, List<const uint32_t> new_numbers, uint32_t beam, List<uint32_t> slots,
+        Scratch &scratch) noexcept
     {
         Answer<uint32_t> a = { 0, 0 };
-        a.refusal = finder_insert_in(&f_, bytes.first(), bytes.length(), beam, slots.first(), slots.length(), scratch.get(), &a.value);
+        a.refusal = finder_insert_in(&f_, bytes.first(), bytes.length(), new_numbers.first(), new_numbers.length(), beam, slots.first(), slots.length(),
+            scratch.get(), &a.value);
         return a;
     }
 
@@ -228,6 +239,16 @@ public:
     {
         Answer<uint32_t> a = { 0, 0 };
         a.refusal = finder_delete_in(&f_, ids.first(), ids.length(), repair_beam, repair_degree, room_for(ids, stats), scratch.get(), &a.value);
+        return a;
+    }
+
+    /* The same by figure numbers. */
+    FINDER_CHECKED Answer<uint32_t> delete_numbers(List<const uint32_t> named_numbers, uint32_t repair_beam, uint32_t repair_degree, List<finder_stats> stats,
+        Scratch &scratch) noexcept
+    {
+        Answer<uint32_t> a = { 0, 0 };
+        a.refusal = finder_delete_numbers_in(&f_, named_numbers.first(), named_numbers.length(), repair_beam, repair_degree, room_for(named_numbers, stats),
+            scratch.get(), &a.value);
         return a;
     }
 
@@ -263,6 +284,16 @@ public:
         return a;
     }
 
+    /* The same by figure numbers. */
+    FINDER_CHECKED Answer<uint32_t> guarded_delete_numbers(List<const uint32_t> named_numbers, uint32_t repair_beam, uint32_t repair_degree,
+        List<finder_stats> stats, Scratch &scratch, finder_assessment &assessment) noexcept
+    {
+        Answer<uint32_t> a = { 0, 0 };
+        a.refusal = finder_guarded_delete_numbers_in(&f_, named_numbers.first(), named_numbers.length(), repair_beam, repair_degree,
+            room_for(named_numbers, stats), scratch.get(), &a.value, &assessment);
+        return a;
+    }
+
 private:
     template <class Reading> Answer<uint32_t> read(Reading reading) const noexcept
     {
@@ -271,10 +302,10 @@ private:
         return a;
     }
 
-    /* The stats where there are as many places as ids; else none, which is refused. */
-    static finder_stats *room_for(List<const uint32_t> ids, List<finder_stats> stats) noexcept
+    /* The stats where there are as many places as names; else none, which is refused. */
+    static finder_stats *room_for(List<const uint32_t> names, List<finder_stats> stats) noexcept
     {
-        return ids.length() <= stats.length() ? stats.first() : nullptr;
+        return names.length() <= stats.length() ? stats.first() : nullptr;
     }
 
     Block block_;

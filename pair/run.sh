@@ -41,7 +41,7 @@ status=0
 cat "$out/pairs.txt"
 [ "$status" -le 1 ] || exit 1
 
-# truth: placeholder, original or -, how it was made; pairs: placeholder, original, distance, second, verdict
+# truth: placeholder, original or -, how it was made; pairs: placeholder, original, distance, second, verdict, figure number
 awk -F '\t' -v status="$status" '
     FILENAME == ARGV[1] { truth[$1] = $2; how[$1] = $3; have += $2 != "-"; all++; next }
     FILENAME == ARGV[2] { if (/^time: /) { ratio = $0; sub(/.*ratio /, "", ratio); ratio += 0 } next }

@@ -1,13 +1,13 @@
 /*
- * A first program: figures are inserted into an index, found again by a placeholder of each, one is deleted, and the index is stored and loaded. The index has
- * slots; which figure lies in which slot is the program's own table.
+ * A first program: figures are inserted into an index under their numbers, found again by a placeholder of each, one is deleted, and the index is stored and loaded.
  */
 #include "finder.h"
 
 #include <stdio.h>
 #include <stdlib.h>
 
-enum { DIM = 64, CAPACITY = 200, DEGREE = 16, FIGURES = 150, K = 3, BEAM = 64, NOBODY = -1 };
+/* The figures have the numbers FIRST to FIRST + FIGURES - 1; no figure has the number NOBODY. */
+enum { DIM = 64, CAPACITY = 200, DEGREE = 16, FIGURES = 150, FIRST = 1001, K = 3, BEAM = 64, NOBODY = 0 };
 
 /* Ends the program where a call is refused, or where something is not as it must be. */
 static void must(uint32_t refusal, const char *what)
@@ -27,9 +27,9 @@ static void expect(int fact, const char *what)
 }
 
 /* The grey values of a figure, drawn; those of its placeholder differ a little. */
-static void grey_values(int figure, int change, uint8_t values[DIM])
+static void grey_values(uint32_t number, int change, uint8_t values[DIM])
 {
-    uint32_t state = 2654435761u * (uint32_t)(figure + 1);
+    uint32_t state = 2654435761u * number;
     for (int i = 0; i < DIM; i++) {
         state = state * 1664525u + 1013904223u;
         values[i] = (uint8_t)((state >> 24) / 2 + (uint32_t)(change * (i % 3)));
@@ -38,40 +38,36 @@ static void grey_values(int figure, int change, uint8_t values[DIM])
 
 static struct finder f;
 static struct finder_scratch scratch;
-static int figure_in[CAPACITY];
 
-/* The figure whose vector is the nearest to a placeholder, or NOBODY. */
-static int find(int figure)
+/* The number of the figure whose vector is the nearest to the placeholder of figure `number`, or NOBODY. */
+static uint32_t find(uint32_t number)
 {
     uint8_t query[DIM];
-    uint32_t slots[K];
+    uint32_t slots[K], numbers[K];
     float dists[K];
     uint32_t found;
-    grey_values(figure, 2, query);
-    must(finder_search_in(&f, query, DIM, K, BEAM, slots, dists, scratch, &found), "search");
-    return found ? figure_in[slots[0]] : NOBODY;
+    grey_values(number, 2, query);
+    must(finder_search_in(&f, query, DIM, K, BEAM, slots, dists, numbers, scratch, &found), "search");
+    return found ? numbers[0] : NOBODY;
 }
 
 /* One vector to a call: vectors of one call do not find each other. */
 static void insert_all(void)
 {
-    for (int figure = 0; figure < FIGURES; figure++) {
+    for (uint32_t number = FIRST; number < FIRST + FIGURES; number++) {
         uint8_t values[DIM];
         uint32_t slot, found;
-        grey_values(figure, 0, values);
-        must(finder_insert_in(&f, values, DIM, BEAM, &slot, 1, scratch, &found), "insert");
-        figure_in[slot] = figure;
+        grey_values(number, 0, values);
+        must(finder_insert_in(&f, values, DIM, &number, 1, BEAM, &slot, 1, scratch, &found), "insert");
     }
 }
 
-/* The slot may be given to another figure from here on, so the table forgets it. */
-static void delete_one(uint32_t slot)
+static void delete_one(uint32_t number)
 {
     struct finder_stats stats;
     uint32_t found;
-    must(finder_delete_in(&f, &slot, 1, 64, 4, &stats, scratch, &found), "delete");
-    expect(found == 1, "the slot was live");
-    figure_in[slot] = NOBODY;
+    must(finder_delete_numbers_in(&f, &number, 1, 64, 4, &stats, scratch, &found), "delete");
+    expect(found == 1, "the figure was there");
 }
 
 /* The words and the block are the whole index. */
@@ -107,26 +103,26 @@ int main(void)
     work = malloc(n.scratch_bytes);
     must(finder_place(&f, block, n.block_bytes, DIM, CAPACITY, DEGREE), "place");
     must(finder_place_scratch(&scratch, work, n.scratch_bytes), "scratch");
-    must(finder_create_in(&f, 1.2f, 0, 0, NULL, 0, NULL, 0), "create");
-    for (int slot = 0; slot < CAPACITY; slot++)
-        figure_in[slot] = NOBODY;
+    must(finder_create_in(&f, 1.2f, 0, 0, NULL, 0, NULL, 0, NULL, 0), "create");
 
     insert_all();
-    for (int figure = 0; figure < FIGURES; figure++)
-        found += find(figure) == figure;
+    for (uint32_t number = FIRST; number < FIRST + FIGURES; number++)
+        found += find(number) == number;
     printf("%d figures in %zu bytes, scratch %zu: %d found by their placeholders\n", FIGURES, n.block_bytes, n.scratch_bytes, found);
     expect(found == FIGURES, "all found");
 
-    delete_one(7);
-    expect(find(7) != 7, "figure 7 is gone");
+    delete_one(1007);
+    printf("figure 1007 is deleted; nearest to its placeholder is now figure %u\n", (unsigned)find(1007));
+    expect(find(1007) != 1007 && find(1007) != NOBODY, "figure 1007 is gone");
 
     expect(file != NULL, "a file");
     store(file, block);
     free(block);
     rewind(file);
     block = load(file);
-    expect(find(8) == 8 && find(7) != 7, "the loaded index answers as the stored one");
-    printf("stored and loaded: %u live\n", (unsigned)f.words[FINDER_WORD_LIVE]);
+    expect(find(1008) == 1008 && find(1007) != 1007, "the loaded index answers as the stored one");
+    printf("stored and loaded: %u live, figures %u to %u\n", (unsigned)f.words[FINDER_WORD_LIVE], (unsigned)f.numbers[f.summary[0]],
+        (unsigned)f.numbers[f.summary[f.words[FINDER_WORD_LIVE] - 1]]);
 
     fclose(file);
     free(block);

@@ -9,28 +9,33 @@ uint32_t use(Index &index, const Index &lent, Scratch &scratch, const Scratch &s
 {
     uint32_t slots[1] = { 0 };
     float dists[1] = { 0 };
+    uint32_t numbers[1] = { 1 };
     const uint32_t ids[1] = { 0 };
-    auto a = lent.search({ query, 4 }, 1, 64, slots, dists, scratch);
+    auto a = lent.search({ query, 4 }, 1, 64, slots, dists, numbers, scratch);
 #if MISUSE == 1 // a const index is changed
-    a = lent.insert({ query, 4 }, 64, slots, scratch);
+    a = lent.insert({ query, 4 }, numbers, 64, slots, scratch);
 #elif MISUSE == 2 // an answer is not looked at
-    index.insert({ query, 4 }, 64, slots, scratch);
+    index.insert({ query, 4 }, numbers, 64, slots, scratch);
 #elif MISUSE == 3 // an index is copied
     Index copy(lent);
 #elif MISUSE == 4 // a scratch is copied
     Scratch copy(shared);
 #elif MISUSE == 5 // a scratch that others may use too
-    a = lent.search({ query, 4 }, 1, 64, slots, dists, shared);
+    a = lent.search({ query, 4 }, 1, 64, slots, dists, numbers, shared);
 #elif MISUSE == 6 // a query without its length
-    a = lent.search(query, 1, 64, slots, dists, scratch);
+    a = lent.search(query, 1, 64, slots, dists, numbers, scratch);
 #elif MISUSE == 7 // outputs are exchanged
-    a = lent.search({ query, 4 }, 1, 64, dists, slots, scratch);
+    a = lent.search({ query, 4 }, 1, 64, dists, slots, numbers, scratch);
 #elif MISUSE == 8 // an output that is const
-    a = lent.search({ query, 4 }, 1, 64, ids, dists, scratch);
+    a = lent.search({ query, 4 }, 1, 64, ids, dists, numbers, scratch);
 #elif MISUSE == 9 // an answer is taken for its value
     uint32_t live = lent.live();
 #elif MISUSE == 10 // a block that is lent for reading is written
     static_cast<uint8_t *>(lent.block())[0] = 0;
+#elif MISUSE == 11 // a vector without its number
+    a = index.insert({ query, 4 }, 64, slots, scratch);
+#elif MISUSE == 12 // a number that is no list
+    a = index.insert({ query, 4 }, numbers[0], 64, slots, scratch);
 #elif MISUSE != 0
 #error "no such mistake"
 #endif

@@ -33,11 +33,12 @@ namespace {
 
 const uint8_t bytes[] = { 0, 3, 10 };
 const uint32_t rows[] = { 1, FINDER_BLANK, 0, 2, 1, FINDER_BLANK };
+const uint32_t numbers[] = { 30, 10, 20 };
 
 Index shelf()
 {
     Index index(1, 4, 2);
-    if (index.create(1.0f, 1, 3, bytes, rows) != FINDER_OK)
+    if (index.create(1.0f, 1, 3, bytes, rows, numbers) != FINDER_OK)
         return Index();
     return index;
 }
@@ -63,6 +64,7 @@ int readings()
     Index index = shelf();
     CHECK(index && is(index.dim(), 1u) && is(index.capacity(), 4u) && is(index.degree(), 2u) && is(index.alpha(), 1.0f));
     CHECK(is(index.entry(), 1u) && is(index.live(), 3u) && is(index.mark(2), 1u) && is(index.mark(3), 0u) && is(index.slot_version(2), 0u));
+    CHECK(is(index.number(0), 30u) && is(index.number(2), 20u) && is(index.number(3), 0u) && is(index.number(4), 0u));
     CHECK(is(index.target(1, 0), 0u) && is(index.target(1, 1), 2u) && is(index.target(1, 2), static_cast<uint32_t>(FINDER_BLANK)));
     CHECK(index.vector(2).length() == 1 && *index.vector(2).first() == 10 && index.vector(3).length() == 0);
     CHECK(index.get().words[FINDER_WORD_LIVE] == 3);
@@ -75,23 +77,33 @@ int changes()
     Scratch scratch(index);
     std::vector<uint32_t> slots(2, 77);
     std::vector<float> dists(2);
+    std::vector<uint32_t> found_numbers(2, 77);
     const uint8_t two[] = { 2 };
     CHECK(scratch);
-    CHECK(index.search(two, 3, 2, slots, dists, scratch).refusal == FINDER_OVER_LIMIT);
-    CHECK(index.search(nullptr, 2, 2, slots, dists, scratch).refusal == FINDER_BAD_LENGTH);
-    CHECK(is(index.search(two, 2, 2, slots, dists, scratch), 2u) && slots[0] == 1 && dists[0] == 1.0f && slots[1] == 0 && dists[1] == 4.0f);
-    CHECK(is(index.search({ two, 1 }, 1, 2, { slots.data(), 1 }, { dists.data(), 1 }, scratch), 1u) && slots[0] == 1);
-    CHECK(index.insert(bytes, 2, slots, scratch).refusal == FINDER_BAD_LENGTH);
+    CHECK(index.search(two, 3, 2, slots, dists, found_numbers, scratch).refusal == FINDER_OVER_LIMIT);
+    CHECK(index.search(two, 2, 2, slots, dists, { found_numbers.data(), 1 }, scratch).refusal == FINDER_OVER_LIMIT);
+    CHECK(index.search(nullptr, 2, 2, slots, dists, found_numbers, scratch).refusal == FINDER_BAD_LENGTH);
+    CHECK(is(index.search(two, 2, 2, slots, dists, found_numbers, scratch), 2u) && slots[0] == 1 && dists[0] == 1.0f && slots[1] == 0 && dists[1] == 4.0f);
+    CHECK(found_numbers[0] == 10 && found_numbers[1] == 30);
+    CHECK(is(index.search({ two, 1 }, 1, 2, { slots.data(), 1 }, { dists.data(), 1 }, { found_numbers.data(), 1 }, scratch), 1u) && slots[0] == 1);
+    CHECK(index.insert(bytes, numbers, 2, slots, scratch).refusal == FINDER_BAD_LENGTH);
     slots.resize(3);
-    CHECK(index.insert(bytes, 2, slots, scratch).refusal == FINDER_FULL);
-    CHECK(std::strcmp(index.insert(bytes, 2, slots, scratch).text(), finder_refusal_text(FINDER_FULL)) == 0);
+    CHECK(index.insert(bytes, { numbers, 2 }, 2, slots, scratch).refusal == FINDER_BAD_LENGTH);
+    CHECK(index.insert(bytes, numbers, 2, slots, scratch).refusal == FINDER_FULL);
+    CHECK(std::strcmp(index.insert(bytes, numbers, 2, slots, scratch).text(), finder_refusal_text(FINDER_FULL)) == 0);
     const uint8_t six[] = { 6 };
-    CHECK(is(index.insert(six, 2, slots, scratch), 1u) && slots[0] == 3 && is(index.live(), 4u));
+    const uint32_t forty[] = { 40 };
+    CHECK(index.insert(six, { numbers, 1 }, 2, slots, scratch).refusal == FINDER_BAD_NUMBER);
+    CHECK(is(index.insert(six, forty, 2, slots, scratch), 1u) && slots[0] == 3 && is(index.live(), 4u) && is(index.number(3), 40u));
     const uint32_t ids[] = { 1, 9, 1 };
     std::array<finder_stats, 3> stats;
     CHECK(index.delete_slots(ids, 2, 1, { stats.data(), 2 }, scratch).refusal == FINDER_BAD_LENGTH);
     CHECK(is(index.delete_slots(ids, 2, 1, stats, scratch), 1u) && stats[0].outgoing_seeds == 2 && is(index.entry(), 0u));
     CHECK(is(index.delete_slots(nullptr, 2, 1, nullptr, scratch), 0u));
+    const uint32_t named[] = { 10, 40, 0 };
+    CHECK(index.delete_numbers(named, 2, 1, { stats.data(), 2 }, scratch).refusal == FINDER_BAD_LENGTH);
+    CHECK(is(index.delete_numbers(named, 2, 1, stats, scratch), 1u) && is(index.number(3), 0u) && is(index.live(), 2u));
+    CHECK(is(index.delete_numbers(nullptr, 2, 1, nullptr, scratch), 0u));
     return 0;
 }
 
@@ -112,6 +124,13 @@ int guard()
     CHECK(is(index.guarded_delete(one, 2, 1, stats, scratch, assessment), 0u) && assessment.report.admitted == 0 && is(index.live(), 3u));
     CHECK(index.guarded_delete(two, 2, 1, nullptr, scratch, assessment).refusal == FINDER_BAD_LENGTH);
     CHECK(is(index.guarded_delete(two, 2, 1, stats, scratch, assessment), 1u) && assessment.report.admitted == 1 && is(index.live(), 2u));
+    index = shelf();
+    CHECK(index.guarded_delete_numbers({ numbers, 1 }, 2, 1, stats, scratch, assessment).refusal == FINDER_GUARD_OFF);
+    CHECK(index.guard_enable(2, 0, 4, 4, scratch));
+    CHECK(index.guarded_delete_numbers(numbers, 2, 1, stats, scratch, assessment).refusal == FINDER_BAD_LENGTH);
+    CHECK(is(index.guarded_delete_numbers({ numbers + 1, 1 }, 2, 1, stats, scratch, assessment), 0u) && assessment.report.admitted == 0);
+    CHECK(is(index.guarded_delete_numbers({ numbers + 2, 1 }, 2, 1, stats, scratch, assessment), 1u) && assessment.report.admitted == 1);
+    CHECK(is(index.number(2), 0u) && is(index.live(), 2u));
     return 0;
 }
 
@@ -131,12 +150,12 @@ int moves()
     Scratch scratch(index);
     Scratch taken(std::move(scratch));
     const uint8_t two[] = { 2 };
-    uint32_t slots[1];
+    uint32_t slots[1], found_numbers[1];
     float dists[1];
-    CHECK(!scratch && index.search(two, 1, 2, slots, dists, scratch).refusal == FINDER_SHORT_SCRATCH);
-    CHECK(taken && is(index.search(two, 1, 2, slots, dists, taken), 1u));
+    CHECK(!scratch && index.search(two, 1, 2, slots, dists, found_numbers, scratch).refusal == FINDER_SHORT_SCRATCH);
+    CHECK(taken && is(index.search(two, 1, 2, slots, dists, found_numbers, taken), 1u));
     scratch = std::move(taken);
-    CHECK(scratch && !taken && is(index.search(two, 1, 2, slots, dists, scratch), 1u));
+    CHECK(scratch && !taken && is(index.search(two, 1, 2, slots, dists, found_numbers, scratch), 1u));
     return 0;
 }
 
@@ -149,10 +168,10 @@ int threads()
     CHECK(filling && scratch && filling.create(1.2f) == FINDER_OK);
     for (uint32_t i = 0; i < count; i++) {
         std::array<uint8_t, dim> grey;
-        std::array<uint32_t, 1> slot;
+        std::array<uint32_t, 1> slot, number = { { 100 + i } };
         for (uint32_t j = 0; j < dim; j++)
             grey[j] = static_cast<uint8_t>(i * 37 + j * j * 11);
-        CHECK(is(filling.insert(grey, 16, slot, scratch), 1u) && slot[0] == i);
+        CHECK(is(filling.insert(grey, number, 16, slot, scratch), 1u) && slot[0] == i);
     }
     const Index &index = filling;
     std::array<uint32_t, 4> sums = { { 0, 0, 0, 0 } };
@@ -161,8 +180,9 @@ int threads()
         for (uint32_t i = 0; i < asked; i++) {
             std::array<uint32_t, 5> slots = { { 0, 0, 0, 0, 0 } };
             std::array<float, 5> dists;
-            auto near = index.search(index.vector(i), 5, 16, slots, dists, own);
-            if (!near || near.value != 5 || dists[0] != 0)
+            std::array<uint32_t, 5> found_numbers = { { 0, 0, 0, 0, 0 } };
+            auto near = index.search(index.vector(i), 5, 16, slots, dists, found_numbers, own);
+            if (!near || near.value != 5 || dists[0] != 0 || found_numbers[4] != 100 + slots[4])
                 return;
             for (uint32_t slot : slots)
                 *sum = *sum * 31 + slot;

@@ -12,8 +12,9 @@ const USAGE: &str = "\
 pair ORIGINALS PLACEHOLDERS [--report FILE]
 
 Finds for each picture of the folder PLACEHOLDERS the picture of the folder ORIGINALS that it was made of: PNG, JPEG and PNM. Prints a line for each,
-with tabs between: placeholder, original, distance, distance of the second, and \"sure\", \"not sure: ..\" or \"skipped\". What is skipped, and why, the
-originals that are not found by their own picture, counts and times go to standard error.
+with tabs between: placeholder, original, distance, distance of the second, \"sure\", \"not sure: ..\" or \"skipped\", and the original's figure number: the
+number that its file name ends in, where no other has it, else a free one. What is skipped, and why, the originals that are not found by their own picture,
+counts and times go to standard error.
 
   --report FILE    also writes an HTML file that shows each pair side by side, those that are not sure first
 

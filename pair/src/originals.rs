@@ -18,7 +18,7 @@ pub const SETTINGS: Settings = Settings { degree: 64, alpha: 1.2, insert_beam: 1
 /// The most originals that one index holds.
 pub const MOST: usize = MAX_CAPACITY as usize;
 
-/// The originals by number. Those whose grey values are all equal share one slot, so that no two slots are at distance 0.
+/// The originals. Those whose grey values are all equal share one slot, with the figure number of the first, so that no two slots are at distance 0.
 pub struct Originals {
     index: Finder,
     scratch: Scratch,
@@ -34,6 +34,8 @@ pub struct Originals {
 pub struct Found {
     /// The nearest original; of several that look the same, the first.
     pub original: usize,
+    /// Its figure number.
+    pub number: u32,
     pub distance: u32,
     /// How many originals look the same as the nearest, itself counted.
     pub alike: usize,
@@ -107,14 +109,14 @@ impl Originals {
         Ok(Originals { index, scratch, settings, slots: HashMap::new(), alike: vec![], missed: vec![] })
     }
 
-    /// Adds an original. One vector to a call: vectors of one call would not find each other.
-    pub fn add(&mut self, original: usize, grey: &Grey) -> Result<(), Error> {
+    /// Adds an original with its figure number. One vector to a call: vectors of one call would not find each other.
+    pub fn add(&mut self, original: usize, number: u32, grey: &Grey) -> Result<(), Error> {
         if let Some(&slot) = self.slots.get(grey) {
             self.alike[slot as usize].push(original);
             return Ok(());
         }
         // Nothing is ever deleted, so the slots are 0, 1, 2 and so on.
-        let slot = self.index.insert_one(grey, self.settings.insert_beam, &mut self.scratch)?;
+        let slot = self.index.insert_one(grey, number, self.settings.insert_beam, &mut self.scratch)?;
         self.slots.insert(*grey, slot);
         self.alike.push(vec![original]);
         Ok(())
@@ -129,8 +131,11 @@ impl Originals {
     pub fn find(&mut self, grey: &Grey) -> Result<Option<Found>, Error> {
         let mut hits = self.index.search(grey, 2, self.settings.search_beam, &mut self.scratch)?;
         for &slot in &self.missed {
-            if hits.iter().all(|hit| hit.slot != slot) {
-                hits.extend(self.index.vector(slot).map(|vector| Hit { slot, distance: distance(grey, vector) as f32 }));
+            if hits.iter().any(|hit| hit.slot == slot) {
+                continue;
+            }
+            if let (Some(vector), Some(number)) = (self.index.vector(slot), self.index.number(slot)?) {
+                hits.push(Hit { slot, number, distance: distance(grey, vector) as f32 });
             }
         }
         // Of equals the lower slot first, as a search gives them.
@@ -144,7 +149,7 @@ impl Originals {
             Some(&other) => Some((other, distance)),
             None => hits.get(1).map(|hit| (self.alike[hit.slot as usize][0], hit.distance as u32)),
         };
-        Ok(Some(Found { original: same[0], distance, alike: same.len(), second }))
+        Ok(Some(Found { original: same[0], number: first.number, distance, alike: same.len(), second }))
     }
 
     /// Searches every original; gives those that do not find themselves, and has them compared directly from now on.
@@ -196,42 +201,43 @@ mod tests {
     fn finds_and_judges() {
         let mut originals = Originals::new(4, SETTINGS).unwrap();
         assert_eq!(originals.find(&grey(1)), Ok(None));
-        originals.add(10, &grey(1)).unwrap();
+        originals.add(10, 110, &grey(1)).unwrap();
         let mut near = grey(1);
         near[0] ^= 1;
         let found = originals.find(&near).unwrap().unwrap();
-        assert_eq!(found, Found { original: 10, distance: 1, alike: 1, second: None });
+        assert_eq!(found, Found { original: 10, number: 110, distance: 1, alike: 1, second: None });
         assert_eq!(Verdict::of(&near, &found, 1), Verdict::Sure);
         assert_eq!(Verdict::of(&near, &found, 2), Verdict::SecondMissing);
         assert_eq!(Verdict::of(&[128; DIM], &originals.find(&[128; DIM]).unwrap().unwrap(), 1), Verdict::Unlike);
 
-        originals.add(11, &grey(2)).unwrap();
+        originals.add(11, 111, &grey(2)).unwrap();
         let found = originals.find(&near).unwrap().unwrap();
         assert_eq!((found.original, found.second.unwrap().0), (10, 11));
         assert_eq!(Verdict::of(&near, &found, 2), Verdict::Sure);
 
         let mut twin = grey(1);
         twin[0] ^= 3;
-        originals.add(12, &twin).unwrap();
+        originals.add(12, 112, &twin).unwrap();
         let found = originals.find(&near).unwrap().unwrap();
         assert_eq!((found.original, found.second), (10, Some((12, 4))));
         assert_eq!(Verdict::of(&near, &found, 3), Verdict::SecondNear);
 
-        originals.add(13, &grey(1)).unwrap();
+        originals.add(13, 113, &grey(1)).unwrap();
         let found = originals.find(&grey(1)).unwrap().unwrap();
-        assert_eq!(found, Found { original: 10, distance: 0, alike: 2, second: Some((13, 0)) });
+        assert_eq!(found, Found { original: 10, number: 110, distance: 0, alike: 2, second: Some((13, 0)) });
         assert_eq!(Verdict::of(&grey(1), &found, 3), Verdict::Alike(2));
         assert_eq!((originals.different(), originals.missed()), (3, Ok(vec![])));
-        originals.add(14, &grey(5)).unwrap();
-        assert_eq!(originals.add(15, &grey(6)), Err(Error::Full));
+        assert_eq!(originals.add(14, 110, &grey(5)), Err(Error::BadNumber));
+        originals.add(14, 114, &grey(5)).unwrap();
+        assert_eq!(originals.add(15, 115, &grey(6)), Err(Error::Full));
     }
 
     /// A blank placeholder is never sure, not even of a blank original.
     #[test]
     fn blank_sheets() {
         let mut originals = Originals::new(2, SETTINGS).unwrap();
-        originals.add(0, &[255; DIM]).unwrap();
-        originals.add(1, &grey(1)).unwrap();
+        originals.add(0, 100, &[255; DIM]).unwrap();
+        originals.add(1, 101, &grey(1)).unwrap();
         let found = originals.find(&[255; DIM]).unwrap().unwrap();
         assert_eq!((found.original, found.distance), (0, 0));
         assert_eq!(Verdict::of(&[255; DIM], &found, 2), Verdict::Unlike);
@@ -242,7 +248,7 @@ mod tests {
     fn names_what_is_missed() {
         let mut originals = Originals::new(3, SETTINGS).unwrap();
         for (original, seed) in [(0, 1), (1, 2), (2, 3), (7, 3)] {
-            originals.add(original, &grey(seed)).unwrap();
+            originals.add(original, 100 + original as u32, &grey(seed)).unwrap();
         }
         let mut memory = originals.index.clone().into_memory();
         for target in &mut memory.targets {
@@ -254,7 +260,7 @@ mod tests {
         assert_ne!(originals.find(&grey(3)).unwrap().unwrap().original, 2);
         assert_eq!(originals.missed(), Ok(vec![Missed { original: 2, reached: false }, Missed { original: 7, reached: false }]));
         // From now on they are compared directly.
-        assert_eq!(originals.find(&grey(3)), Ok(Some(Found { original: 2, distance: 0, alike: 2, second: Some((7, 0)) })));
+        assert_eq!(originals.find(&grey(3)), Ok(Some(Found { original: 2, number: 102, distance: 0, alike: 2, second: Some((7, 0)) })));
         let second = originals.find(&grey(2)).unwrap().unwrap().second.unwrap();
         assert_eq!(second.1, distance(&grey(2), &grey(1)).min(distance(&grey(2), &grey(3))));
     }

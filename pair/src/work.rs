@@ -1,7 +1,7 @@
 //! The work of `pair`: originals are read and inserted, the index checks itself, placeholders are read and searched, and the report is written.
 
 use crate::folder::{self, Entry};
-use crate::names::shown;
+use crate::names::{figure_numbers, shown};
 use crate::originals::{Found, Originals, Verdict, MOST, SETTINGS};
 use crate::picture::{self, Picture};
 use crate::report::{self, Row, Shown};
@@ -109,12 +109,15 @@ impl Work {
 
     fn insert_all(&mut self, folder: &Path, entries: &[Entry]) -> Result<(), String> {
         let bar = progress("originals", entries.len());
+        let plain = entries.iter().filter(|entry| entry.skipped.is_none());
+        let mut numbers = figure_numbers(plain.map(|entry| entry.name.as_os_str())).into_iter();
         for entry in entries {
             let name = shown(&entry.name);
+            let number = if entry.skipped.is_none() { numbers.next() } else { None };
             match self.read(folder, entry) {
                 Ok(picture) => {
                     let start = Instant::now();
-                    self.originals.add(self.named.len(), &picture.grey).map_err(refused)?;
+                    self.originals.add(self.named.len(), number.unwrap_or_default(), &picture.grey).map_err(refused)?;
                     self.times.inserting += start.elapsed();
                     self.named.push(Named { name, thumb: picture.thumb });
                 }
@@ -150,12 +153,12 @@ impl Work {
         self.times.searching += start.elapsed();
         let verdict = found.map(|found| Verdict::of(&picture.grey, &found, self.originals.different()));
         let pairing = Pairing { placeholder: Named { name, thumb: picture.thumb }, found, verdict };
-        let (original, distance) = match found {
-            Some(found) => (self.named[found.original].name.as_str(), found.distance.to_string()),
-            None => ("-", "-".into()),
+        let (original, distance, number) = match found {
+            Some(found) => (self.named[found.original].name.as_str(), found.distance.to_string(), found.number.to_string()),
+            None => ("-", "-".into(), "-".into()),
         };
         let second = found.and_then(|found| found.second).map_or("-".into(), |(_, distance)| distance.to_string());
-        let line = format!("{}\t{original}\t{distance}\t{second}\t{}", pairing.placeholder.name, pairing.verdict());
+        let line = format!("{}\t{original}\t{distance}\t{second}\t{}\t{number}", pairing.placeholder.name, pairing.verdict());
         self.pairings.push(pairing);
         Ok(line)
     }
@@ -169,7 +172,7 @@ impl Work {
                 Ok(picture) => self.search(name, picture)?,
                 Err(reason) => {
                     self.complain(&bar, format!("skipped placeholder {name}: {reason}"));
-                    format!("{name}\t-\t-\t-\tskipped")
+                    format!("{name}\t-\t-\t-\tskipped\t-")
                 }
             };
             writeln!(out, "{line}").map_err(not_written)?;

@@ -58,9 +58,11 @@ fn pairs_of_every_format() {
     }
     let (status, lines, said) = told(run(&both, &[]));
     assert_eq!((status, lines.len()), (0, 3), "{said}");
-    for (number, line) in lines.iter().enumerate() {
+    // 0 is no figure number, so o0 gets the lowest that is free.
+    for (number, (line, figure)) in lines.iter().zip(["3", "1", "2"]).enumerate() {
         let fields = fields(line);
         assert_eq!((fields[0], fields[1], fields[4]), (&*format!("p{number}"), &*format!("o{number}"), "sure"));
+        assert_eq!((fields[5], fields.len()), (figure, 6));
         assert!(4 * fields[2].parse::<u32>().unwrap() < fields[3].parse::<u32>().unwrap());
     }
     assert!(said.contains("self-check: 3 of 3 originals find themselves") && said.contains("ratio"));
@@ -89,7 +91,7 @@ fn bad_files_are_named_and_nothing_else_is_lost() {
     assert_eq!((status, lines.len()), (1, 12), "{said}");
     let skipped = ["cut.jpg", "cut.png", "empty.png", "notes.txt", "nothing.pgm", "huge.pgm", "odd\\xff\\n.png", "folder", "link"];
     for name in skipped {
-        assert!(lines.contains(&format!("{name}\t-\t-\t-\tskipped")), "{name}: {lines:?}");
+        assert!(lines.contains(&format!("{name}\t-\t-\t-\tskipped\t-")), "{name}: {lines:?}");
         assert!(said.contains(&format!("skipped original {name}: ")) && said.contains(&format!("skipped placeholder {name}: ")), "{name}: {said}");
     }
     for name in ["good", "other", "whole"] {
@@ -120,7 +122,7 @@ fn changed_bytes() {
     }
     let (status, lines, said) = told(run(&both, &[]));
     assert_eq!((status, lines.len()), (1, 600), "{said}");
-    assert!(lines.iter().any(|line| line.ends_with("skipped")) && lines.iter().any(|line| !line.ends_with("skipped")));
+    assert!(lines.iter().any(|line| line.ends_with("skipped\t-")) && lines.iter().any(|line| !line.ends_with("skipped\t-")));
     assert!(!said.contains("panicked"), "{said}");
 }
 
@@ -135,8 +137,8 @@ fn twins_and_strangers_are_not_sure() {
     save(&both.1, "of-none", &picture(77, 100, 80), ImageFormat::Png);
     let (status, lines, _) = told(run(&both, &[]));
     assert_eq!(status, 1);
-    assert_eq!(lines[0], "of-a-or-b\ta\t0\t0\tnot sure: 2 originals look the same");
-    assert!(lines[1].starts_with("of-c\tc\t0\t") && lines[1].ends_with("\tsure"));
+    assert_eq!(lines[0], "of-a-or-b\ta\t0\t0\tnot sure: 2 originals look the same\t1");
+    assert!(lines[1].starts_with("of-c\tc\t0\t") && lines[1].ends_with("\tsure\t3"));
     assert!(lines[2].starts_with("of-none\t") && lines[2].contains("not sure: "));
 }
 
@@ -167,7 +169,7 @@ fn nothing_to_pair_with() {
     assert_eq!(told(run(&both, &[])).0, 0);
     save(&both.1, "alone", &picture(1, 50, 50), ImageFormat::Png);
     let (status, lines, _) = told(run(&both, &[]));
-    assert_eq!((status, lines), (1, vec!["alone\t-\t-\t-\tnot sure: there is no original".to_string()]));
+    assert_eq!((status, lines), (1, vec!["alone\t-\t-\t-\tnot sure: there is no original\t-".to_string()]));
 }
 
 #[test]

@@ -2,9 +2,10 @@
 
 use crate::{raw, Error, BLANK};
 
-/// What an index is made of: its sizes, and the vectors and rows of its first `count` slots.
+/// What an index is made of: its sizes, and the vectors, rows and figure numbers of its first `count` slots.
 ///
-/// `bytes` has the vectors, one after the other, and `rows` the references, `degree` for each given slot, each [`BLANK`] or a given slot.
+/// `bytes` has the vectors, one after the other, `rows` the references, `degree` for each given slot, each [`BLANK`] or a given slot, and `numbers` the figure
+/// numbers, one for each given slot.
 #[derive(Clone, Copy, Debug)]
 pub struct Making<'a> {
     /// How many bytes a vector has: 1 to 256.
@@ -23,6 +24,8 @@ pub struct Making<'a> {
     pub bytes: &'a [u8],
     /// Their rows.
     pub rows: &'a [u32],
+    /// Their figure numbers: 1 to 4,294,967,295, no two equal.
+    pub numbers: &'a [u32],
 }
 
 impl Making<'_> {
@@ -36,6 +39,7 @@ impl Making<'_> {
             count: self.count,
             bytes: self.bytes,
             rows: self.rows,
+            numbers: self.numbers,
         }
     }
 }
@@ -88,6 +92,8 @@ impl Scratch {
 pub struct Hit {
     /// The slot.
     pub slot: u32,
+    /// Its figure number.
+    pub number: u32,
     /// The sum of squared differences, a whole number below 2^24.
     pub distance: f32,
 }
@@ -151,7 +157,7 @@ impl GuardStatus {
 pub struct Report {
     /// Whether the delete is admitted.
     pub admitted: bool,
-    /// How many live slots the ids name.
+    /// How many live slots are named.
     pub requested: u32,
     /// Where the trial walks start; none where no live slot was named, or none stays.
     pub entry: Option<u32>,

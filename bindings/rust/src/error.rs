@@ -25,9 +25,10 @@ pub enum Error {
     TooMany,
     /// 5: a given row names neither blank nor a given slot, or the entry is not given (0 where none is given).
     BadGiven,
-    /// 6: the live count differs from the marks, the entry is not below capacity, or the guard is on with a setting or a pool outside its range.
+    /// 6: the live count differs from the marks, numbers or summary are not as they must be, the entry is not below capacity, or the guard is on with a setting
+    /// or a pool outside its range.
     BadIndex,
-    /// 7: a beam, a repair degree or a setting of the guard over its limit, or too many ids.
+    /// 7: a beam, a repair degree or a setting of the guard over its limit, or too many slots or numbers named.
     OverLimit,
     /// 8: the scratch is shorter than the index asks for.
     ShortScratch,
@@ -41,6 +42,8 @@ pub enum Error {
     NoLive,
     /// 13: one slot alone is live, so there is no landmark beside the entry.
     NoLandmark,
+    /// 15: a number to be given is 0, carried by a live slot already, or twice in the list.
+    BadNumber,
     /// Any other number, which this crate does not know: the archive is newer than the crate.
     Unknown(u32),
 }
@@ -63,6 +66,7 @@ impl Error {
             11 => Error::GuardOff,
             12 => Error::NoLive,
             13 => Error::NoLandmark,
+            15 => Error::BadNumber,
             other => Error::Unknown(other),
         })
     }
@@ -83,6 +87,7 @@ impl Error {
             Error::GuardOff => 11,
             Error::NoLive => 12,
             Error::NoLandmark => 13,
+            Error::BadNumber => 15,
             Error::Unknown(other) => other,
         }
     }
@@ -94,14 +99,15 @@ impl Error {
             Error::BadLength => "a slice has another length than it must",
             Error::TooMany => "more vectors are given than there are slots",
             Error::BadGiven => "a given row or the entry names a slot that is not given",
-            Error::BadIndex => "live count, entry or guard do not fit the memory",
-            Error::OverLimit => "a beam, a repair degree, a setting of the guard or the number of ids is over its limit",
+            Error::BadIndex => "live count, numbers, summary, entry or guard do not fit the memory",
+            Error::OverLimit => "a beam, a repair degree, a setting of the guard or the length of a list of names is over its limit",
             Error::ShortScratch => "the scratch is too short",
             Error::BadBatch => "the bytes to be inserted are no whole number of vectors",
             Error::Full => "fewer slots are free than vectors are to be inserted",
             Error::GuardOff => "the guard is off",
             Error::NoLive => "no slot is live",
             Error::NoLandmark => "one slot alone is live",
+            Error::BadNumber => "a number to be given is 0, carried by a live slot already, or twice in the list",
             Error::Unknown(_) => "for a reason that this crate does not know",
         }
     }

@@ -12,18 +12,22 @@
 //! // Vectors of 4 bytes, at most 100 of them, rows of 8 references, alpha 1.2.
 //! let mut index = Finder::new(4, 100, 8, 1.2)?;
 //! let mut scratch = index.scratch()?;
-//! let sky = index.insert_one(&[200, 210, 220, 230], 64, &mut scratch)?;
-//! let sea = index.insert_one(&[20, 40, 60, 80], 64, &mut scratch)?;
+//! // Two vectors with their figure numbers.
+//! index.insert_one(&[200, 210, 220, 230], 1007, 64, &mut scratch)?;
+//! index.insert_one(&[20, 40, 60, 80], 1008, 64, &mut scratch)?;
 //!
 //! let hits = index.search(&[22, 40, 60, 80], 2, 64, &mut scratch)?;
-//! assert_eq!((hits[0].slot, hits[0].distance), (sea, 4.0));
-//! assert_eq!(hits[1].slot, sky);
+//! assert_eq!((hits[0].number, hits[0].distance), (1008, 4.0));
+//! assert_eq!(hits[1].number, 1007);
 //!
-//! index.delete(&[sea], 64, 4, &mut scratch)?;
+//! index.delete_numbers(&[1008], 64, 4, &mut scratch)?;
 //! assert_eq!(index.live()?, 1);
 //! # Ok(())
 //! # }
 //! ```
+//!
+//! Each live slot carries a figure number, 1 to 4,294,967,295, that no other has. After a delete, a slot may be given to another vector; a number stays with its
+//! vector as long as that is in the index.
 //!
 //! New vectors are better inserted one to a call ([`Finder::insert_one`]): those of one call do not find each other.
 //!
@@ -57,7 +61,7 @@ pub type Words = [u32; INDEX_WORDS];
 /// The version of the archive that is linked: 10,000 for each major version, 100 for each minor one and 1 for each patch.
 ///
 /// ```
-/// assert_eq!(finder::version() / 10_000, 1);
+/// assert_eq!(finder::version() / 10_000, 2);
 /// ```
 pub fn version() -> u32 {
     raw::version()
@@ -67,7 +71,7 @@ pub fn version() -> u32 {
 pub const INDEX_WORDS: usize = 12;
 /// The length of the landmark pool.
 pub const POOL: usize = 1024;
-/// No slot: an empty place of a row.
+/// No slot: an empty place of a row or of the summary.
 pub const BLANK: u32 = u32::MAX;
 /// The largest dim.
 pub const MAX_DIM: u32 = 256;
@@ -83,7 +87,7 @@ pub const MAX_LANDMARKS: u32 = 64;
 pub const MAX_MULTIPLIER: u32 = 16;
 /// The largest sample of the guard.
 pub const MAX_SAMPLE: u32 = 65_536;
-/// The most ids that a delete names.
+/// The most slots or numbers that a delete names.
 pub const MAX_IDS: usize = 256;
 /// The largest repair beam of a delete.
 pub const MAX_REPAIR_BEAM: u32 = 256;

@@ -6,7 +6,7 @@ use crate::{
 };
 use std::fmt;
 
-/// The raw memory of an index: its words and six slices, as include/finder.h describes them.
+/// The raw memory of an index: its words and eight slices, as include/finder.h describes them.
 #[derive(Clone, PartialEq, Eq)]
 pub struct Memory {
     /// The words.
@@ -23,6 +23,10 @@ pub struct Memory {
     pub marks: Vec<u8>,
     /// The landmark pool: [`POOL`].
     pub pool: Vec<u32>,
+    /// The figure number of each slot, 0 where it is dead: capacity.
+    pub numbers: Vec<u32>,
+    /// The live slots by rising number, then [`BLANK`](crate::BLANK): capacity.
+    pub summary: Vec<u32>,
 }
 
 impl Memory {
@@ -37,6 +41,8 @@ impl Memory {
             versions: vec![0; capacity],
             marks: vec![0; capacity],
             pool: vec![0; POOL],
+            numbers: vec![0; capacity],
+            summary: vec![0; capacity],
         }
     }
 
@@ -48,6 +54,8 @@ impl Memory {
             versions: &mut self.versions,
             marks: &mut self.marks,
             pool: &mut self.pool,
+            numbers: &mut self.numbers,
+            summary: &mut self.summary,
         };
         (&mut self.words, slices)
     }
@@ -61,6 +69,8 @@ impl Memory {
             versions: &self.versions,
             marks: &self.marks,
             pool: &self.pool,
+            numbers: &self.numbers,
+            summary: &self.summary,
         };
         View::new(&self.words, slices)
     }
@@ -97,20 +107,21 @@ impl Finder {
     /// # }
     /// ```
     pub fn new(dim: u32, capacity: u32, degree: u32, alpha: f32) -> Result<Finder, Error> {
-        Finder::create(&Making { dim, capacity, degree, alpha, entry: 0, count: 0, bytes: &[], rows: &[] })
+        Finder::create(&Making { dim, capacity, degree, alpha, entry: 0, count: 0, bytes: &[], rows: &[], numbers: &[] })
     }
 
-    /// An index of the vectors and rows that another program built.
+    /// An index of the vectors and rows that another program built, with a figure number for each vector.
     ///
     /// ```
     /// use finder::{Finder, Hit, Making, BLANK};
     ///
     /// # fn main() -> Result<(), finder::Error> {
     /// let rows = [1, BLANK, 0, 2, 1, BLANK];
-    /// let given = Making { dim: 1, capacity: 4, degree: 2, alpha: 1.0, entry: 1, count: 3, bytes: &[0, 3, 10], rows: &rows };
+    /// let numbers = [30, 10, 20];
+    /// let given = Making { dim: 1, capacity: 4, degree: 2, alpha: 1.0, entry: 1, count: 3, bytes: &[0, 3, 10], rows: &rows, numbers: &numbers };
     /// let index = Finder::create(&given)?;
     /// let hits = index.search(&[2], 2, 2, &mut index.scratch()?)?;
-    /// assert_eq!(hits, [Hit { slot: 1, distance: 1.0 }, Hit { slot: 0, distance: 4.0 }]);
+    /// assert_eq!(hits, [Hit { slot: 1, number: 10, distance: 1.0 }, Hit { slot: 0, number: 30, distance: 4.0 }]);
     /// # Ok(())
     /// # }
     /// ```
@@ -209,6 +220,11 @@ impl Finder {
         self.view().slot_version(slot)
     }
 
+    /// The figure number of a live slot; none where it is dead or outside.
+    pub fn number(&self, slot: u32) -> Result<Option<u32>, Error> {
+        self.view().number(slot)
+    }
+
     /// The target at a place among the live ones of a slot's row, if there is one.
     pub fn target(&self, slot: u32, place: u32) -> Result<Option<u32>, Error> {
         self.view().target(slot, place)
@@ -224,6 +240,11 @@ impl Finder {
         self.view().live_slots()
     }
 
+    /// The live slots by rising figure number: [`View::slots_by_number`].
+    pub fn slots_by_number(&self) -> Result<&[u32], Error> {
+        self.view().slots_by_number()
+    }
+
     /// The live targets of a slot's row, in the order of the row.
     pub fn neighbours(&self, slot: u32) -> Result<Neighbours<'_>, Error> {
         self.view().neighbours(slot)
@@ -234,24 +255,26 @@ impl Finder {
         self.view().search(query, k, beam, scratch)
     }
 
-    /// Inserts the vectors of `bytes` into the lowest free slots, and gives the slots: [`ViewMut::insert`].
+    /// Inserts the vectors of `bytes`, each with its figure number, into the lowest free slots, and gives the slots: [`ViewMut::insert`].
     ///
     /// ```
     /// # fn main() -> Result<(), finder::Error> {
     /// let mut index = finder::Finder::new(2, 4, 2, 1.0)?;
     /// let mut scratch = index.scratch()?;
-    /// assert_eq!(index.insert(&[1, 2, 3, 4], 8, &mut scratch)?, [0, 1]);
-    /// assert_eq!(index.insert(&[1, 2, 3], 8, &mut scratch), Err(finder::Error::BadBatch));
+    /// assert_eq!(index.insert(&[1, 2, 3, 4], &[30, 10], 8, &mut scratch)?, [0, 1]);
+    /// assert_eq!(index.number(1)?, Some(10));
+    /// assert_eq!(index.insert(&[1, 2, 3], &[20], 8, &mut scratch), Err(finder::Error::BadBatch));
+    /// assert_eq!(index.insert(&[1, 2], &[30], 8, &mut scratch), Err(finder::Error::BadNumber));
     /// # Ok(())
     /// # }
     /// ```
-    pub fn insert(&mut self, bytes: &[u8], beam: u32, scratch: &mut Scratch) -> Result<Vec<u32>, Error> {
-        self.view_mut().insert(bytes, beam, scratch)
+    pub fn insert(&mut self, bytes: &[u8], numbers: &[u32], beam: u32, scratch: &mut Scratch) -> Result<Vec<u32>, Error> {
+        self.view_mut().insert(bytes, numbers, beam, scratch)
     }
 
-    /// Inserts one vector into the lowest free slot, and gives the slot: [`ViewMut::insert_one`].
-    pub fn insert_one(&mut self, vector: &[u8], beam: u32, scratch: &mut Scratch) -> Result<u32, Error> {
-        self.view_mut().insert_one(vector, beam, scratch)
+    /// Inserts one vector with its figure number into the lowest free slot, and gives the slot: [`ViewMut::insert_one`].
+    pub fn insert_one(&mut self, vector: &[u8], number: u32, beam: u32, scratch: &mut Scratch) -> Result<u32, Error> {
+        self.view_mut().insert_one(vector, number, beam, scratch)
     }
 
     /// Deletes the live slots that the ids name and repairs the rows around them: [`ViewMut::delete`].
@@ -260,7 +283,7 @@ impl Finder {
     /// # fn main() -> Result<(), finder::Error> {
     /// # let mut index = finder::Finder::new(1, 4, 2, 1.0)?;
     /// # let mut scratch = index.scratch()?;
-    /// # for value in [0, 3, 10] { index.insert_one(&[value], 8, &mut scratch)?; }
+    /// # for (value, number) in [(0, 30), (3, 10), (10, 20)] { index.insert_one(&[value], number, 8, &mut scratch)?; }
     /// // Slot 9 is outside, and a slot is deleted once.
     /// let stats = index.delete(&[1, 9, 1], 64, 4, &mut scratch)?;
     /// assert_eq!((stats.len(), stats[0].outgoing_seeds), (1, 2));
@@ -270,6 +293,23 @@ impl Finder {
     /// ```
     pub fn delete(&mut self, ids: &[u32], repair_beam: u32, repair_degree: u32, scratch: &mut Scratch) -> Result<Vec<DeleteStats>, Error> {
         self.view_mut().delete(ids, repair_beam, repair_degree, scratch)
+    }
+
+    /// Deletes the live slots that carry these figure numbers and repairs the rows around them: [`ViewMut::delete_numbers`].
+    ///
+    /// ```
+    /// # fn main() -> Result<(), finder::Error> {
+    /// # let mut index = finder::Finder::new(1, 4, 2, 1.0)?;
+    /// # let mut scratch = index.scratch()?;
+    /// # for (value, number) in [(0, 30), (3, 10), (10, 20)] { index.insert_one(&[value], number, 8, &mut scratch)?; }
+    /// // No figure has the number 7.
+    /// assert_eq!(index.delete_numbers(&[10, 7], 64, 4, &mut scratch)?.len(), 1);
+    /// assert_eq!((index.number(1)?, index.slots_by_number()?), (None, &[2, 0][..]));
+    /// # Ok(())
+    /// # }
+    /// ```
+    pub fn delete_numbers(&mut self, numbers: &[u32], repair_beam: u32, repair_degree: u32, scratch: &mut Scratch) -> Result<Vec<DeleteStats>, Error> {
+        self.view_mut().delete_numbers(numbers, repair_beam, repair_degree, scratch)
     }
 
     /// Enables the guard and chooses its landmarks: [`ViewMut::enable_guard`].
@@ -295,7 +335,8 @@ impl Finder {
     /// # fn main() -> Result<(), finder::Error> {
     /// // A chain 0 - 1 - 2 in which only slot 1 leads to slot 2.
     /// let rows = [1, BLANK, 0, 2, 1, BLANK];
-    /// let given = Making { dim: 1, capacity: 4, degree: 2, alpha: 1.0, entry: 1, count: 3, bytes: &[0, 3, 10], rows: &rows };
+    /// let numbers = [30, 10, 20];
+    /// let given = Making { dim: 1, capacity: 4, degree: 2, alpha: 1.0, entry: 1, count: 3, bytes: &[0, 3, 10], rows: &rows, numbers: &numbers };
     /// let mut index = Finder::create(&given)?;
     /// let mut scratch = index.scratch()?;
     /// index.enable_guard(GuardSettings { landmark_count: 2, multiplier: 1, sample: 4, beam: 4 }, &mut scratch)?;
@@ -309,5 +350,10 @@ impl Finder {
     /// ```
     pub fn guarded_delete(&mut self, ids: &[u32], repair_beam: u32, repair_degree: u32, scratch: &mut Scratch) -> Result<Guarded, Error> {
         self.view_mut().guarded_delete(ids, repair_beam, repair_degree, scratch)
+    }
+
+    /// Deletes by figure numbers if the guard admits it: [`ViewMut::guarded_delete_numbers`].
+    pub fn guarded_delete_numbers(&mut self, numbers: &[u32], repair_beam: u32, repair_degree: u32, scratch: &mut Scratch) -> Result<Guarded, Error> {
+        self.view_mut().guarded_delete_numbers(numbers, repair_beam, repair_degree, scratch)
     }
 }

@@ -44,6 +44,7 @@ pub struct CreateArguments<'a> {
     pub count: u32,
     pub bytes: &'a [u8],
     pub rows: &'a [u32],
+    pub numbers: &'a [u32],
 }
 
 extern "C" {
@@ -62,6 +63,8 @@ extern "C" {
         bytes_len: usize,
         rows: *const u32,
         rows_len: usize,
+        given_numbers: *const u32,
+        given_numbers_len: usize,
         vectors: *mut u8,
         vectors_len: usize,
         targets: *mut u32,
@@ -74,6 +77,10 @@ extern "C" {
         marks_len: usize,
         pool: *mut u32,
         pool_len: usize,
+        numbers: *mut u32,
+        numbers_len: usize,
+        summary: *mut u32,
+        summary_len: usize,
         words: *mut Words,
     ) -> u32;
 
@@ -91,36 +98,17 @@ extern "C" {
         marks_len: usize,
         pool: *const u32,
         pool_len: usize,
+        numbers: *mut u32,
+        numbers_len: usize,
+        summary: *mut u32,
+        summary_len: usize,
         bytes: *const u8,
         bytes_len: usize,
+        new_numbers: *const u32,
+        new_numbers_len: usize,
         beam: u32,
         slots: *mut u32,
         slots_len: usize,
-        scratch: *mut u32,
-        scratch_len: usize,
-        found: *mut u32,
-    ) -> u32;
-
-    fn finder_delete(
-        words: *mut Words,
-        vectors: *const u8,
-        vectors_len: usize,
-        targets: *mut u32,
-        targets_len: usize,
-        edges: *mut u16,
-        edges_len: usize,
-        versions: *mut u16,
-        versions_len: usize,
-        marks: *mut u8,
-        marks_len: usize,
-        pool: *const u32,
-        pool_len: usize,
-        ids: *const u32,
-        ids_len: usize,
-        repair_beam: u32,
-        repair_degree: u32,
-        stats: *mut DeleteStats,
-        stats_len: usize,
         scratch: *mut u32,
         scratch_len: usize,
         found: *mut u32,
@@ -140,6 +128,10 @@ extern "C" {
         marks_len: usize,
         pool: *mut u32,
         pool_len: usize,
+        numbers: *const u32,
+        numbers_len: usize,
+        summary: *const u32,
+        summary_len: usize,
         landmark_count: u32,
         multiplier: u32,
         sample: u32,
@@ -148,39 +140,9 @@ extern "C" {
         scratch_len: usize,
         status: *mut StatusWords,
     ) -> u32;
-
-    fn finder_guarded_delete(
-        words: *mut Words,
-        vectors: *const u8,
-        vectors_len: usize,
-        targets: *mut u32,
-        targets_len: usize,
-        edges: *mut u16,
-        edges_len: usize,
-        versions: *mut u16,
-        versions_len: usize,
-        marks: *mut u8,
-        marks_len: usize,
-        pool: *const u32,
-        pool_len: usize,
-        ids: *const u32,
-        ids_len: usize,
-        repair_beam: u32,
-        repair_degree: u32,
-        stats: *mut DeleteStats,
-        stats_len: usize,
-        checked: *mut u32,
-        checked_len: usize,
-        lost: *mut u32,
-        lost_len: usize,
-        scratch: *mut u32,
-        scratch_len: usize,
-        found: *mut u32,
-        report: *mut ReportWords,
-    ) -> u32;
 }
 
-// Declares functions that only read the words and the six slices, which they take first, and then what is named.
+// Declares functions that only read the words and the eight slices, which they take first, and then what is named.
 macro_rules! reading {
     ($(fn $function:ident($($name:ident: $type:ty),*) -> $answer:ty;)*) => {
         extern "C" {
@@ -198,6 +160,10 @@ macro_rules! reading {
                 marks_len: usize,
                 pool: *const u32,
                 pool_len: usize,
+                numbers: *const u32,
+                numbers_len: usize,
+                summary: *const u32,
+                summary_len: usize,
                 $($name: $type),*
             ) -> $answer;)*
         }
@@ -213,6 +179,7 @@ reading! {
     fn finder_live(value: *mut u32) -> u32;
     fn finder_mark(slot: u32, value: *mut u32) -> u32;
     fn finder_slot_version(slot: u32, value: *mut u32) -> u32;
+    fn finder_number(slot: u32, value: *mut u32) -> u32;
     fn finder_target(slot: u32, place: u32, value: *mut u32) -> u32;
     fn finder_vector(slot: u32) -> usize;
     fn finder_search(
@@ -224,6 +191,8 @@ reading! {
         slots_len: usize,
         dists: *mut f32,
         dists_len: usize,
+        found_numbers: *mut u32,
+        found_numbers_len: usize,
         scratch: *mut u32,
         scratch_len: usize,
         found: *mut u32
@@ -242,7 +211,7 @@ reading! {
     ) -> u32;
 }
 
-// Calls a function that only reads the words and the six slices.
+// Calls a function that only reads the words and the eight slices.
 macro_rules! read {
     ($function:ident, $words:ident, $slices:ident, $($rest:expr),+) => {
         $function(
@@ -259,6 +228,10 @@ macro_rules! read {
             $slices.marks.len(),
             $slices.pool.as_ptr(),
             $slices.pool.len(),
+            $slices.numbers.as_ptr(),
+            $slices.numbers.len(),
+            $slices.summary.as_ptr(),
+            $slices.summary.len(),
             $($rest),+
         )
     };
@@ -275,7 +248,7 @@ pub fn scratch_words(dim: u32, capacity: u32, degree: u32, size: &mut u32) -> u3
 }
 
 pub fn create(words: &mut Words, slices: &mut SlicesMut<'_>, given: &CreateArguments<'_>) -> u32 {
-    // SAFETY: every pointer is that of a whole slice with its length; the six slices and the words are borrowed by this call alone, `given` is only read.
+    // SAFETY: every pointer is that of a whole slice with its length; the eight slices and the words are borrowed by this call alone, `given` is only read.
     unsafe {
         finder_create(
             given.dim,
@@ -288,6 +261,8 @@ pub fn create(words: &mut Words, slices: &mut SlicesMut<'_>, given: &CreateArgum
             given.bytes.len(),
             given.rows.as_ptr(),
             given.rows.len(),
+            given.numbers.as_ptr(),
+            given.numbers.len(),
             slices.vectors.as_mut_ptr(),
             slices.vectors.len(),
             slices.targets.as_mut_ptr(),
@@ -300,22 +275,26 @@ pub fn create(words: &mut Words, slices: &mut SlicesMut<'_>, given: &CreateArgum
             slices.marks.len(),
             slices.pool.as_mut_ptr(),
             slices.pool.len(),
+            slices.numbers.as_mut_ptr(),
+            slices.numbers.len(),
+            slices.summary.as_mut_ptr(),
+            slices.summary.len(),
             words,
         )
     }
 }
 
-// The readings that write one number.
-macro_rules! numbers {
+// The readings that write one value.
+macro_rules! values {
     ($($name:ident: $function:ident($($argument:ident),*) -> $type:ty;)*) => {
         $(pub fn $name(words: &Words, slices: &Slices<'_>, $($argument: u32,)* value: &mut $type) -> u32 {
-            // SAFETY: every pointer is that of a whole slice with its length, and only read; `value` is one number, borrowed by this call alone.
+            // SAFETY: every pointer is that of a whole slice with its length, and only read; `value` is borrowed by this call alone.
             unsafe { read!($function, words, slices, $($argument,)* value) }
         })*
     };
 }
 
-numbers! {
+values! {
     dim: finder_dim() -> u32;
     capacity: finder_capacity() -> u32;
     degree: finder_degree() -> u32;
@@ -324,6 +303,7 @@ numbers! {
     live: finder_live() -> u32;
     mark: finder_mark(slot) -> u32;
     slot_version: finder_slot_version(slot) -> u32;
+    number: finder_number(slot) -> u32;
     target: finder_target(slot, place) -> u32;
 }
 
@@ -341,6 +321,7 @@ pub fn search(
     beam: u32,
     slots: &mut [u32],
     distances: &mut [f32],
+    numbers: &mut [u32],
     scratch: &mut [u32],
     found: &mut u32,
 ) -> u32 {
@@ -358,6 +339,8 @@ pub fn search(
             slots.len(),
             distances.as_mut_ptr(),
             distances.len(),
+            numbers.as_mut_ptr(),
+            numbers.len(),
             scratch.as_mut_ptr(),
             scratch.len(),
             found
@@ -365,7 +348,17 @@ pub fn search(
     }
 }
 
-pub fn insert(words: &mut Words, slices: &mut SlicesMut<'_>, bytes: &[u8], beam: u32, slots: &mut [u32], scratch: &mut [u32], found: &mut u32) -> u32 {
+#[allow(clippy::too_many_arguments)]
+pub fn insert(
+    words: &mut Words,
+    slices: &mut SlicesMut<'_>,
+    bytes: &[u8],
+    numbers: &[u32],
+    beam: u32,
+    slots: &mut [u32],
+    scratch: &mut [u32],
+    found: &mut u32,
+) -> u32 {
     // SAFETY: every pointer is that of a whole slice with its length; all that is written is borrowed by this call alone, the rest is only read.
     unsafe {
         finder_insert(
@@ -382,51 +375,17 @@ pub fn insert(words: &mut Words, slices: &mut SlicesMut<'_>, bytes: &[u8], beam:
             slices.marks.len(),
             slices.pool.as_ptr(),
             slices.pool.len(),
+            slices.numbers.as_mut_ptr(),
+            slices.numbers.len(),
+            slices.summary.as_mut_ptr(),
+            slices.summary.len(),
             bytes.as_ptr(),
             bytes.len(),
+            numbers.as_ptr(),
+            numbers.len(),
             beam,
             slots.as_mut_ptr(),
             slots.len(),
-            scratch.as_mut_ptr(),
-            scratch.len(),
-            found,
-        )
-    }
-}
-
-#[allow(clippy::too_many_arguments)]
-pub fn delete(
-    words: &mut Words,
-    slices: &mut SlicesMut<'_>,
-    ids: &[u32],
-    repair_beam: u32,
-    repair_degree: u32,
-    stats: &mut [DeleteStats],
-    scratch: &mut [u32],
-    found: &mut u32,
-) -> u32 {
-    // SAFETY: every pointer is that of a whole slice with its length; all that is written is borrowed by this call alone, the rest is only read.
-    unsafe {
-        finder_delete(
-            words,
-            slices.vectors.as_ptr(),
-            slices.vectors.len(),
-            slices.targets.as_mut_ptr(),
-            slices.targets.len(),
-            slices.edges.as_mut_ptr(),
-            slices.edges.len(),
-            slices.versions.as_mut_ptr(),
-            slices.versions.len(),
-            slices.marks.as_mut_ptr(),
-            slices.marks.len(),
-            slices.pool.as_ptr(),
-            slices.pool.len(),
-            ids.as_ptr(),
-            ids.len(),
-            repair_beam,
-            repair_degree,
-            stats.as_mut_ptr(),
-            stats.len(),
             scratch.as_mut_ptr(),
             scratch.len(),
             found,
@@ -453,6 +412,10 @@ pub fn guard_enable(words: &mut Words, slices: &mut SlicesMut<'_>, settings: [u3
             slices.marks.len(),
             slices.pool.as_mut_ptr(),
             slices.pool.len(),
+            slices.numbers.as_ptr(),
+            slices.numbers.len(),
+            slices.summary.as_ptr(),
+            slices.summary.len(),
             landmark_count,
             multiplier,
             sample,
@@ -497,50 +460,186 @@ pub fn assess(
     }
 }
 
-#[allow(clippy::too_many_arguments)]
-pub fn guarded_delete(
-    words: &mut Words,
-    slices: &mut SlicesMut<'_>,
-    ids: &[u32],
-    repair_beam: u32,
-    repair_degree: u32,
-    stats: &mut [DeleteStats],
-    checked: &mut [u32],
-    lost: &mut [u32],
-    scratch: &mut [u32],
-    found: &mut u32,
-    report: &mut ReportWords,
-) -> u32 {
-    // SAFETY: every pointer is that of a whole slice with its length; all that is written is borrowed by this call alone, the rest is only read.
-    unsafe {
-        finder_guarded_delete(
-            words,
-            slices.vectors.as_ptr(),
-            slices.vectors.len(),
-            slices.targets.as_mut_ptr(),
-            slices.targets.len(),
-            slices.edges.as_mut_ptr(),
-            slices.edges.len(),
-            slices.versions.as_mut_ptr(),
-            slices.versions.len(),
-            slices.marks.as_mut_ptr(),
-            slices.marks.len(),
-            slices.pool.as_ptr(),
-            slices.pool.len(),
-            ids.as_ptr(),
-            ids.len(),
-            repair_beam,
-            repair_degree,
-            stats.as_mut_ptr(),
-            stats.len(),
-            checked.as_mut_ptr(),
-            checked.len(),
-            lost.as_mut_ptr(),
-            lost.len(),
-            scratch.as_mut_ptr(),
-            scratch.len(),
-            found,
-            report,
-        )
-    }
+// A delete of what `named` has: slots or figure numbers.
+macro_rules! delete {
+    ($name:ident, $function:ident) => {
+        extern "C" {
+            fn $function(
+                words: *mut Words,
+                vectors: *const u8,
+                vectors_len: usize,
+                targets: *mut u32,
+                targets_len: usize,
+                edges: *mut u16,
+                edges_len: usize,
+                versions: *mut u16,
+                versions_len: usize,
+                marks: *mut u8,
+                marks_len: usize,
+                pool: *const u32,
+                pool_len: usize,
+                numbers: *mut u32,
+                numbers_len: usize,
+                summary: *mut u32,
+                summary_len: usize,
+                named: *const u32,
+                named_len: usize,
+                repair_beam: u32,
+                repair_degree: u32,
+                stats: *mut DeleteStats,
+                stats_len: usize,
+                scratch: *mut u32,
+                scratch_len: usize,
+                found: *mut u32,
+            ) -> u32;
+        }
+
+        #[allow(clippy::too_many_arguments)]
+        pub fn $name(
+            words: &mut Words,
+            slices: &mut SlicesMut<'_>,
+            named: &[u32],
+            repair_beam: u32,
+            repair_degree: u32,
+            stats: &mut [DeleteStats],
+            scratch: &mut [u32],
+            found: &mut u32,
+        ) -> u32 {
+            // SAFETY: every pointer is that of a whole slice with its length; all that is written is borrowed by this call alone, the rest is only read.
+            unsafe {
+                $function(
+                    words,
+                    slices.vectors.as_ptr(),
+                    slices.vectors.len(),
+                    slices.targets.as_mut_ptr(),
+                    slices.targets.len(),
+                    slices.edges.as_mut_ptr(),
+                    slices.edges.len(),
+                    slices.versions.as_mut_ptr(),
+                    slices.versions.len(),
+                    slices.marks.as_mut_ptr(),
+                    slices.marks.len(),
+                    slices.pool.as_ptr(),
+                    slices.pool.len(),
+                    slices.numbers.as_mut_ptr(),
+                    slices.numbers.len(),
+                    slices.summary.as_mut_ptr(),
+                    slices.summary.len(),
+                    named.as_ptr(),
+                    named.len(),
+                    repair_beam,
+                    repair_degree,
+                    stats.as_mut_ptr(),
+                    stats.len(),
+                    scratch.as_mut_ptr(),
+                    scratch.len(),
+                    found,
+                )
+            }
+        }
+    };
 }
+
+pub type Delete = fn(&mut Words, &mut SlicesMut<'_>, &[u32], u32, u32, &mut [DeleteStats], &mut [u32], &mut u32) -> u32;
+
+delete!(delete, finder_delete);
+delete!(delete_numbers, finder_delete_numbers);
+
+// The same, if the guard admits it.
+macro_rules! guarded_delete {
+    ($name:ident, $function:ident) => {
+        extern "C" {
+            fn $function(
+                words: *mut Words,
+                vectors: *const u8,
+                vectors_len: usize,
+                targets: *mut u32,
+                targets_len: usize,
+                edges: *mut u16,
+                edges_len: usize,
+                versions: *mut u16,
+                versions_len: usize,
+                marks: *mut u8,
+                marks_len: usize,
+                pool: *const u32,
+                pool_len: usize,
+                numbers: *mut u32,
+                numbers_len: usize,
+                summary: *mut u32,
+                summary_len: usize,
+                named: *const u32,
+                named_len: usize,
+                repair_beam: u32,
+                repair_degree: u32,
+                stats: *mut DeleteStats,
+                stats_len: usize,
+                checked: *mut u32,
+                checked_len: usize,
+                lost: *mut u32,
+                lost_len: usize,
+                scratch: *mut u32,
+                scratch_len: usize,
+                found: *mut u32,
+                report: *mut ReportWords,
+            ) -> u32;
+        }
+
+        #[allow(clippy::too_many_arguments)]
+        pub fn $name(
+            words: &mut Words,
+            slices: &mut SlicesMut<'_>,
+            named: &[u32],
+            repair_beam: u32,
+            repair_degree: u32,
+            stats: &mut [DeleteStats],
+            checked: &mut [u32],
+            lost: &mut [u32],
+            scratch: &mut [u32],
+            found: &mut u32,
+            report: &mut ReportWords,
+        ) -> u32 {
+            // SAFETY: every pointer is that of a whole slice with its length; all that is written is borrowed by this call alone, the rest is only read.
+            unsafe {
+                $function(
+                    words,
+                    slices.vectors.as_ptr(),
+                    slices.vectors.len(),
+                    slices.targets.as_mut_ptr(),
+                    slices.targets.len(),
+                    slices.edges.as_mut_ptr(),
+                    slices.edges.len(),
+                    slices.versions.as_mut_ptr(),
+                    slices.versions.len(),
+                    slices.marks.as_mut_ptr(),
+                    slices.marks.len(),
+                    slices.pool.as_ptr(),
+                    slices.pool.len(),
+                    slices.numbers.as_mut_ptr(),
+                    slices.numbers.len(),
+                    slices.summary.as_mut_ptr(),
+                    slices.summary.len(),
+                    named.as_ptr(),
+                    named.len(),
+                    repair_beam,
+                    repair_degree,
+                    stats.as_mut_ptr(),
+                    stats.len(),
+                    checked.as_mut_ptr(),
+                    checked.len(),
+                    lost.as_mut_ptr(),
+                    lost.len(),
+                    scratch.as_mut_ptr(),
+                    scratch.len(),
+                    found,
+                    report,
+                )
+            }
+        }
+    };
+}
+
+pub type GuardedDelete =
+    fn(&mut Words, &mut SlicesMut<'_>, &[u32], u32, u32, &mut [DeleteStats], &mut [u32], &mut [u32], &mut [u32], &mut u32, &mut ReportWords) -> u32;
+
+guarded_delete!(guarded_delete, finder_guarded_delete);
+guarded_delete!(guarded_delete_numbers, finder_guarded_delete_numbers);

@@ -3,7 +3,7 @@
 use crate::{raw, Error, GuardStatus, Hit, Report, Scratch, Words, BLANK, MAX_BEAM, MAX_LANDMARKS};
 use std::fmt;
 
-/// The six slices of an index, to be read. include/finder.h says what each holds.
+/// The eight slices of an index, to be read. include/finder.h says what each holds.
 #[derive(Clone, Copy)]
 pub struct Slices<'a> {
     /// The bytes of each slot's vector: capacity * dim.
@@ -18,6 +18,10 @@ pub struct Slices<'a> {
     pub marks: &'a [u8],
     /// The landmark pool: [`POOL`](crate::POOL).
     pub pool: &'a [u32],
+    /// The figure number of each slot, 0 where it is dead: capacity.
+    pub numbers: &'a [u32],
+    /// The live slots by rising number, then [`BLANK`]: capacity.
+    pub summary: &'a [u32],
 }
 
 impl fmt::Debug for Slices<'_> {
@@ -126,6 +130,13 @@ impl<'a> View<'a> {
         Ok(value as u16)
     }
 
+    /// The figure number of a live slot; none where it is dead or outside.
+    pub fn number(&self, slot: u32) -> Result<Option<u32>, Error> {
+        let mut value = 0;
+        Error::check(raw::number(self.words, &self.slices, slot, &mut value))?;
+        Ok((value != 0).then_some(value))
+    }
+
     /// The target at a place, from 0, among the live ones of a slot's row; none past the last and for a slot outside.
     pub fn target(&self, slot: u32, place: u32) -> Result<Option<u32>, Error> {
         let mut value = 0;
@@ -146,8 +157,8 @@ impl<'a> View<'a> {
     /// # fn main() -> Result<(), finder::Error> {
     /// # let mut index = finder::Finder::new(1, 9, 2, 1.0)?;
     /// # let mut scratch = index.scratch()?;
-    /// for value in [5, 6, 7] {
-    ///     index.insert_one(&[value], 8, &mut scratch)?;
+    /// for (value, number) in [(5, 30), (6, 10), (7, 20)] {
+    ///     index.insert_one(&[value], number, 8, &mut scratch)?;
     /// }
     /// index.delete(&[1], 8, 2, &mut scratch)?;
     /// assert_eq!(index.view().live_slots()?.collect::<Vec<_>>(), [0, 2]);
@@ -155,7 +166,31 @@ impl<'a> View<'a> {
     /// # }
     /// ```
     pub fn live_slots(&self) -> Result<LiveSlots<'a>, Error> {
-        Ok(LiveSlots { view: *self, next: 0, left: self.live()? })
+        Ok(LiveSlots { view: *self, next: 0, left: self.live()? as usize })
+    }
+
+    /// The live slots by rising figure number, as that part of the memory.
+    ///
+    /// ```
+    /// # fn main() -> Result<(), finder::Error> {
+    /// # let mut index = finder::Finder::new(1, 9, 2, 1.0)?;
+    /// # let mut scratch = index.scratch()?;
+    /// for (value, number) in [(5, 30), (6, 10), (7, 20)] {
+    ///     index.insert_one(&[value], number, 8, &mut scratch)?;
+    /// }
+    /// let slots = index.view().slots_by_number()?;
+    /// assert_eq!(slots, [1, 2, 0]);
+    ///
+    /// // The slot of figure 20.
+    /// let numbers = index.view().slices().numbers;
+    /// let place = slots.binary_search_by_key(&20, |&slot| numbers[slot as usize]);
+    /// assert_eq!(place.map(|place| slots[place]), Ok(2));
+    /// # Ok(())
+    /// # }
+    /// ```
+    pub fn slots_by_number(&self) -> Result<&'a [u32], Error> {
+        let live = self.live()? as usize;
+        Ok(self.slices.summary.get(..live).unwrap_or_default())
     }
 
     /// The live targets of a slot's row, in the order of the row; none for a slot outside.
@@ -164,8 +199,8 @@ impl<'a> View<'a> {
     /// # fn main() -> Result<(), finder::Error> {
     /// # let mut index = finder::Finder::new(1, 9, 2, 1.0)?;
     /// # let mut scratch = index.scratch()?;
-    /// for value in [5, 6, 9] {
-    ///     index.insert_one(&[value], 8, &mut scratch)?;
+    /// for (value, number) in [(5, 30), (6, 10), (9, 20)] {
+    ///     index.insert_one(&[value], number, 8, &mut scratch)?;
     /// }
     /// assert_eq!(index.view().neighbours(1)?.collect::<Vec<_>>(), [0, 2]);
     /// # Ok(())
@@ -191,15 +226,15 @@ impl<'a> View<'a> {
     /// # fn main() -> Result<(), finder::Error> {
     /// # let mut index = finder::Finder::new(1, 9, 4, 1.2)?;
     /// # let mut scratch = index.scratch()?;
-    /// # for value in [10, 20, 30] { index.insert_one(&[value], 8, &mut scratch)?; }
+    /// # for value in [10, 20, 30] { index.insert_one(&[value], 100 + u32::from(value), 8, &mut scratch)?; }
     /// let nearest: Vec<u32> = std::thread::scope(|threads| {
     ///     let searches: Vec<_> = [11, 28].map(|value| threads.spawn({
     ///         let view = index.view();
-    ///         move || Ok(view.search(&[value], 1, 8, &mut view.scratch()?)?[0].slot)
+    ///         move || Ok(view.search(&[value], 1, 8, &mut view.scratch()?)?[0].number)
     ///     })).into();
     ///     searches.into_iter().map(|search| search.join().unwrap()).collect::<Result<_, finder::Error>>()
     /// })?;
-    /// assert_eq!(nearest, [0, 2]);
+    /// assert_eq!(nearest, [110, 130]);
     /// # Ok(())
     /// # }
     /// ```
@@ -207,15 +242,26 @@ impl<'a> View<'a> {
         let places = k.min(MAX_BEAM) as usize;
         let mut slots = vec![0; places];
         let mut distances = vec![0.0; places];
-        let found = self.search_into(query, beam, &mut slots, &mut distances, scratch)?;
-        Ok(slots.into_iter().zip(distances).take(found).map(|(slot, distance)| Hit { slot, distance }).collect())
+        let mut numbers = vec![0; places];
+        let found = self.search_into(query, beam, &mut slots, &mut distances, &mut numbers, scratch)?;
+        let hits = slots.into_iter().zip(distances).zip(numbers).take(found);
+        Ok(hits.map(|((slot, distance), number)| Hit { slot, number, distance }).collect())
     }
 
-    /// The same without allocating: as many as both lists have places for are looked for; their number is returned, and the places after them stay.
-    pub fn search_into(&self, query: &[u8], beam: u32, slots: &mut [u32], distances: &mut [f32], scratch: &mut Scratch) -> Result<usize, Error> {
-        let k = u32::try_from(slots.len().min(distances.len())).unwrap_or(u32::MAX);
+    /// The same without allocating: as many as all three lists have places for are looked for; how many were found is returned, and the places after them
+    /// stay.
+    pub fn search_into(
+        &self,
+        query: &[u8],
+        beam: u32,
+        slots: &mut [u32],
+        distances: &mut [f32],
+        numbers: &mut [u32],
+        scratch: &mut Scratch,
+    ) -> Result<usize, Error> {
+        let k = u32::try_from(slots.len().min(distances.len()).min(numbers.len())).unwrap_or(u32::MAX);
         let mut found = 0;
-        Error::check(raw::search(self.words, &self.slices, query, k, beam, slots, distances, &mut scratch.0, &mut found))?;
+        Error::check(raw::search(self.words, &self.slices, query, k, beam, slots, distances, numbers, &mut scratch.0, &mut found))?;
         Ok(found as usize)
     }
 
@@ -240,27 +286,24 @@ impl<'a> View<'a> {
 #[derive(Clone, Debug)]
 pub struct LiveSlots<'a> {
     view: View<'a>,
-    next: u32,
-    left: u32,
+    next: usize,
+    left: usize,
 }
 
+// The memory was tested when the iterator was made, and is borrowed: the live slots are those whose mark is not 0.
 impl Iterator for LiveSlots<'_> {
     type Item = u32;
 
     fn next(&mut self) -> Option<u32> {
-        while self.left > 0 {
-            let slot = self.next;
-            self.next += 1;
-            if self.view.mark(slot).ok()? {
-                self.left -= 1;
-                return Some(slot);
-            }
-        }
-        None
+        let dead = self.view.slices.marks.get(self.next..)?.iter().position(|&mark| mark != 0)?;
+        let slot = self.next + dead;
+        self.next = slot + 1;
+        self.left -= 1;
+        Some(slot as u32)
     }
 
     fn size_hint(&self) -> (usize, Option<usize>) {
-        (self.left as usize, Some(self.left as usize))
+        (self.left, Some(self.left))
     }
 }
 

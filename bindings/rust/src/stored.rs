@@ -81,7 +81,7 @@ numbers!(write_u16, read_u16, u16);
 numbers!(write_u32, read_u32, u32);
 
 impl Finder {
-    /// Writes the raw memory: the twelve words, then the six slices in the order of `struct finder` of include/finder.h (which is not that of the
+    /// Writes the raw memory: the twelve words, then the eight slices in the order of `struct finder` of include/finder.h (which is not that of the
     /// block that a program in C stores), each number with its lowest byte first, and nothing between them. There is no checksum; who needs one puts it around.
     ///
     /// ```
@@ -90,7 +90,7 @@ impl Finder {
     /// # fn main() -> Result<(), Box<dyn std::error::Error>> {
     /// let mut index = Finder::new(2, 3, 1, 1.0)?;
     /// let mut scratch = index.scratch()?;
-    /// index.insert_one(&[7, 8], 4, &mut scratch)?;
+    /// index.insert_one(&[7, 8], 30, 4, &mut scratch)?;
     ///
     /// let mut bytes = Vec::new();
     /// index.store(&mut bytes)?;
@@ -111,7 +111,9 @@ impl Finder {
         write_u16(out, &memory.edges)?;
         write_u16(out, &memory.versions)?;
         out.write_all(&memory.marks)?;
-        write_u32(out, &memory.pool)
+        write_u32(out, &memory.pool)?;
+        write_u32(out, &memory.numbers)?;
+        write_u32(out, &memory.summary)
     }
 
     /// Reads what [`Finder::store`] wrote, and no byte more. Any other bytes are refused or make an index that can be called without harm; that the vectors
@@ -130,6 +132,8 @@ impl Finder {
         read_u16(from, &mut memory.versions)?;
         from.read_exact(&mut memory.marks)?;
         read_u32(from, &mut memory.pool)?;
+        read_u32(from, &mut memory.numbers)?;
+        read_u32(from, &mut memory.summary)?;
         Ok(Finder::from_memory(memory)?)
     }
 }

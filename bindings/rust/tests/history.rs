@@ -30,6 +30,18 @@ impl Random {
     }
 }
 
+/// So many figure numbers that no live slot of the model carries, in any order.
+fn fresh_numbers(random: &mut Random, model: &Model, count: u32) -> Vec<u32> {
+    let mut numbers: Vec<u32> = vec![];
+    while numbers.len() < count as usize {
+        let number = if random.one_in(20) { u32::MAX } else { 1 + random.below(3 * model.slots.len() as u32 + 5) };
+        if !numbers.contains(&number) && model.slots.iter().all(|slot| !slot.live || slot.number != number) {
+            numbers.push(number);
+        }
+    }
+    numbers
+}
+
 /// An index and its model, and what draws the calls.
 struct History {
     random: Random,
@@ -55,15 +67,17 @@ impl History {
         let count = random.below(capacity + 1);
         let bytes: Vec<u8> = (0..count * dim).map(|_| random.below(values) as u8).collect();
         let rows: Vec<u32> = (0..count * degree).map(|_| if random.one_in(3) { BLANK } else { random.below(count) }).collect();
+        let numbers = fresh_numbers(&mut random, &model, count);
         let entry = if count == 0 { 0 } else { random.below(count) };
         for slot in 0..count as usize {
             let row = &rows[slot * degree as usize..][..degree as usize];
             model.slots[slot].live = true;
+            model.slots[slot].number = numbers[slot];
             model.slots[slot].vector = bytes[slot * dim as usize..][..dim as usize].to_vec();
             model.slots[slot].row = row.iter().copied().filter(|&target| target != BLANK).collect();
         }
         model.entry = entry;
-        let making = Making { dim, capacity, degree, alpha, entry, count, bytes: &bytes, rows: &rows };
+        let making = Making { dim, capacity, degree, alpha, entry, count, bytes: &bytes, rows: &rows, numbers: &numbers };
         let index = Finder::create(&making).map_err(|error| error.to_string())?;
         let scratch = index.scratch().map_err(|error| error.to_string())?;
         let mut history = History { random, values, index, model, scratch, refused: 0, carried_out: 0 };
@@ -81,6 +95,23 @@ impl History {
         let most = if self.random.one_in(8) { 300 } else { 5 };
         let count = self.random.below(most);
         (0..count).map(|_| self.random.below(self.model.slots.len() as u32 + 2)).collect()
+    }
+
+    /// Some figure numbers, some of them carried by no live slot, 0 or named twice.
+    fn named_numbers(&mut self) -> Vec<u32> {
+        let ids = self.ids();
+        ids.into_iter().map(|id| self.model.slots.get(id as usize).map_or(id, |slot| if self.random.one_in(6) { id } else { slot.number })).collect()
+    }
+
+    /// Numbers for so many new vectors, at times some that may not be given.
+    fn new_numbers(&mut self, count: u32) -> Vec<u32> {
+        let mut numbers = fresh_numbers(&mut self.random, &self.model, count);
+        if count > 0 && self.random.one_in(6) {
+            let place = self.random.below(count) as usize;
+            let slot = self.random.below(self.model.slots.len() as u32) as usize;
+            numbers[place] = if self.random.one_in(2) { self.model.slots[slot].number } else { numbers[0] };
+        }
+        numbers
     }
 
     /// The first that holds of 7 and 8, which several calls share.
@@ -118,7 +149,7 @@ impl History {
         };
         let answer = self.index.search(&query, k, beam, &mut scratch);
         self.count(answer.is_ok());
-        let answer = answer.map(|hits| hits.iter().map(|hit| (hit.distance as u32, hit.slot)).collect::<Vec<_>>());
+        let answer = answer.map(|hits| hits.iter().map(|hit| (hit.distance as u32, hit.slot, hit.number)).collect::<Vec<_>>());
         same(&format!("search for {query:?}, k {k}, beam {beam}"), answer, expected)
     }
 
@@ -130,18 +161,30 @@ impl History {
         if part {
             bytes.push(0);
         }
+        let mut numbers = self.new_numbers(count);
+        let wrong = self.random.one_in(12);
+        if wrong {
+            numbers.push(u32::MAX);
+        }
         let beam = self.random.pick(&[0, 1, 2, 4, 8, 64, 1025]);
+        let bad_number = self.model.bad_number(&numbers);
         let expected = match self.over_or_short(beam > MAX_BEAM, short) {
+            _ if wrong => Err(Error::BadLength),
             Some(error) => Err(error),
             None if part => Err(Error::BadBatch),
+            None if bad_number && self.model.slip == Slip::NumberBeforeFull => Err(Error::BadNumber),
             None if self.model.free() < count as usize => Err(Error::Full),
-            None => Ok(self.model.insert(&bytes)),
+            None if bad_number => Err(Error::BadNumber),
+            None => Ok(self.model.insert(&bytes, &numbers)),
         };
-        let one = count == 1 && !part && self.random.one_in(2);
-        let answer =
-            if one { self.index.insert_one(&bytes, beam, &mut scratch).map(|slot| vec![slot]) } else { self.index.insert(&bytes, beam, &mut scratch) };
+        let one = count == 1 && !part && !wrong && self.random.one_in(2);
+        let answer = if one {
+            self.index.insert_one(&bytes, numbers[0], beam, &mut scratch).map(|slot| vec![slot])
+        } else {
+            self.index.insert(&bytes, &numbers, beam, &mut scratch)
+        };
         self.count(answer.is_ok());
-        same(&format!("insert {bytes:?}, beam {beam}"), &answer, &expected)?;
+        same(&format!("insert {bytes:?}, numbers {numbers:?}, beam {beam}"), &answer, &expected)?;
         let changed = self.model.take_rows(&self.index)?;
         let new = answer.unwrap_or_default();
         let may = |slot: &u32| new.contains(slot) || new.iter().any(|&new| self.model.slots[new as usize].row.contains(slot));
@@ -170,11 +213,14 @@ impl History {
 
     fn delete(&mut self, guarded: bool) -> Result<(), String> {
         let (mut scratch, short) = self.scratch();
-        let ids = self.ids();
+        let by_number = self.random.one_in(2);
+        let named = if by_number { self.named_numbers() } else { self.ids() };
+        let ids = if by_number { self.model.slots_of(&named) } else { named.clone() };
         let repair_beam = self.random.pick(&[0, 1, 4, 64, 256, 257]);
         let repair_degree = self.random.pick(&[0, 1, 2, 16, 17]);
-        let over = repair_beam > MAX_REPAIR_BEAM || repair_degree > MAX_REPAIR_DEGREE || ids.len() > MAX_IDS;
-        let what = format!("delete {ids:?}, repair beam {repair_beam}, repair degree {repair_degree}");
+        let over = repair_beam > MAX_REPAIR_BEAM || repair_degree > MAX_REPAIR_DEGREE || named.len() > MAX_IDS;
+        let list = if by_number { "numbers" } else { "slots" };
+        let what = format!("delete {list} {named:?}, repair beam {repair_beam}, repair degree {repair_degree}");
         let before = self.model.clone();
         let report = self.model.assess(&ids).ok_or(Error::GuardOff);
         let expected = match self.over_or_short(over, short) {
@@ -184,12 +230,22 @@ impl History {
         };
         let unguarded = self.index.clone();
         let answer = if guarded {
-            self.index.guarded_delete(&ids, repair_beam, repair_degree, &mut scratch).map(|done| match done {
+            let done = if by_number {
+                self.index.guarded_delete_numbers(&named, repair_beam, repair_degree, &mut scratch)
+            } else {
+                self.index.guarded_delete(&named, repair_beam, repair_degree, &mut scratch)
+            };
+            done.map(|done| match done {
                 Guarded::Applied { stats, report } => (Some(stats), Some(report)),
                 Guarded::Deferred(report) => (None, Some(report)),
             })
         } else {
-            self.index.delete(&ids, repair_beam, repair_degree, &mut scratch).map(|stats| (Some(stats), None))
+            let done = if by_number {
+                self.index.delete_numbers(&named, repair_beam, repair_degree, &mut scratch)
+            } else {
+                self.index.delete(&named, repair_beam, repair_degree, &mut scratch)
+            };
+            done.map(|stats| (Some(stats), None))
         };
         self.count(answer.is_ok());
         same(&what, answer.clone().map(|answer| answer.1), expected.clone())?;
@@ -204,7 +260,7 @@ impl History {
         self.model.delete(&ids);
         self.stats(&before, &ids, repair_degree, &stats)?;
         self.model.take_rows(&self.index)?;
-        // A guarded delete that is admitted leaves what a delete leaves.
+        // A guarded delete that is admitted, or one by numbers, leaves what a delete of the slots leaves.
         let mut other = unguarded;
         let again = other.delete(&ids, repair_beam, repair_degree, &mut scratch);
         same(&format!("{what}, again"), again, Ok(stats))?;
@@ -317,7 +373,7 @@ fn a_wrong_model_is_reported() {
 /// One byte of the index changed behind its back: the comparison names it.
 #[test]
 fn a_changed_byte_is_reported() {
-    for what in ["vector", "version", "entry", "row"] {
+    for what in ["vector", "version", "entry", "number", "row"] {
         let history = (0..50).map(|seed| History::new(seed, Slip::None).unwrap()).find(|history| history.model.live_slots().len() > 2).unwrap();
         let mut model = history.model.clone();
         let mut memory = history.index.into_memory();
@@ -325,6 +381,11 @@ fn a_changed_byte_is_reported() {
             "vector" => memory.vectors[0] ^= 1,
             "version" => memory.versions[0] ^= 1,
             "entry" => memory.words[4] = (memory.words[4] + 1) % memory.words[1],
+            "number" => {
+                // The last in the summary stays the last.
+                let last = &mut memory.numbers[memory.summary[memory.words[5] as usize - 1] as usize];
+                *last = if *last == u32::MAX { u32::MAX - 1 } else { u32::MAX };
+            }
             _ => memory.targets[0] = if memory.targets[0] == BLANK { 0 } else { BLANK },
         }
         let index = Finder::from_memory(memory).unwrap();

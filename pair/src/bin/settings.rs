@@ -48,8 +48,8 @@ fn nearest(originals: &[Grey], placeholder: &Grey) -> [u32; 2] {
 fn measure(originals: &[Grey], placeholders: &[Grey], right: &[[u32; 2]], settings: Settings) -> Result<(), finder::Error> {
     let mut index = Originals::new(originals.len(), settings)?;
     let start = Instant::now();
-    for (number, grey) in originals.iter().enumerate() {
-        index.add(number, grey)?;
+    for (original, grey) in originals.iter().enumerate() {
+        index.add(original, original as u32 + 1, grey)?;
     }
     let inserting = start.elapsed();
     let start = Instant::now();

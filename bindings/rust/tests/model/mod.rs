@@ -1,13 +1,13 @@
 //! A plain model of an index: what every call must answer, written simply.
 //!
-//! It works out by itself, and `compare` holds against the index: sizes, alpha, entry, live count, and of each slot mark, version and vector; the slots that an
-//! insert gets; which slots a delete empties, how many stats it gives, and of these the first and last count; every answer of a search, by a walk over a
-//! sorted list; the landmark pool, the guard's status and every report; the number of each refusal.
+//! It works out by itself, and `compare` holds against the index: sizes, alpha, entry, live count, and of each slot mark, version, figure number and vector; the
+//! summary; the slots that an insert gets; which slots a delete empties, how many stats it gives, and of these the first and last count; every answer of a
+//! search, by a walk over a sorted list; the landmark pool, the guard's status and every report; the number of each refusal.
 //!
 //! Rows it takes over from the index (`take_rows`), since pruning and repair are most of the library: it only tests that they are sound, and that an insert or
 //! a refused call changes no others than it may.
 
-use finder::{Error, Finder, GuardSettings, GuardStatus, Report};
+use finder::{Error, Finder, GuardSettings, GuardStatus, Report, BLANK};
 
 /// A fault of the model, put in on purpose: with each of them a history must be reported as different.
 #[derive(Clone, Copy, Debug, PartialEq, Eq)]
@@ -24,9 +24,15 @@ pub enum Slip {
     AdmitsAll,
     LinksOnce,
     ScratchFirst,
+    NumberKept,
+    NumbersAreSlots,
+    SummaryBySlot,
+    LiveNumbersAllowed,
+    RepeatedNumbersAllowed,
+    NumberBeforeFull,
 }
 
-pub const SLIPS: [Slip; 11] = [
+pub const SLIPS: [Slip; 17] = [
     Slip::HighestFree,
     Slip::VersionKept,
     Slip::EntryKept,
@@ -38,12 +44,19 @@ pub const SLIPS: [Slip; 11] = [
     Slip::AdmitsAll,
     Slip::LinksOnce,
     Slip::ScratchFirst,
+    Slip::NumberKept,
+    Slip::NumbersAreSlots,
+    Slip::SummaryBySlot,
+    Slip::LiveNumbersAllowed,
+    Slip::RepeatedNumbersAllowed,
+    Slip::NumberBeforeFull,
 ];
 
 #[derive(Clone)]
 pub struct Slot {
     pub live: bool,
     pub version: u16,
+    pub number: u32,
     pub vector: Vec<u8>,
     pub row: Vec<u32>,
 }
@@ -69,7 +82,7 @@ pub fn same<T: PartialEq + std::fmt::Debug>(what: &str, index: T, model: T) -> R
 
 impl Model {
     pub fn new(dim: usize, capacity: usize, degree: usize, alpha: f32, slip: Slip) -> Model {
-        let blank = Slot { live: false, version: 0, vector: vec![0; dim], row: vec![] };
+        let blank = Slot { live: false, version: 0, number: 0, vector: vec![0; dim], row: vec![] };
         Model { dim, degree, alpha, entry: 0, slots: vec![blank; capacity], guard: None, slip }
     }
 
@@ -85,6 +98,31 @@ impl Model {
         self.slots.iter().filter(|slot| !slot.live).count()
     }
 
+    /// The summary: the live slots by rising number, then blanks.
+    pub fn summary(&self) -> Vec<u32> {
+        let mut summary = self.live_slots();
+        if self.slip != Slip::SummaryBySlot {
+            summary.sort_unstable_by_key(|&slot| self.slots[slot as usize].number);
+        }
+        summary.resize(self.slots.len(), BLANK);
+        summary
+    }
+
+    /// Whether some number of the list may not be given.
+    pub fn bad_number(&self, numbers: &[u32]) -> bool {
+        let live = |number: u32| self.slots.iter().any(|slot| slot.live && slot.number == number) && self.slip != Slip::LiveNumbersAllowed;
+        let repeated = |place: usize| numbers[..place].contains(&numbers[place]) && self.slip != Slip::RepeatedNumbersAllowed;
+        numbers.iter().enumerate().any(|(place, &number)| number == 0 || live(number) || repeated(place))
+    }
+
+    /// The slots of those numbers that live slots carry.
+    pub fn slots_of(&self, numbers: &[u32]) -> Vec<u32> {
+        if self.slip == Slip::NumbersAreSlots {
+            return numbers.to_vec();
+        }
+        numbers.iter().filter_map(|&number| self.live_slots().into_iter().find(|&slot| self.slots[slot as usize].number == number)).collect()
+    }
+
     fn distance(&self, a: &[u8], b: &[u8]) -> u32 {
         let power = if self.slip == Slip::PlainDifference { 1 } else { 2 };
         a.iter().zip(b).map(|(&a, &b)| u32::from(a.abs_diff(b)).pow(power)).sum()
@@ -92,16 +130,17 @@ impl Model {
 
     // ---- changes
 
-    /// The lowest free slots get the vectors.
-    pub fn insert(&mut self, bytes: &[u8]) -> Vec<u32> {
+    /// The lowest free slots get the vectors and their numbers.
+    pub fn insert(&mut self, bytes: &[u8], numbers: &[u32]) -> Vec<u32> {
         let mut free: Vec<u32> = (0..self.slots.len() as u32).filter(|&slot| !self.is_live(slot)).collect();
         if self.slip == Slip::HighestFree {
             free.reverse();
         }
         let got: Vec<u32> = free.into_iter().take(bytes.len() / self.dim).collect();
-        for (&slot, vector) in got.iter().zip(bytes.chunks(self.dim)) {
+        for ((&slot, vector), &number) in got.iter().zip(bytes.chunks(self.dim)).zip(numbers) {
             let slot = &mut self.slots[slot as usize];
             slot.live = true;
+            slot.number = number;
             slot.vector = vector.to_vec();
         }
         got
@@ -123,6 +162,9 @@ impl Model {
         for &id in &named {
             let slot = &mut self.slots[id as usize];
             slot.live = false;
+            if self.slip != Slip::NumberKept {
+                slot.number = 0;
+            }
             if self.slip != Slip::VersionKept {
                 slot.version = slot.version.wrapping_add(1);
             }
@@ -181,10 +223,10 @@ impl Model {
         list
     }
 
-    pub fn search(&self, query: &[u8], k: u32, beam: u32) -> Vec<(u32, u32)> {
-        let mut list = self.walk(query, beam, self.entry, &[]);
-        list.truncate(k as usize);
-        list
+    /// What a search finds, as (distance, slot, figure number).
+    pub fn search(&self, query: &[u8], k: u32, beam: u32) -> Vec<(u32, u32, u32)> {
+        let list = self.walk(query, beam, self.entry, &[]);
+        list.into_iter().take(k as usize).map(|(distance, slot)| (distance, slot, self.slots[slot as usize].number)).collect()
     }
 
     // ---- the guard
@@ -295,6 +337,9 @@ impl Model {
         same("entry", index.entry(), Ok(self.entry))?;
         same("live count", index.live(), Ok(self.live_slots().len() as u32))?;
         same("live slots", index.live_slots().map(Iterator::collect::<Vec<_>>), Ok(self.live_slots()))?;
+        let by_number: Vec<u32> = self.summary().into_iter().filter(|&slot| slot != BLANK).collect();
+        same("summary", &index.memory().summary, &self.summary())?;
+        same("slots by number", index.slots_by_number(), Ok(&by_number[..]))?;
         same("guard", index.guard_status(), Ok(self.status()))?;
         if let Some((_, pool)) = &self.guard {
             same("pool", &index.memory().pool[..pool.len()], &pool[..])?;
@@ -303,6 +348,7 @@ impl Model {
             let slot = self.slots.get(id as usize);
             same(&format!("mark of {id}"), index.mark(id), Ok(self.is_live(id)))?;
             same(&format!("version of {id}"), index.slot_version(id), Ok(slot.map_or(0, |slot| slot.version)))?;
+            same(&format!("number of {id}"), index.number(id), Ok(slot.map(|slot| slot.number).filter(|&number| number != 0)))?;
             same(&format!("vector of {id}"), index.vector(id), slot.filter(|slot| slot.live).map(|slot| &slot.vector[..]))?;
         }
         Ok(())
