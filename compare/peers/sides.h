@@ -25,14 +25,22 @@ class Finder : public Side {
     struct finder index;
     struct finder_scratch scratch;
     std::unique_ptr<void, decltype(&free)> block{nullptr, free}, work{nullptr, free};
-    uint32_t slots[K], found;
+    uint32_t slots[K], numbers[K], found;
     float dists[K];
+    uint32_t last = 0; // figure numbers run on: the last that was given
 
     static void accepted(uint32_t refused) {
         if (refused) {
             fprintf(stderr, "the library refuses a call with %u\n", refused);
             exit(2);
         }
+    }
+    // The next figure numbers.
+    std::vector<uint32_t> next(size_t count) {
+        std::vector<uint32_t> given(count);
+        for (uint32_t &number : given)
+            number = ++last;
+        return given;
     }
     // Memory that begins at a line of memory, as finder.h advises.
     static void *lines(size_t bytes) { return aligned_alloc(64, (bytes + 63) / 64 * 64); }
@@ -46,7 +54,8 @@ class Finder : public Side {
         work.reset(lines(n.scratch_bytes));
         accepted(finder_place(&index, block.get(), n.block_bytes, dim, capacity, DEGREE));
         accepted(finder_place_scratch(&scratch, work.get(), n.scratch_bytes));
-        accepted(finder_create_in(&index, ALPHA, entry, bytes.size() / dim, bytes.data(), bytes.size(), rows.data(), rows.size()));
+        const auto given = next(bytes.size() / dim);
+        accepted(finder_create_in(&index, ALPHA, entry, given.size(), bytes.data(), bytes.size(), rows.data(), rows.size(), given.data(), given.size()));
     }
     // An index of one vector.
     Finder(size_t dim, size_t capacity, const uint8_t *vector)
@@ -55,8 +64,9 @@ class Finder : public Side {
     // Inserts vectors with one call; their slots.
     std::vector<uint32_t> insert(const uint8_t *bytes, size_t count) {
         std::vector<uint32_t> filled(count);
+        const auto given = next(count);
         uint32_t inserted;
-        accepted(finder_insert_in(&index, bytes, count * dim, BEAM, filled.data(), count, scratch, &inserted));
+        accepted(finder_insert_in(&index, bytes, count * dim, given.data(), count, BEAM, filled.data(), count, scratch, &inserted));
         return filled;
     }
     void remove(const uint32_t *ids, size_t count) {
@@ -66,7 +76,7 @@ class Finder : public Side {
             accepted(finder_delete_in(&index, ids + i, std::min<size_t>(count - i, FINDER_MAX_IDS), REPAIR_BEAM, REPAIR_DEGREE, stats, scratch, &emptied));
     }
     void search(const uint8_t *query, uint32_t beam) override {
-        accepted(finder_search_in(&index, query, dim, K, beam, slots, dists, scratch, &found));
+        accepted(finder_search_in(&index, query, dim, K, beam, slots, dists, numbers, scratch, &found));
     }
     std::vector<uint32_t> answers() override { return std::vector<uint32_t>(slots, slots + found); }
 };

@@ -12,7 +12,7 @@ import sys
 ROOT = os.path.dirname(os.path.dirname(os.path.dirname(os.path.abspath(__file__))))
 COPY = os.path.join(ROOT, "target", "replay-faults")
 CRATES = os.path.join(COPY, "crates")
-LOOKS, TEXT = "looks/src/lib.rt", "text/src/lib.rt"
+LOOKS, TEXT, PREPARE = "looks/src/lib.rt", "text/src/lib.rt", "lines/src/prepare.rt"
 MAKING, INSERTING, DELETING = ("changes/src/%s.rt" % f for f in ("making", "inserting", "deleting"))
 STATUSES, ENABLING, REPORTS, ASSESSING, GUARDED = ("guards/src/%s.rt" % f for f in ("statuses", "enabling", "reports", "assessing", "deleting"))
 FAULTS = [
@@ -22,17 +22,25 @@ FAULTS = [
     ("read: refusal with itself", LOOKS, "Value::Refused(r) => r == refusal,", "Value::Refused(r) => r == r,"),
     ("read: refusal not looked at where carried out", LOOKS, "Value::Number(n) => refusal == 0 && n == value", "Value::Number(n) => n == value"),
     ("read: end of line not looked at", LOOKS, "same_value(got, refusal.value, value.value) && ends(line, value)", "same_value(got, refusal.value, value.value)"),
+    ("read: another thing than the figure number", LOOKS, "_ => Reading::Number(slot),", "_ => Reading::Mark(slot),"),
+    ("read: figure number not looked at", LOOKS, "same_value(got, refusal.value, value.value) && ends(line, value)", "(what.value == 9 || same_value(got, refusal.value, value.value)) && ends(line, value)"),
     ("vector: bytes with themselves", LOOKS, "(got[i] as u32) != last.value", "got[i] != got[i]"),
     ("vector: length not looked at", LOOKS, "if wide(count.value) != got.len() {", "if got.len() != got.len() {"),
     ("vector: end of line not looked at", LOOKS, "        i += 1;\n    }\n    ends(line, last)\n}\n\n// Performs a line `vector`.", "        i += 1;\n    }\n    true\n}\n\n// Performs a line `vector`."),
     ("size: with itself", LOOKS, "refusal.value == 0 && n == value.value", "refusal.value == 0 && n == n"),
     ("size: refusal with itself", LOOKS, "good && r == refusal.value", "good && r == r"),
-    ("search: slot with itself", LOOKS, "slots[i] == slot &&", "slots[i] == slots[i] &&"),
-    ("search: distance not looked at", LOOKS, "slots[i] == slot && dists[i] == std::num::nearest_u32_to_f32(dist)", "slots[i] == slot"),
-    ("search: count with itself", LOOKS, "n == count.value && same", "n == n && same"),
+    ("search: slot with itself", LOOKS, "slots[i] == slot\n", "slots[i] == slots[i]\n"),
+    ("search: distance not looked at", LOOKS, "\n            && dists[i] == std::num::nearest_u32_to_f32(dist)", ""),
+    ("search: number with itself", LOOKS, "figures[i] == figure;", "figures[i] == figures[i];"),
+    ("search: number not looked at", LOOKS, "\n            && figures[i] == figure;", ";"),
+    ("search: count with itself", LOOKS, "n == count.value\n", "n == n\n"),
     ("search: refusal with itself", LOOKS, "Found::Refused(r) => r == refusal.value", "Found::Refused(r) => r == r"),
-    ("search: refusal not looked at where carried out", LOOKS, "refusal.value == 0 && n == count.value", "n == count.value"),
-    ("search: candidates not looked at", LOOKS, "n == count.value && same_candidates(line, count, slots, dists)", "n == count.value"),
+    ("search: refusal not looked at where carried out", LOOKS, "refusal.value == 0\n                && n == count.value", "n == count.value"),
+    ("search: candidates not looked at", LOOKS, "\n                && same_candidates(line, count, slots, dists, figures)", ""),
+    ("numbers: not taken over", PREPARE, "words(line, count, 0, figures)", "words(line, count, 0, &mut [0u32; 2048])"),
+    ("numbers: their count not taken over", PREPARE, "        lent.of[GIVEN_NUMBERS] = wide(count.value);\n", ""),
+    ("store: numbers not altered", PREPARE, "5 => set_word(numbers, to.i, to.value),", "5 => true,"),
+    ("store: summary not altered", PREPARE, "6 => set_word(summary, to.i, to.value),", "6 => true,"),
     ("make: refusal with itself", MAKING, "new.good = m.good && r == m.refusal", "new.good = m.good && r == r"),
     ("make: refusal not looked at where carried out", MAKING, "new.good = m.good && m.refusal == 0", "new.good = m.good"),
     ("make: form of the line not looked at", MAKING, "good: ends(line, refusal),", "good: true,"),
@@ -53,6 +61,8 @@ FAULTS = [
     ("delete: end of a refused line not looked at", DELETING, "r == refusal.value && ends(line, refusal)", "r == refusal.value"),
     ("delete: refusal not looked at where carried out", DELETING, "refusal.value == 0\n                && same", "same"),
     ("delete: the index not taken over", DELETING, "new.index = index;", "new.index = step.index;"),
+    ("delete: numbers taken for slots", DELETING, "naming_of(naming.value)", "naming_of(0)"),
+    ("delete: a naming of 2 accepted", DELETING, "if no_naming(naming) {", "if naming.value != 2 && no_naming(naming) {"),
     ("status: numbers not looked at", STATUSES, "ends(line, same_status(line, refusal, s))", "true"),
     ("status: four numbers", STATUSES, "same_part(line, before, 5, &numbers)", "same_part(line, before, 4, &numbers)"),
     ("status: enabled with itself", STATUSES, "if s.enabled { 1u32 } else { 0u32 }", "text::after(line, before).value"),
@@ -87,6 +97,8 @@ FAULTS = [
     ("guarded: refusal not looked at where applied", GUARDED, "refusal.value == 0 && same", "same"),
     ("guarded: refusal not looked at where deferred", GUARDED, "refusal.value == 0 && ends", "ends"),
     ("guarded: the index not taken over", GUARDED, "new.index = index;", "new.index = step.index;"),
+    ("guarded: numbers taken for slots", GUARDED, "naming_of(naming.value)", "naming_of(0)"),
+    ("guarded: a naming of 2 accepted", GUARDED, "if no_naming(naming) {", "if naming.value != 2 && no_naming(naming) {"),
 ]
 
 

@@ -3,8 +3,8 @@
 
 Drives the Rust (compare/rust, variant `sorted`) through random histories and writes them with its answers to LIST, which the
 program `replay` performs. The Rust gives answers; the refusals that only the port has are worked out here, from document 01's
-table. Some lines are made wrong on purpose (`spoil`); PRINTED is what `replay` must print: the number of each of these, and the
-counts.
+table, and figure numbers, which the Rust does not know, from document 02: it is given the slots that numbers name. Some lines are
+made wrong on purpose (`spoil`); PRINTED is what `replay` must print: the number of each of these, and the counts.
 """
 import subprocess
 import sys
@@ -14,6 +14,8 @@ BLANK = 4294967295
 NAN = 4294967295  # as an alpha
 ONE = 1 << 24  # alpha 1.0
 POOL = 1024
+SLOTS, DISTS, FOUND, WORDS = 8, 9, 10, 11  # places of the lengths lent, after the index's eight
+BY_SLOT, BY_NUMBER = 0, 1  # what the names of a delete are
 
 
 class Random:
@@ -122,30 +124,36 @@ def settings_over(settings):
 
 def exact(dim, capacity, degree):
     rows = capacity * degree
-    return [capacity * dim, rows, rows, capacity, capacity, POOL]
+    return [capacity * dim, rows, rows, capacity, capacity, POOL, capacity, capacity]
 
 
-def making_refusal(sizes, alpha, entry, count, lent, given, rows):
+def unfit(numbers, live):
+    """Row 15: a number is 0, live already, or twice in the list."""
+    return 0 in numbers or len(set(numbers)) < len(numbers) or not live.isdisjoint(numbers)
+
+
+def making_refusal(sizes, alpha, entry, count, lent, given, rows, numbers):
     dim, capacity, degree = sizes
     if sizes_bad(*sizes):
         return 1
     if alpha_bad(alpha):
         return 2
-    if lent[:6] != exact(*sizes) or len(given) != count * dim or len(rows) != count * degree:
+    if lent[:8] != exact(*sizes) or len(given) != count * dim or len(rows) != count * degree or len(numbers) != count:
         return 3
     if count > capacity:
         return 4
     if any(t != BLANK and t >= count for t in rows) or not (entry < count or (count == 0 and entry == 0)):
         return 5
-    return 0
+    return 15 if unfit(numbers, set()) else 0
 
 
 class Book:
     """What is known of the index that the list has made: enough to say which calls are turned back."""
 
     def __init__(self):
-        self.sizes, self.alpha, self.entry, self.live, self.marked, self.lent = [0, 0, 0], 0, 0, 0, 0, [0] * 9
+        self.sizes, self.alpha, self.entry, self.live, self.marked, self.lent = [0, 0, 0], 0, 0, 0, 0, [0] * 12
         self.guard = None  # or its four settings and the length of its pool
+        self.numbers, self.mislabelled = {}, False  # the number of each live slot; whether numbers or summary were made to break their rules
 
     def guard_fault(self):
         return self.guard is not None and (0 in self.guard[:4] or settings_over(self.guard) or self.guard[4] > POOL)
@@ -155,22 +163,22 @@ class Book:
             return 1
         if alpha_bad(self.alpha):
             return 2
-        if self.lent[:6] != exact(*self.sizes) or wrong_length:
+        if self.lent[:8] != exact(*self.sizes) or wrong_length:
             return 3
-        if self.live != self.marked or self.entry >= self.sizes[1] or self.guard_fault():
+        if self.live != self.marked or self.entry >= self.sizes[1] or self.guard_fault() or self.mislabelled:
             return 6
         return 0
 
     def search_refusal(self, k, beam, query):
         if refused := self.refusal(query != self.sizes[0]):
             return refused
-        if beam > 1024 or k > self.lent[6] or k > self.lent[7]:
+        if beam > 1024 or k > min(self.lent[SLOTS], self.lent[DISTS], self.lent[FOUND]):
             return 7
         return self.short_scratch()
 
-    def insert_refusal(self, beam, given):
+    def insert_refusal(self, beam, given, numbers):
         dim = max(1, self.sizes[0])
-        if refused := self.refusal(self.lent[6] < given // dim):
+        if refused := self.refusal(self.lent[SLOTS] < given // dim or len(numbers) != given // dim):
             return refused
         if beam > 1024:
             return 7
@@ -178,12 +186,14 @@ class Book:
             return refused
         if given % dim:
             return 9
-        return 10 if given // dim > self.sizes[1] - self.live else 0
+        if given // dim > self.sizes[1] - self.live:
+            return 10
+        return 15 if unfit(numbers, set(self.numbers.values())) else 0
 
-    def delete_refusal(self, beam, degree, ids):
-        if refused := self.refusal(self.lent[6] < ids):
+    def delete_refusal(self, beam, degree, names):
+        if refused := self.refusal(self.lent[SLOTS] < names):
             return refused
-        if beam > 256 or degree > 16 or ids > 256:
+        if beam > 256 or degree > 16 or names > 256:
             return 7
         return self.short_scratch()
 
@@ -195,7 +205,7 @@ class Book:
         return self.short_scratch() or {0: 12, 1: 13}.get(self.live, 0)
 
     def report_refusal(self, over, few_stats=False):
-        if refused := self.refusal(few_stats or self.lent[6] < 64 or self.lent[7] < 64):
+        if refused := self.refusal(few_stats or self.lent[SLOTS] < 64 or self.lent[DISTS] < 64):
             return refused
         if over:
             return 7
@@ -204,11 +214,20 @@ class Book:
     def assess_refusal(self, ids):
         return self.report_refusal(ids > 256)
 
-    def guarded_refusal(self, beam, degree, ids):
-        return self.report_refusal(beam > 256 or degree > 16 or ids > 256, self.lent[6] < ids)
+    def guarded_refusal(self, beam, degree, names):
+        return self.report_refusal(beam > 256 or degree > 16 or names > 256, self.lent[SLOTS] < names)
 
     def short_scratch(self):
-        return 8 if self.lent[8] < scratch_words(self.sizes[1]) else 0
+        return 8 if self.lent[WORDS] < scratch_words(self.sizes[1]) else 0
+
+    def summary(self):
+        """The live slots by rising number; blanks follow."""
+        return sorted(self.numbers, key=self.numbers.get)
+
+    def slots_of(self, naming, names):
+        """The slots that a delete names, as the Rust is told."""
+        slots = {number: slot for slot, number in self.numbers.items()}
+        return list(names) if naming == BY_SLOT else [slots[name] for name in names if name in slots]
 
 
 # ---------------------------------------------------------------- the list
@@ -216,7 +235,8 @@ class Book:
 
 class List:
     def __init__(self, oracle, random):
-        self.oracle, self.random, self.book, self.given, self.rows = oracle, random, Book(), [], []
+        self.oracle, self.random, self.book, self.given, self.rows, self.numbers = oracle, random, Book(), [], [], []
+        self.figures = Random(SEED + 1)  # what concerns figure numbers alone is drawn from this
         self.text, self.lines, self.agreed, self.wrong, self.change = [], 0, {}, [], None
 
     def note(self, text):
@@ -250,21 +270,40 @@ class List:
         self.book.lent = list(lengths)
         self.put("lend", *lengths)
 
-    def lend_for(self, sizes, slots=1024, dists=1024, words=None):
+    def lend_for(self, sizes, slots=1024, dists=1024, found=1024, words=None):
         fit = scratch_words(sizes[1]) if words is None else words
-        self.lend(*exact(*sizes), slots, dists, fit)
+        self.lend(*exact(*sizes), slots, dists, found, fit)
 
-    def give(self, given, rows):
+    def give(self, given, rows, numbers):
         self.given, self.rows = given, rows
         self.put("give", len(given), *given)
         self.put("rows", len(rows), *[(t + 1) % 2**32 for t in rows])
+        self.number(numbers)
+
+    def number(self, numbers):
+        """The figure numbers of the making or the insert that comes next, whose line alone is made wrong."""
+        change, self.change, self.numbers = self.change, None, list(numbers)
+        self.put("numbers", len(numbers), *numbers)
+        self.change = change
+
+    def fresh(self, n, taken):
+        """So many numbers that may be given: mostly small, at times any or the largest ones; none of those that are taken."""
+        r, numbers, seen = self.figures, [], set(taken)
+        style, span = r.below(8) if n < 60 else 2, 2 * (len(seen) + n) + 3
+        while len(numbers) < n:
+            number = r.among(1, BLANK) if style == 0 else BLANK - r.below(span) if style == 1 else r.among(1, span)
+            if number not in seen:
+                seen.add(number)
+                numbers.append(number)
+        return numbers
 
     def make(self, sizes, alpha, entry, count):
-        refused = making_refusal(sizes, alpha, entry, count, self.book.lent, self.given, self.rows)
+        refused = making_refusal(sizes, alpha, entry, count, self.book.lent, self.given, self.rows, self.numbers)
         self.put("make", *sizes, alpha, entry, count, refused)
         if not refused:
             b = self.book
             b.sizes, b.alpha, b.entry, b.live, b.marked, b.guard = list(sizes), alpha, entry, count, count, None
+            b.numbers = dict(enumerate(self.numbers))
         return refused
 
     def set(self, field, value):
@@ -303,48 +342,63 @@ class List:
                 self.put("search", k, beam, len(query), *query, r)
             else:
                 found = next(answers).split()
-                pairs = [x for pair in found[2:] for x in pair.split(":")]
-                self.put("search", k, beam, len(query), *query, 0, found[1], *pairs)
+                three = [x for slot, dist in (pair.split(":") for pair in found[2:]) for x in (slot, dist, self.book.numbers[int(slot)])]
+                self.put("search", k, beam, len(query), *query, 0, found[1], *three)
 
     def search(self, k, beam, query):
         self.searches([(k, beam, query)])
 
-    def insert(self, beam, given):
+    def insert(self, beam, given, numbers=None):
         """Inserts the vectors that these bytes hold, on the Rust too where it is not refused."""
         b, dim = self.book, self.book.sizes[0]
         change, self.change, self.given = self.change, None, given
         self.put("give", len(given), *given)
+        self.number(self.fresh(len(given) // max(1, dim), b.numbers.values()) if numbers is None else numbers)
         self.change = change
-        if refused := b.insert_refusal(beam, len(given)):
+        if refused := b.insert_refusal(beam, len(given), self.numbers):
             return self.put("insert", beam, refused)
         vectors = ["x" + bytes(given[i:i + dim]).hex() for i in range(0, len(given), dim)]
         asked = " ".join(["insert", str(beam), str(len(vectors))] + vectors)
         slots = self.oracle.answers([asked])[0].split()[1:]
         self.oracle.call(asked)
         b.live, b.marked = b.live + len(vectors), b.marked + len(vectors)
+        b.numbers.update(zip(map(int, slots[1:]), self.numbers))
         self.put("insert", beam, 0, *slots)
 
-    def name(self, ids):
-        """The ids of the call that comes next, whose line alone is made wrong."""
-        change, self.change, self.rows = self.change, None, ids
-        self.put("rows", len(ids), *[(i + 1) % 2**32 for i in ids])
+    def name(self, names):
+        """The names of the call that comes next, whose line alone is made wrong."""
+        change, self.change, self.rows = self.change, None, names
+        self.put("rows", len(names), *[(i + 1) % 2**32 for i in names])
         self.change = change
 
-    def emptied(self, asked):
+    def named(self, slots):
+        """Slots, or in their place the numbers of those that are live, and others, 0 among them, for those that are not."""
+        if self.figures.below(2):
+            return BY_SLOT, slots
+        other = [0, 1, BLANK, self.figures.among(1, 2**32 - 1)] + self.book.summary()[:2]
+        return BY_NUMBER, [self.book.numbers.get(slot, self.figures.pick(other)) for slot in slots]
+
+    def emptied(self, asked, slots):
         """The Rust's answer to a call that empties slots, which is then performed."""
         answer, head = self.oracle.answers([asked, "shelf"])[:2]
         self.oracle.call(asked)
         entry, live = [int(x) for x in head.split()[1::2]]
-        self.book.entry, self.book.live, self.book.marked = entry, live, live
-        return answer.split()
+        b, answer = self.book, answer.split()
+        b.entry, b.live, b.marked = entry, live, live
+        if answer[0] != "deferred":
+            b.numbers = {slot: number for slot, number in b.numbers.items() if slot not in slots}
+        if len(b.numbers) != live:
+            sys.exit("other slots are live than those that have numbers")
+        return answer
 
-    def delete(self, beam, degree, ids):
-        """Deletes these ids, on the Rust too where it is not refused."""
-        self.name(ids)
-        if refused := self.book.delete_refusal(beam, degree, len(ids)):
-            return self.put("delete", beam, degree, refused)
-        answer = self.emptied(joined("delete", beam, degree, *ids))
-        self.put("delete", beam, degree, 0, *stats_of(answer))
+    def delete(self, beam, degree, names, naming=BY_SLOT):
+        """Deletes what these names say, on the Rust too where it is not refused."""
+        self.name(names)
+        if refused := self.book.delete_refusal(beam, degree, len(names)):
+            return self.put("delete", naming, beam, degree, refused)
+        slots = self.book.slots_of(naming, names)
+        answer = self.emptied(joined("delete", beam, degree, *slots), slots)
+        self.put("delete", naming, beam, degree, 0, *stats_of(answer))
 
     def enable(self, *settings):
         """Enables the guard, on the Rust too where it is not refused."""
@@ -373,21 +427,22 @@ class List:
             return self.put("assess", refused)
         self.put("assess", 0, *report_of(self.oracle.answers([joined("assess", *ids)])[0].split()))
 
-    def guarded(self, beam, degree, ids):
-        """Deletes these ids if the guard admits it, on the Rust too where it is not refused."""
-        self.name(ids)
-        if refused := self.book.guarded_refusal(beam, degree, len(ids)):
-            return self.put("guarded", beam, degree, refused)
-        answer = self.emptied(joined("gdelete", beam, degree, *ids))
-        self.put("guarded", beam, degree, 0, *report_of(answer), *(stats_of(answer) if answer[0] == "applied" else []))
+    def guarded(self, beam, degree, names, naming=BY_SLOT):
+        """Deletes what these names say if the guard admits it, on the Rust too where it is not refused."""
+        self.name(names)
+        if refused := self.book.guarded_refusal(beam, degree, len(names)):
+            return self.put("guarded", naming, beam, degree, refused)
+        slots = self.book.slots_of(naming, names)
+        answer = self.emptied(joined("gdelete", beam, degree, *slots), slots)
+        self.put("guarded", naming, beam, degree, 0, *report_of(answer), *(stats_of(answer) if answer[0] == "applied" else []))
 
-    def begin(self, sizes, alpha, entry, vectors, rows):
+    def begin(self, sizes, alpha, entry, vectors, rows, numbers=None):
         """Makes an index of these vectors and rows, on the Rust too."""
         bits = "0x%08x" % (0x3F800000 + (alpha - ONE) // 2)
         words = ["x" + bytes(v).hex() for v in vectors] + [",".join("-" if t == BLANK else str(t) for t in row) for row in rows]
         self.oracle.call("make", *sizes, bits, entry, len(vectors), *words)
         self.lend_for(sizes)
-        self.give([x for v in vectors for x in v], [t for row in rows for t in row])
+        self.give([x for v in vectors for x in v], [t for row in rows for t in row], self.fresh(len(vectors), ()) if numbers is None else numbers)
         if self.make(sizes, alpha, entry, len(vectors)):
             sys.exit("a making that is refused")
 
@@ -404,11 +459,31 @@ class List:
         self.store(3, at, version)
 
     def put_marks(self, marks):
+        """A slot that comes to life gets a number, and one that dies loses its own."""
+        numbers = dict(self.book.numbers)
         for slot, mark in marks:
             self.oracle.call("setmark", slot, mark)
             self.store(0, slot, mark)
+            if mark == 0:
+                numbers.pop(slot, None)
+            elif slot not in numbers:
+                numbers[slot] = self.fresh(1, numbers.values())[0]
         self.set(5, self.oracle.dump().live)
         self.book.marked = self.book.live
+        self.put_numbers(numbers)
+
+    def put_numbers(self, numbers):
+        """Other numbers, and the summary that goes with them."""
+        b = self.book
+        was, old = b.numbers, b.summary()
+        b.numbers = numbers
+        new = b.summary()
+        for slot in sorted(s for s in set(was) | set(numbers) if was.get(s) != numbers.get(s)):
+            self.store(5, slot, numbers.get(slot, 0))
+        n = max(len(old), len(new))
+        for place, (before, after) in enumerate(zip(old + [BLANK] * (n - len(old)), new + [BLANK] * (n - len(new)))):
+            if before != after:
+                self.store(6, place, after)
 
     def put_entry(self, slot):
         self.oracle.call("setentry", slot)
@@ -425,6 +500,7 @@ class List:
         s = dump.slots[i] if i < len(dump.slots) else None
         self.read(6, i, 0, 1 if s and s.mark else 0)
         self.read(7, i, 0, s.version if s else 0)
+        self.read(9, i, 0, self.book.numbers.get(i, 0))
         live = s.live if s else []
         for place in range(len(live) + 1):
             self.read(8, i, place, live[place] if place < len(live) else BLANK)
@@ -486,11 +562,13 @@ class History:
 
     def delete(self, ids, reads=2):
         """Deletes, and readings of some slots whose rows that changed."""
-        self.compared(lambda: self.out.delete(self.random.below(8), self.random.below(4), ids), reads)
+        naming, names = self.out.named(ids)
+        self.compared(lambda: self.out.delete(self.random.below(8), self.random.below(4), names, naming), reads)
 
     def guarded(self, ids, reads=2):
         """The same under the guard, which may defer it."""
-        self.compared(lambda: self.out.guarded(self.random.below(8), self.random.below(4), ids), reads)
+        naming, names = self.out.named(ids)
+        self.compared(lambda: self.out.guarded(self.random.below(8), self.random.below(4), names, naming), reads)
 
     def some(self, n):
         return [self.random.below(self.sizes[1]) for _ in range(n)]
@@ -511,6 +589,11 @@ class History:
             out.put_edge(slot, self.random.below(degree), target, pick([0, 1, 65535]))
         out.put_marks([(slot, pick([0, 1, 2, 255])) for slot in self.some(2)])
         out.put_entry(self.random.below(capacity))
+        if len(out.book.numbers) > 1:
+            numbers = dict(out.book.numbers)
+            one, other = [out.figures.pick(sorted(numbers)) for _ in range(2)]
+            numbers[one], numbers[other] = numbers[other], numbers[one]
+            out.put_numbers(numbers)
 
     def shown(self, searches, reads, k=12, beams=(0, 1, 2, 3, 5, 8, 16, 64)):
         dump = self.oracle.dump()
@@ -527,7 +610,7 @@ class History:
 
 def small(out):
     r = out.random
-    for i in range(24):
+    for i in range(17):
         capacity = r.among(1, 32)
         alpha = r.pick([ONE, ONE * 5 // 4, ONE * 3 // 2, 2 * ONE, ONE + 2 * r.below(ONE // 2)])
         h = History(out, r.among(1, 5), capacity, r.among(1, 6), alpha, r.pick([2, 2, 3, 4, 256]))
@@ -544,9 +627,9 @@ def medium(out):
     for dim, capacity, degree, values in ((1, 60, 3, 6), (3, 120, 5, 3), (4, 200, 8, 256)):
         h = History(out, dim, capacity, degree, ONE * 5 // 4, values)
         h.make(capacity * 3 // 4)
-        h.shown(40, 3, 24)
+        h.shown(30, 3, 24)
         h.changes(8, 10)
-        h.shown(60, 3, 24)
+        h.shown(40, 3, 24)
 
 
 def dead_entries(out):
@@ -570,11 +653,11 @@ def wide(out):
         h = History(out, 256, 14, degree, ONE * 5 // 4, values)
         h.make(9)
         h.changes(4, 3)
-        h.shown(10, 2)
+        h.shown(6, 1)
     h = History(out, 2, 90, 64, ONE * 3 // 2, 6)
     h.make(70)
     h.changes(6, 8)
-    h.shown(60, 3, 20, (1, 4, 16, 64, 128))
+    h.shown(40, 2, 20, (1, 4, 16, 64, 128))
 
 
 def many(out):
@@ -584,8 +667,8 @@ def many(out):
     for _ in range(4):
         h.insert(40)
         h.delete(h.some(30))
-    dump = h.shown(60, 3, 20, (10, 32, 100, 300, 700, 1023, 1024))
-    for k, beam in ((1024, 1024), (1000, 1023), (1024, 60)):
+    dump = h.shown(30, 3, 20, (10, 32, 100, 300, 700, 1023, 1024))
+    for k, beam in ((1024, 1024), (1024, 60)):
         out.search(k, beam, h.query(dump))
 
 
@@ -605,15 +688,15 @@ def largest(out):
 
 def guarded_shelf(out):
     """Document 01's small shelf under the guard: deleting slot 1 would lose slot 2, deleting slot 2 is admitted, deleting all that is left is not."""
-    out.begin([1, 4, 2], ONE, 1, [[0], [3], [10]], [[1, BLANK], [0, 2], [1, BLANK]])
+    out.begin([1, 4, 2], ONE, 1, [[0], [3], [10]], [[1, BLANK], [0, 2], [1, BLANK]], [30, 10, 20])
     out.status()
     out.assess([1])
     out.guarded(2, 1, [1])
     out.enable(2, 0, 4, 4)
     out.status()
     out.assess([1, 1, 9])
-    for ids in ([1, 1, 9], [2, 9, 2], [2], [0, 1], []):
-        out.guarded(2, 1, ids)
+    for naming, names in ((BY_SLOT, [1, 1, 9]), (BY_NUMBER, [10, 10, 9]), (BY_NUMBER, [20, 9, 20]), (BY_SLOT, [2]), (BY_NUMBER, [20, 0]), (BY_NUMBER, [30, 10]), (BY_SLOT, [])):
+        out.guarded(2, 1, names, naming)
         out.status()
         dump = out.oracle.dump()
         out.read(4, 0, 0, dump.entry)
@@ -668,9 +751,9 @@ def refused_makings(out):
     sizes = [2, 4, 3]
     given, rows = [7] * 6, [1, BLANK, 0, 2, 2, BLANK, BLANK, BLANK, 0]
 
-    def attempt(sizes=sizes, alpha=ONE, entry=1, count=3, given=given, rows=rows, lent=None):
-        out.lend_for([2, 4, 3]) if lent is None else out.lend(*lent, 1024, 1024, 0)
-        out.give(given, rows)
+    def attempt(sizes=sizes, alpha=ONE, entry=1, count=3, given=given, rows=rows, numbers=None, lent=None):
+        out.lend_for([2, 4, 3]) if lent is None else out.lend(*lent, 1024, 1024, 1024, 0)
+        out.give(given, rows, out.fresh(count, ()) if numbers is None else numbers)
         out.make(sizes, alpha, entry, count)
         out.read(5, 0, 0, out.book.live)
 
@@ -679,7 +762,7 @@ def refused_makings(out):
         attempt(sizes=bad)
     for alpha in (0, ONE - 1, ONE, 2 * ONE, 2 * ONE + 4, NAN, 15099494):
         attempt(alpha=alpha)
-    for i in range(6):
+    for i in range(8):
         for more in (-1, 1):
             attempt(lent=[n + more * (j == i) - (j == 5 and more == 1 and i == 5) * 2 for j, n in enumerate(exact(*sizes))])
     attempt(given=given[1:])
@@ -694,6 +777,12 @@ def refused_makings(out):
         attempt(rows=rows[:4] + [word] + rows[5:])
     for entry in (2, 3, 4, BLANK):
         attempt(entry=entry)
+    for numbers in ([], [7, 8], [7, 8, 9, 10], [7, 0, 9], [0, 0, 0], [7, 8, 7], [9, 9, 8], [BLANK, 1, BLANK - 1], [BLANK, BLANK, 1]):
+        attempt(numbers=numbers)
+    attempt(numbers=[3, 3, 0], entry=3)
+    attempt(numbers=[3, 3, 0], alpha=0)
+    attempt(count=0, given=[], rows=[], numbers=[1], entry=0)
+    attempt(count=5, given=[1] * 10, rows=[0] * 15, numbers=[2] * 5)
 
 
 def refused_calls(out):
@@ -716,25 +805,71 @@ def refused_calls(out):
             attempts(query=(1,), beam=1025)
         out.set(field, kept)
         attempts()
-    fit = exact(*book.sizes) + [12, 10, scratch_words(book.sizes[1])]
-    for i in range(9):
+    fit = exact(*book.sizes) + [12, 10, 11, scratch_words(book.sizes[1])]
+    for i in range(12):
         out.lend(*[n - (j == i) for j, n in enumerate(fit)])
         attempts(k=9)
         attempts(k=10)
+    out.lend(*fit[:FOUND], 9, fit[WORDS])
+    attempts(k=9)
+    attempts(k=10)
     out.lend(*fit)
     for query in ((), (1,), (1, 2), (1, 2, 3)):
         attempts(query=query)
     for k, beam in ((10, 1024), (11, 1024), (10, 1025), (0, BLANK), (BLANK, 0), (0, 0)):
         attempts(k=k, beam=beam)
-    out.lend(*fit[:8], 0)
+    out.lend(*fit[:WORDS], 0)
     attempts(k=0, beam=0)
     attempts(k=13)
+
+
+def mislabelled(out):
+    """Calls on an index whose numbers or summary break their rules."""
+    h = History(out, 1, 6, 2, ONE, 9)
+    h.make(6)
+    h.delete([1, 4])
+    out.enable(2, 1, 6, 4)
+    book = out.book
+
+    def attempts():
+        out.read(9, 0, 0, book.numbers[0])
+        out.search(2, 3, [1])
+        out.insert(4, [3])
+        out.delete(1, 1, [book.numbers[0]], BY_NUMBER)
+        out.status()
+        out.assess([0])
+        out.guarded(1, 1, [0])
+
+    numbers, summary = book.numbers, book.summary() + [BLANK] * 2
+    last = max(numbers, key=numbers.get)
+    least = min(numbers, key=numbers.get)
+    wrong = [(5, 0, 0), (5, 1, 999), (5, last, numbers[least]), (5, least, BLANK), (6, 0, summary[1]), (6, 3, summary[2]), (6, 1, BLANK), (6, 2, 6), (6, 0, 4)]
+    wrong += [(6, 3, BLANK), (6, 4, 1), (6, 5, 0), (6, 4, summary[3])]
+    for array, place, value in wrong:
+        kept = numbers.get(place, 0) if array == 5 else summary[place]
+        out.store(array, place, value)
+        book.mislabelled = True
+        attempts()
+        out.store(array, place, kept)
+        book.mislabelled = False
+        out.read(5, 0, 0, book.live)
+    # a slot is marked that has no number, and one unmarked that has
+    for slot, mark, live in ((1, 1, 5), (last, 0, 3)):
+        out.store(0, slot, mark)
+        out.set(5, live)
+        book.marked, book.mislabelled = live, True
+        attempts()
+        out.store(0, slot, 1 - mark)
+        out.set(5, 4)
+        book.marked, book.mislabelled = 4, False
+        out.read(5, 0, 0, book.live)
+    attempts()
 
 
 def small_shelf(out):
     """Document 01's: 6 into the shelf, and then 1 is deleted; 7 into it with every slot emptied, and the entry stays dead."""
     for emptied, value, then in (([], 6, [1]), ([0, 1, 2], 7, [])):
-        out.begin([1, 4, 2], ONE, 1, [[0], [3], [10]], [[1, BLANK], [0, 2], [1, BLANK]])
+        out.begin([1, 4, 2], ONE, 1, [[0], [3], [10]], [[1, BLANK], [0, 2], [1, BLANK]], [30, 10, 20])
         for call in (lambda: out.delete(2, 1, emptied), lambda: out.insert(2, [value]), lambda: out.delete(2, 1, then)):
             call()
             dump = out.oracle.dump()
@@ -742,6 +877,17 @@ def small_shelf(out):
             for slot in range(4):
                 out.read_slot(dump, slot)
         out.search(4, 4, [3])
+    # numbers 10, 0, 10 and 7: slot 1 alone, and four names need four places for stats
+    out.begin([1, 4, 2], ONE, 1, [[0], [3], [10]], [[1, BLANK], [0, 2], [1, BLANK]], [30, 10, 20])
+    for places in (3, 4):
+        out.lend_for([1, 4, 2], slots=places)
+        out.delete(2, 1, [10, 0, 10, 7], BY_NUMBER)
+    dump = out.oracle.dump()
+    for slot in range(4):
+        out.read_slot(dump, slot)
+    out.insert(2, [5], [10])
+    out.insert(2, [6], [20])
+    out.search(4, 4, [3])
 
 
 def chunks(out):
@@ -762,7 +908,7 @@ def refused_inserts(out):
     book, two = out.book, [1, 2, 3, 4]
 
     def attempts():
-        out.insert(1025, two)
+        out.insert(1025, two, [0, 0])
         out.insert(1025, two + [5])
         out.read(5, 0, 0, book.live)
 
@@ -773,13 +919,23 @@ def refused_inserts(out):
             attempts()
         out.set(field, kept)
         attempts()
-    fit = exact(*book.sizes) + [2, 0, scratch_words(book.sizes[1])]
-    for i in (0, 1, 2, 3, 4, 5, 6, 8):
+    fit = exact(*book.sizes) + [2, 0, 0, scratch_words(book.sizes[1])]
+    for i in (0, 1, 2, 3, 4, 5, 6, 7, SLOTS, WORDS):
         out.lend(*[n - (j == i) for j, n in enumerate(fit)])
         attempts()
         out.insert(1024, two + [5])
         out.insert(1024, two + two)
     out.lend(*fit)
+    live = [book.numbers[slot] for slot in (0, 4)]
+    new = max(book.numbers.values()) % BLANK + 1
+    while new in book.numbers.values():
+        new = new % BLANK + 1
+    wrong = ([], [new], [new, 0], [0, new], [new, new], [live[0], new], [new, live[1]], [0, 0, 0])
+    for numbers in wrong:
+        out.insert(1024, two, numbers)
+        out.insert(1024, two + [5], numbers)
+        out.insert(1024, [1], numbers)
+        out.read(5, 0, 0, book.live)
     for given in (two + [5], two + [5, 6], [1], [], two, [1] * 5, [1] * 6, two):
         out.insert(1024, given)
         out.read(5, 0, 0, book.live)
@@ -787,6 +943,9 @@ def refused_inserts(out):
     for given in ([1] * 5, two, [1, 2], [1, 2], [], [1]):
         out.insert(0, given)
         out.read(5, 0, 0, book.live)
+    # no slot is free: 10 comes before 15
+    out.insert(0, two, [live[0]] * 2)
+    out.insert(0, [1, 2], [0])
 
 
 def deletes(out):
@@ -819,7 +978,7 @@ def refused_deletes(out):
 
     def attempts():
         out.delete(257, 1, [1, 2])
-        out.delete(1, 17, [1, 2, 3])
+        out.delete(1, 17, [1, 2, 3], BY_NUMBER)
         out.read(5, 0, 0, book.live)
 
     for field, values in ((0, (0, 257, 3)), (1, (0, 65537, 10)), (2, (0, 65, 3)), (3, (0, NAN)), (4, (9, BLANK)), (5, (6, 8))):
@@ -829,14 +988,19 @@ def refused_deletes(out):
             attempts()
         out.set(field, kept)
         attempts()
-    fit = exact(*book.sizes) + [2, 0, scratch_words(book.sizes[1])]
-    for i in (0, 1, 2, 3, 4, 5, 6, 8):
+    fit = exact(*book.sizes) + [2, 0, 0, scratch_words(book.sizes[1])]
+    for i in (0, 1, 2, 3, 4, 5, 6, 7, SLOTS, WORDS):
         out.lend(*[n - (j == i) for j, n in enumerate(fit)])
         attempts()
         out.delete(256, 16, [20, 21])
+        out.delete(256, 16, [0, 0], BY_NUMBER)
     out.lend_for(book.sizes)
     for beam, degree, ids in ((257, 16, []), (256, 17, []), (256, 16, [9] * 257), (256, 16, [9] * 256), (0, 0, [3, 3])):
         out.delete(beam, degree, ids)
+        out.read(5, 0, 0, book.live)
+    one = book.numbers[0]
+    for beam, degree, names in ((257, 16, []), (256, 17, []), (256, 16, [0] * 257), (256, 16, [0] * 256), (0, 0, [one, 0, one, BLANK])):
+        out.delete(beam, degree, names, BY_NUMBER)
         out.read(5, 0, 0, book.live)
 
 
@@ -852,7 +1016,7 @@ def refused_guards(out):
         out.status()
         out.enable(65, 2, 9, 4)
         out.assess([1])
-        out.guarded(257, 1, [1, 2])
+        out.guarded(257, 1, [1, 2], out.figures.below(2))
 
     settings = ((7, (0, 65)), (8, (0, 17)), (9, (0, 65537)), (10, (0, 1025)), (11, (1025, BLANK)))
     for field, values in ((0, (0, 257, 3)), (1, (0, 65537, 10)), (2, (0, 65, 3)), (3, (0, NAN)), (4, (9, BLANK)), (5, (6, 8))) + settings:
@@ -863,15 +1027,17 @@ def refused_guards(out):
             out.read(5, 0, 0, book.live)
         out.set(field, kept)
         attempts()
-    fit = exact(*book.sizes) + [64, 64, scratch_words(book.sizes[1])]
-    for i in range(9):
+    fit = exact(*book.sizes) + [64, 64, 1, scratch_words(book.sizes[1])]
+    for i in range(12):
         out.lend(*[n - (j == i) for j, n in enumerate(fit)])
         attempts()
         out.enable(64, 16, 65536, 1024)
         out.assess([])
         out.guarded(256, 16, [20] * 64)
+        out.guarded(256, 16, [0] * 64, BY_NUMBER)
     out.lend(*fit)
     out.guarded(1, 1, [20] * 65)
+    out.guarded(1, 1, [0] * 65, BY_NUMBER)
     out.lend_for(book.sizes)
     for over in ((65, 1, 1, 1), (1, 17, 1, 1), (1, 1, 65537, 1), (1, 1, 1, 1025), (BLANK,) * 4, (0, 0, 0, 0), (64, 16, 65536, 1024)):
         out.enable(*over)
@@ -882,7 +1048,7 @@ def refused_guards(out):
         out.read(5, 0, 0, book.live)
     out.disable()
     attempts()
-    for lent in ([63, 64, 0], [64, 63, 0], [64, 64, 0], [64, 64, scratch_words(9)]):
+    for lent in ([63, 64, 0, 0], [64, 63, 0, 0], [64, 64, 0, 0], [64, 64, 0, scratch_words(9)]):
         out.lend(*exact(*book.sizes), *lent)
         out.assess([1])
         out.guarded(256, 16, [1])
@@ -932,7 +1098,8 @@ def wrong_answers(out):
 
     def made():
         out.lend_for(dump.sizes)
-        out.give([v for s in dump.slots[:count] for v in s.vector], [t for s in dump.slots[:count] for t, _ in s.edges])
+        numbers = [book.numbers[slot] for slot in range(count)]
+        out.give([v for s in dump.slots[:count] for v in s.vector], [t for s in dump.slots[:count] for t, _ in s.edges], numbers)
 
     for what, change in (("making carried out, not refused", other(7)), ("making, a number missing", lambda w: w[:7]), ("making, a number more", lambda w: w + ["0"])):
         made()
@@ -948,7 +1115,7 @@ def wrong_answers(out):
     for what, value in enumerate(right):
         out.spoil("reading %d" % what, other(5, 1024))
         out.read(what, 0, 0, value)
-    for what, value in ((6, 1), (7, dump.slots[0].version), (8, dump.slots[entry].live[0])):
+    for what, value in ((6, 1), (7, dump.slots[0].version), (8, dump.slots[entry].live[0]), (9, book.numbers[0])):
         out.spoil("reading %d" % what, other(5))
         out.read(what, entry if what == 8 else 0, 0, value)
     for what, change in (("carried out, not refused", other(4, 6)), ("a number more", lambda w: w + ["0"])):
@@ -971,9 +1138,11 @@ def wrong_answers(out):
     out.vector(6, [])
     asked = (5, 6, vector)
     found = int(out.oracle.answers(["search 5 6 x" + bytes(vector).hex()])[0].split()[1])
-    first, last = 8, 8 + 2 * (found - 1)
+    first, last = 8, 8 + 3 * (found - 1)
     search_wrong = [("first slot", other(first)), ("first distance", other(first + 1)), ("last slot", other(last)), ("last distance", other(last + 1))]
-    search_wrong += [("one fewer", lambda w: w[:7] + [str(found - 1)] + w[8:-2]), ("one more", lambda w: w[:7] + [str(found + 1)] + w[8:] + ["0", "0"])]
+    search_wrong += [("first number", other(first + 2)), ("last number", other(last + 2)), ("numbers exchanged", exchanged(first + 2, last + 2))]
+    search_wrong += [("no numbers", lambda w: w[:8] + [x for i, x in enumerate(w[8:]) if i % 3 != 2])]
+    search_wrong += [("one fewer", lambda w: w[:7] + [str(found - 1)] + w[8:-3]), ("one more", lambda w: w[:7] + [str(found + 1)] + w[8:] + ["0"] * 3)]
     search_wrong += [("slots exchanged", exchanged(first, last)), ("carried out, not refused", other(6, 7)), ("another beam", other(2, 2000))]
     for what, change in search_wrong:
         out.spoil("search, " + what, change)
@@ -990,10 +1159,14 @@ def wrong_answers(out):
     for what, words in (("no word", ["", "1"]), ("another word", ["reads", "5"]), ("no number", ["read", "x"]), ("a field that is not there", ["set", "0"])):
         out.spoil(what, lambda w, words=words: words)
         out.put("read", 5, 0, 0, 0, book.live)
-    out.spoil("a store past the memory", other(2, 70000))
+    for array in (0, 5, 6):
+        out.spoil("a store past the memory", other(2, 70000))
+        out.store(array, 0, 1)
+    out.spoil("a store to no array", other(1, 7))
     out.store(0, 0, 1)
-    out.spoil("more given than there is room for", other(1, 300000))
-    out.put("give", 0)
+    for what in ("give", "numbers"):
+        out.spoil("more given than there is room for", other(1, 300000))
+        out.put(what, 0)
 
 
 def wrong_inserts(out):
@@ -1015,10 +1188,10 @@ def wrong_inserts(out):
 def wrong_deletes(out):
     h = History(out, 2, 60, 4, ONE, 5)
     h.make(60)
-    at = 5  # the first count of the first record
-    wrong = [("count %d of the first" % i, other(at + i)) for i in range(4)] + [("last count", other(at + 7)), ("another number", other(4)), ("a number more", lambda w: w + ["0"])]
-    wrong += [("one fewer", lambda w: w[:4] + ["1"] + w[5:9]), ("one more", lambda w: w[:4] + ["3"] + w[5:] + ["0"] * 4), ("a number missing", lambda w: w[:-1])]
-    wrong += [("records exchanged", lambda w: w[:5] + w[9:13] + w[5:9]), ("carried out, not refused", lambda w: w[:3] + ["7"]), ("carried out, not refused, with its counts", other(3, 7))]
+    at = 6  # the first count of the first record
+    wrong = [("count %d of the first" % i, other(at + i)) for i in range(4)] + [("last count", other(at + 7)), ("another number", other(5)), ("a number more", lambda w: w + ["0"])]
+    wrong += [("one fewer", lambda w: w[:5] + ["1"] + w[6:10]), ("one more", lambda w: w[:5] + ["3"] + w[6:] + ["0"] * 4), ("a number missing", lambda w: w[:-1])]
+    wrong += [("records exchanged", lambda w: w[:6] + w[10:14] + w[6:10]), ("carried out, not refused", lambda w: w[:4] + ["7"]), ("carried out, not refused, with its counts", other(4, 7))]
     for k, (what, change) in enumerate(wrong):
         while True:  # two records that differ
             ids = sorted({out.random.below(60) for _ in range(2)})
@@ -1026,9 +1199,11 @@ def wrong_deletes(out):
             if len(set(records)) == 2:
                 break
         out.spoil("delete, " + what, change)
-        out.delete(8, 2, ids)
+        names = [out.book.numbers.get(slot, 0) for slot in ids]
+        out.delete(8, 2, *((names, BY_NUMBER) if k % 2 else (ids, BY_SLOT)))
         out.read(5, 0, 0, out.book.live)
-    for what, change in (("refused, not carried out", lambda w: w[:3] + ["0", "0"]), ("refused with another number", other(3)), ("refused, a number more", lambda w: w + ["0"])):
+    refused = [("refused, not carried out", lambda w: w[:4] + ["0", "0"]), ("refused with another number", other(4)), ("refused, a number more", lambda w: w + ["0"])]
+    for what, change in refused + [("by neither slots nor numbers", other(1, 2))]:
         out.spoil("delete, " + what, change)
         out.delete(257, 2, ids)
 
@@ -1105,27 +1280,30 @@ def wrong_reports(out):
         out.assess(drawn(h, "assess", two_lost))
     wrong_refusals(out, "assess", 1, ["0"] * 8, lambda: out.assess([0] * 257))
     applied_not = [("applied, not deferred", lambda w: w + ["0"]), ("applied with a record, not deferred", lambda w: w + ["1"] + ["0"] * 4)]
-    for what, change in report_wrong(4) + lists_wrong + applied_not + carried_out(3, 11):
+    for what, change in report_wrong(5) + lists_wrong + applied_not + carried_out(4, 11):
         out.spoil("guarded, deferred, " + what, change)
-        out.guarded(8, 2, drawn(h, "gdelete 8 2", two_lost))
+        ids = drawn(h, "gdelete 8 2", two_lost)
+        out.guarded(8, 2, [out.book.numbers.get(slot, 0) for slot in ids], BY_NUMBER)
         out.read(5, 0, 0, out.book.live)
-    applied = report_wrong(4) + [("last checked", other(-10)), ("count of records", other(-9))]
+    applied = report_wrong(5) + [("last checked", other(-10)), ("count of records", other(-9))]
     applied += [("count %d of the first record" % i, other(-8 + i)) for i in range(4)] + [("last count", other(-1)), ("records exchanged", lambda w: w[:-8] + w[-4:] + w[-8:-4])]
     applied += [("deferred, not applied", lambda w: w[:-9]), ("one record fewer", lambda w: w[:-9] + ["1"] + w[-8:-4]), ("one record more", lambda w: w[:-9] + ["3"] + w[-8:] + ["0"] * 4)]
-    for what, change in applied + carried_out(3, 11):
+    for what, change in applied + carried_out(4, 11):
         ids = drawn(h, "gdelete 8 2", lambda answer: answer[0] == "applied" and len(set(answer[19:])) == 2 == int(answer[18]))
         out.spoil("guarded, applied, " + what, change)
         out.guarded(8, 2, ids)
         out.read(5, 0, 0, out.book.live)
         h.fill()
-    wrong_refusals(out, "guarded", 3, ["0"] * 8, lambda: out.guarded(257, 2, [0]))
+    wrong_refusals(out, "guarded", 4, ["0"] * 8, lambda: out.guarded(257, 2, [0]))
+    out.spoil("guarded, by neither slots nor numbers", other(1, 2))
+    out.guarded(257, 2, [0])
 
 
 def main():
     oracle = Oracle(sys.argv[1])
     out = List(oracle, Random(SEED))
     out.note("made by compare/replay/make.py, seed %d" % SEED)
-    parts = (size_answers, refused_makings, refused_calls, refused_inserts, refused_deletes, small_shelf, small, medium, chunks, deletes, dead_entries, wide, many, largest, refused_guards, guarded_shelf, guards, wide_guards, wrong_answers)
+    parts = (size_answers, refused_makings, refused_calls, mislabelled, refused_inserts, refused_deletes, small_shelf, small, medium, chunks, deletes, dead_entries, wide, many, largest, refused_guards, guarded_shelf, guards, wide_guards, wrong_answers)
     for part in parts:
         out.note(part.__name__)
         part(out)

@@ -10,17 +10,20 @@ pub type Search = unsafe extern "C" fn(
 ) -> usize;
 pub type Prune = unsafe extern "C" fn(usize, f32, usize, *const u8, usize, *mut u32, usize, *const u8, usize, u32, *mut u32, usize, usize, usize, usize) -> usize;
 pub type Live = unsafe extern "C" fn(
-    *const u32, *const u8, usize, *const u32, usize, *const u16, usize, *const u16, usize, *const u8, usize, *const u32, usize, *mut u32,
+    *const u32, *const u8, usize, *const u32, usize, *const u16, usize, *const u16, usize, *const u8, usize, *const u32, usize, *const u32, usize,
+    *const u32, usize, *mut u32,
 ) -> u32;
 pub type Call = unsafe extern "C" fn(
-    *const u32, *const u8, usize, *const u32, usize, *const u16, usize, *const u16, usize, *const u8, usize, *const u32, usize, *const u8, usize, u32, u32,
-    *mut u32, usize, *mut f32, usize, *mut u32, usize, *mut u32,
+    *const u32, *const u8, usize, *const u32, usize, *const u16, usize, *const u16, usize, *const u8, usize, *const u32, usize, *const u32, usize,
+    *const u32, usize, *const u8, usize, u32, u32, *mut u32, usize, *mut f32, usize, *mut u32, usize, *mut u32, usize, *mut u32,
 ) -> u32;
 
-/// The words and the slices of an index of the Rust.
+/// The words and the slices of an index of the Rust, all of whose slots are live. The figure number of each slot is the slot plus 1.
 struct Slices {
     index: [u32; 12],
     pool: Vec<u32>,
+    numbers: Vec<u32>,
+    summary: Vec<u32>,
     dim: usize,
     degree: usize,
     vectors: Vec<u8>,
@@ -35,7 +38,9 @@ fn slices(b: &Book<Sq>) -> Slices {
     let index = [
         b.meta.dim as u32, capacity as u32, degree as u32, b.meta.alpha.to_bits(), b.meta.medoid_id, b.len() as u32, 0, 0, 0, 0, 0, 0,
     ];
-    let mut s = Slices { index, pool: vec![0; 1024], dim: b.meta.dim, degree, vectors: vec![], targets: vec![], edges: vec![], versions: vec![], marks: vec![] };
+    let (numbers, summary) = ((1..=capacity as u32).collect(), (0..capacity as u32).collect());
+    let (vectors, targets, edges, versions, marks) = (vec![], vec![], vec![], vec![], vec![]);
+    let mut s = Slices { index, pool: vec![0; 1024], numbers, summary, dim: b.meta.dim, degree, vectors, targets, edges, versions, marks };
     for id in 0..capacity as u32 {
         s.vectors.extend_from_slice(b.vector(id));
         s.versions.push(b.node_version(id));
@@ -66,6 +71,7 @@ impl Slices {
 struct Outputs {
     slots: Vec<u32>,
     dists: Vec<f32>,
+    numbers: Vec<u32>,
     found: u32,
 }
 
@@ -75,7 +81,8 @@ impl Slices {
             f(
                 self.index.as_ptr(), self.vectors.as_ptr(), self.vectors.len(), self.targets.as_ptr(), self.targets.len(), self.edges.as_ptr(),
                 self.edges.len(), self.versions.as_ptr(), self.versions.len(), self.marks.as_ptr(), self.marks.len(), self.pool.as_ptr(), self.pool.len(),
-                query.as_ptr(), query.len(), beam as u32, beam as u32, out.slots.as_mut_ptr(), out.slots.len(), out.dists.as_mut_ptr(), out.dists.len(),
+                self.numbers.as_ptr(), self.numbers.len(), self.summary.as_ptr(), self.summary.len(), query.as_ptr(), query.len(), beam as u32, beam as u32,
+                out.slots.as_mut_ptr(), out.slots.len(), out.dists.as_mut_ptr(), out.dists.len(), out.numbers.as_mut_ptr(), out.numbers.len(),
                 scratch.as_mut_ptr(), scratch.len(), &mut out.found,
             )
         };
@@ -87,7 +94,8 @@ impl Slices {
         let refused = unsafe {
             f(
                 self.index.as_ptr(), self.vectors.as_ptr(), self.vectors.len(), self.targets.as_ptr(), self.targets.len(), self.edges.as_ptr(),
-                self.edges.len(), self.versions.as_ptr(), self.versions.len(), self.marks.as_ptr(), self.marks.len(), self.pool.as_ptr(), self.pool.len(), &mut value,
+                self.edges.len(), self.versions.as_ptr(), self.versions.len(), self.marks.as_ptr(), self.marks.len(), self.pool.as_ptr(), self.pool.len(),
+                self.numbers.as_ptr(), self.numbers.len(), self.summary.as_ptr(), self.summary.len(), &mut value,
             )
         };
         assert_eq!(refused, 0);
@@ -114,7 +122,7 @@ fn searches(search: Search, live: Live, call: Call) {
         let s = slices(&book);
         let queries: Vec<Vec<u8>> = (0..400).map(|_| cloud.draw(&mut rng)).collect();
         let mut scratch = vec![0xdead_beefu32; 169_984 + capacity];
-        let mut out = Outputs { slots: vec![0; 1024], dists: vec![0.0; 1024], found: 0 };
+        let mut out = Outputs { slots: vec![0; 1024], dists: vec![0.0; 1024], numbers: vec![0; 1024], found: 0 };
         let mut best = [f64::MAX; 2];
         for _ in 0..20 {
             let started = cpu();
@@ -153,6 +161,7 @@ fn searches(search: Search, live: Live, call: Call) {
                     for q in &queries[..part] {
                         s.call(call, q, beam, &mut out, &mut scratch);
                         let ours: Vec<(u32, f32)> = (0..out.found as usize).map(|i| (out.slots[i], out.dists[i])).collect();
+                        assert!((0..out.found as usize).all(|i| out.numbers[i] == out.slots[i] + 1));
                         differences += (ours != book.search_with_dists(q, beam, beam)) as usize;
                     }
                 }

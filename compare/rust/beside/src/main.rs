@@ -10,12 +10,13 @@ unsafe extern "C" {
     ) -> usize;
     fn finder_live(
         index: *const u32, vectors: *const u8, vl: usize, targets: *const u32, tl: usize, edges: *const u16, el: usize, versions: *const u16, nl: usize,
-        marks: *const u8, ml: usize, pool: *const u32, pl: usize, value: *mut u32,
+        marks: *const u8, ml: usize, pool: *const u32, pl: usize, numbers: *const u32, al: usize, summary: *const u32, bl: usize, value: *mut u32,
     ) -> u32;
     fn finder_search(
         index: *const u32, vectors: *const u8, vl: usize, targets: *const u32, tl: usize, edges: *const u16, el: usize, versions: *const u16, nl: usize,
-        marks: *const u8, ml: usize, pool: *const u32, pl: usize, query: *const u8, ql: usize, k: u32, beam: u32, slots: *mut u32, sl: usize, dists: *mut f32,
-        dl: usize, scratch: *mut u32, wl: usize, found: *mut u32,
+        marks: *const u8, ml: usize, pool: *const u32, pl: usize, numbers: *const u32, al: usize, summary: *const u32, bl: usize, query: *const u8, ql: usize,
+        k: u32, beam: u32, slots: *mut u32, sl: usize, dists: *mut f32, dl: usize, found_numbers: *mut u32, fl: usize, scratch: *mut u32, wl: usize,
+        found: *mut u32,
     ) -> u32;
 }
 

@@ -1,6 +1,7 @@
 //! What calls are drawn from: sizes, alphas, grey values, lengths, sound and damaged.
 use crate::lent::{BORDER, Rng};
-use crate::table::{Words, scratch_words};
+use crate::table::{self, Labels, Words, scratch_words};
+use std::collections::BTreeSet;
 
 /// How many faults a call gets: none in more than half.
 pub fn faults(rng: &mut Rng) -> u32 {
@@ -72,6 +73,76 @@ pub fn ids(marks: &[u8], rng: &mut Rng) -> Vec<u32> {
     // one that is live, if it is found soon
     let live = |rng: &mut Rng| (0..8).map(|_| rng.below(capacity)).find(|&slot| marks[slot as usize] != 0).unwrap_or(capacity);
     (0..count).map(|_| if rng.one_in(2) { any(rng) } else { live(rng) }).collect()
+}
+
+/// So many figure numbers that an index of these labels may be given: none 0, none twice, and none that is live, unless a making gets them. Any ones, small ones,
+/// ones near each other or next to those that slots carry; at times 1 or the largest.
+pub fn numbers(count: usize, l: Labels, making: bool, rng: &mut Rng) -> Vec<u32> {
+    let mut taken = if making { BTreeSet::new() } else { table::live_numbers(l.marks, l.numbers) };
+    let span = 2 * (taken.len() + count) as u32 + 3;
+    let (style, from) = (rng.below(6), rng.next() as u32);
+    let mut list = Vec::with_capacity(count);
+    for i in 0..count as u32 {
+        let mut number = 0;
+        for draws in 0.. {
+            number = match if draws < 8 { style } else { 0 } {
+                0..=1 => rng.next() as u32,
+                2 => 1 + rng.below(span),
+                3 => from.wrapping_add(i + rng.below(2)),
+                4 => u32::MAX - i - rng.below(3),
+                _ => rng.pick(l.numbers).wrapping_add(rng.pick(&[0, 1, 1, 2, u32::MAX])),
+            };
+            if number != 0 && !taken.contains(&number) {
+                break;
+            }
+        }
+        taken.insert(number);
+        list.push(number);
+    }
+    let end = rng.pick(&[1, u32::MAX]);
+    if count > 0 && rng.one_in(6) && taken.insert(end) {
+        list[rng.below(count as u32) as usize] = end;
+    }
+    list
+}
+
+/// So many numbers, any, none twice.
+pub fn any_numbers(count: usize, rng: &mut Rng) -> Vec<u32> {
+    let mut taken = BTreeSet::new();
+    std::iter::repeat_with(|| rng.next() as u32).filter(|&number| number != 0 && taken.insert(number)).take(count).collect()
+}
+
+/// Makes a list of numbers to be given wrong: one is 0, twice in it or live already, or it is too long or too short.
+pub fn spoil_numbers(list: &mut Vec<u32>, l: Labels, rng: &mut Rng) {
+    let n = list.len() as u32;
+    match rng.below(8) {
+        0..=1 if n > 0 => list[rng.below(n) as usize] = 0,
+        2..=3 if n > 1 => {
+            let place = rng.below(n);
+            list[((place + 1 + rng.below(n - 1)) % n) as usize] = list[place as usize];
+        }
+        4..=5 if n > 0 => list[rng.below(n) as usize] = rng.pick(l.numbers),
+        _ => list.resize_with(wrong_length(list.len(), rng), || rng.next() as u32),
+    }
+}
+
+/// Numbers of figures to be deleted: live ones, ones next to these, any, small ones, slots, 0, repeats among them; at times all that are live.
+pub fn names(l: &Labels, rng: &mut Rng) -> Vec<u32> {
+    let capacity = l.marks.len() as u32;
+    if capacity <= 256 && rng.one_in(30) {
+        return l.numbers.to_vec();
+    }
+    let some = rng.below(1 + capacity.min(60) / 2);
+    let count = rng.pick(&[0, 1, 1, 1, 2, 2, some, some, some, some, some, 256]);
+    // one that is live, if it is found soon
+    let live = |rng: &mut Rng| (0..8).map(|_| rng.pick(l.numbers)).find(|&number| number != 0).unwrap_or(0);
+    let name = |rng: &mut Rng| match rng.below(12) {
+        0 => rng.pick(&[0, 1, u32::MAX, rng.0 as u32]),
+        1 => rng.below(2 * capacity + 1),
+        2 => live(rng).wrapping_add(rng.pick(&[1, u32::MAX])),
+        _ => live(rng),
+    };
+    (0..count).map(|_| name(rng)).collect()
 }
 
 /// How many landmarks can be chosen before the Rust's choosing takes long.

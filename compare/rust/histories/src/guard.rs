@@ -4,7 +4,7 @@ use crate::draw;
 use crate::finder::call;
 use crate::lent::{Lent, Piece};
 use crate::table;
-use crate::updates::{Delete, meet_delete};
+use crate::updates::{Delete, Naming, meet_delete, slots_of};
 use diskann_sorted::histories::Report;
 
 pub fn enable(h: &mut History) -> Outcome {
@@ -26,7 +26,7 @@ pub fn enable(h: &mut History) -> Outcome {
     let mut status = Lent::<u32>::junk(5, rng);
     let sound = a.number(h) == 0;
     let given = h.both.words();
-    let number = table::enable(&given, &a.lent, h.both.six.marks.items(), s, words);
+    let number = table::enable(&given, &a.lent, &h.both.slices.labels(), s, words);
     assert!(number != 0 || sound);
     let mut odd = None;
     if matches!(number, 0 | 12 | 13) {
@@ -42,7 +42,7 @@ pub fn enable(h: &mut History) -> Outcome {
                 let mut after = given;
                 after[6..].copy_from_slice(&[1, settings[0], settings[1], settings[2], settings[3], pool.len() as u32]);
                 b.words.expect(&after);
-                b.six.pool.expect(&pool);
+                b.slices.pool.expect(&pool);
                 h.meet(if given[6] == 0 { "enable guard, it was off" } else { "enable guard, it was on" });
             }
             (Err(said), n) if said.starts_with(&format!("err {n} ")) => {}
@@ -76,7 +76,7 @@ pub fn assess(h: &mut History) -> Outcome {
     let a = Asked::draw(h, faults);
     let (given, rng) = (fewer_landmarks(h, &a), &mut h.rng);
     let faults: Vec<u32> = (0..rng.pick(&[0, 0, 0, 0, 0, 1, 1, 2])).map(|_| rng.below(3)).collect();
-    let mut ids = draw::ids(h.both.six.marks.items(), rng);
+    let mut ids = draw::ids(h.both.slices.marks.items(), rng);
     if faults.contains(&0) {
         ids.resize_with(257 + rng.below(3) as usize, || rng.below(a.own[1]));
     }
@@ -85,7 +85,7 @@ pub fn assess(h: &mut History) -> Outcome {
     let (mut checked, mut lost) = (Lent::<u32>::junk(room[0], rng), Lent::<u32>::junk(room[1], rng));
     let (mut report, mut ids) = (Lent::<u32>::junk(8, rng), Lent::of(&ids, rng));
     let sound = a.number(h) == 0;
-    let number = table::assess(&given, &a.lent, h.both.six.marks.items(), ids.len(), room, words);
+    let number = table::assess(&given, &a.lent, &h.both.slices.labels(), ids.len(), room, words);
     assert!(number != 0 || sound);
     let mut odd = None;
     if matches!(number, 0 | 11) {
@@ -140,52 +140,67 @@ fn meet(h: &mut History, call: &str, said: &Report) {
 }
 
 pub fn guarded_delete(h: &mut History) -> Outcome {
+    guarded(h, Naming::Slots)
+}
+
+pub fn guarded_delete_numbers(h: &mut History) -> Outcome {
+    guarded(h, Naming::Numbers)
+}
+
+fn guarded(h: &mut History, naming: Naming) -> Outcome {
     let faults = if h.rng.one_in(2) { draw::faults(&mut h.rng) } else { 0 };
     let mut a = Asked::draw(h, faults);
     let given = fewer_landmarks(h, &a);
-    let Delete { ids, beam, degree, stats: records, scratch: words } = Delete::draw(h, &a);
+    let Delete { names, beam, degree, stats: records, scratch: words } = Delete::draw(h, &a, naming);
     let rng = &mut h.rng;
     let room = draw::lists(rng.one_in(12), rng);
     let (mut stats, mut found) = (Lent::<u32>::junk(4 * records, rng), Lent::<u32>::junk(1, rng));
     let (mut checked, mut lost) = (Lent::<u32>::junk(room[0], rng), Lent::<u32>::junk(room[1], rng));
-    let (mut report, mut ids) = (Lent::<u32>::junk(8, rng), Lent::of(&ids, rng));
+    let (mut report, mut names) = (Lent::<u32>::junk(8, rng), Lent::of(&names, rng));
     let sound = a.number(h) == 0;
-    let number = table::guarded_delete(&given, &a.lent, h.both.six.marks.items(), ids.len(), beam, degree, records, room, words);
+    let number = table::guarded_delete(&given, &a.lent, &h.both.slices.labels(), names.len(), beam, degree, records, room, words);
     assert!(number != 0 || sound);
     let mut odd = None;
+    let call = if naming == Naming::Slots { "guarded" } else { "guarded numbers" };
     if matches!(number, 0 | 11) {
         h.both.adopt();
-        match (h.both.rust.guarded_delete(ids.items(), beam as usize, degree as usize), number) {
+        let ids = slots_of(&h.both, naming, names.items());
+        match (h.both.rust.guarded_delete(&ids, beam as usize, degree as usize), number) {
             (Ok((applied, said)), 0) => {
                 report.expect(&said.numbers);
                 checked.expect(&said.checked);
                 lost.expect(&said.lost);
-                meet(h, "guarded", &said);
+                meet(h, call, &said);
                 let done = applied.as_deref().unwrap_or(&[]);
                 stats.expect(&done.concat());
                 found.expect(&[done.len() as u32]);
                 let b = &mut h.both;
-                b.six.expect(&b.rust.stored());
+                b.slices.expect(&b.rust.stored(), &[], &[]);
                 if applied.is_some() {
                     a.changes = true;
                     b.words.expect(&table::rewritten(&given, b.rust.entry(), b.rust.live()));
-                    meet_delete(h, "guarded", &given, ids.len(), done);
+                    meet_delete(h, call, &given, names.items(), &ids, done);
                 }
             }
             (Err(said), n) if said.starts_with(&format!("err {n} ")) => {}
             (answer, n) => odd = Some(format!("document 01 gives {n}, the Rust {:?}", answer.map(|r| r.1.numbers))),
         }
     }
-    let got = call!(
-        finder_guarded_delete, h.both, a.lent, ids.ptr(), ids.len(), beam, degree, stats.mut_ptr(), records, checked.mut_ptr(), room[0],
-        lost.mut_ptr(), room[1], h.scratch.mut_ptr(), words, found.mut_ptr(), report.mut_ptr()
-    );
+    macro_rules! run {
+        ($function:ident) => {
+            call!(
+                $function, h.both, a.lent, names.ptr(), names.len(), beam, degree, stats.mut_ptr(), records, checked.mut_ptr(), room[0],
+                lost.mut_ptr(), room[1], h.scratch.mut_ptr(), words, found.mut_ptr(), report.mut_ptr()
+            )
+        };
+    }
+    let got = if naming == Naming::Slots { run!(finder_guarded_delete) } else { run!(finder_guarded_delete_numbers) };
     if number == 0 {
         h.scratch.accept(words);
     }
-    let said = format!("finder_guarded_delete beam {beam}, degree {degree}, stats {records}, lists {room:?}, scratch {words}, ids {}", ids.text());
+    let said = format!("{call}: beam {beam}, degree {degree}, stats {records}, lists {room:?}, scratch {words}, names {}", names.text());
     let lists: [(&str, &mut dyn Piece); 4] = [("stats", &mut stats), ("found", &mut found), ("checked", &mut checked), ("lost", &mut lost)];
-    let mut more: Vec<(&str, &mut dyn Piece)> = vec![("report", &mut report), ("ids", &mut ids), ("scratch", &mut h.scratch)];
+    let mut more: Vec<(&str, &mut dyn Piece)> = vec![("report", &mut report), ("names", &mut names), ("scratch", &mut h.scratch)];
     more.extend(lists);
     a.settle(&mut h.both, number, (number as u64, got as u64), more, said).and(odd)
 }

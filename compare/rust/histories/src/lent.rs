@@ -79,6 +79,10 @@ impl<T: Item> Lent<T> {
     pub fn expect(&mut self, items: &[T]) {
         self.want[BORDER..BORDER + items.len()].copy_from_slice(items);
     }
+    /// Sets what one item should be after the call.
+    pub fn expect_at(&mut self, place: usize, item: T) {
+        self.want[BORDER + place] = item;
+    }
     /// Writes the first items before the call.
     pub fn put(&mut self, items: &[T]) {
         self.expect(items);

@@ -31,7 +31,7 @@ fn main() {
     let [first, apart] = ["first", "apart"].map(|word| args[2..].iter().any(|a| a == word));
     let mut h = calls::begin(seed, apart);
     let weights: u32 = KINDS.iter().map(|k| k.weight).sum();
-    let mut counts = vec![[0u64; 16]; KINDS.len()]; // by the number given
+    let mut counts = vec![[0u64; 17]; KINDS.len()]; // by the number given
     let mut differ = vec![0u64; KINDS.len()];
     let mut by_hand = 0u64; // how often state was written by hand
     let mut capacities = [0u64; CAPACITIES.len()]; // calls by the capacity of the index
@@ -62,16 +62,16 @@ fn main() {
     let on: Vec<String> = KINDS.iter().zip(large).map(|(kind, n)| format!("{} {n}", kind.name)).collect();
     println!("carried out on more than 4,000 slots: {}", on.join(", "));
     println!("state written by hand on both sides between calls: {by_hand} times");
-    let numbers: Vec<usize> = (1..16).filter(|&n| counts.iter().any(|c| c[n] > 0)).collect();
-    let line = |name: &str, cells: Vec<String>| println!("{name:12}{}", cells.iter().map(|c| format!("{c:>12}")).collect::<String>());
+    let numbers: Vec<usize> = (1..17).filter(|&n| counts.iter().any(|c| c[n] > 0)).collect();
+    let line = |name: &str, cells: Vec<String>| println!("{name:16}{}", cells.iter().map(|c| format!("{c:>12}")).collect::<String>());
     let head = |n: &usize| if *n == TIED as usize { "left out".to_string() } else { format!("refused {n}") };
     let heads = ["carried out".to_string()].into_iter().chain(numbers.iter().map(head)).chain(["differ".into()]);
     line("", heads.collect());
-    let row = |c: &[u64; 16], d: u64| [c[0]].into_iter().chain(numbers.iter().map(|&n| c[n])).chain([d]).map(|n| n.to_string()).collect::<Vec<_>>();
+    let row = |c: &[u64; 17], d: u64| [c[0]].into_iter().chain(numbers.iter().map(|&n| c[n])).chain([d]).map(|n| n.to_string()).collect::<Vec<_>>();
     for (kind, (c, &d)) in KINDS.iter().zip(counts.iter().zip(&differ)) {
         line(kind.name, row(c, d));
     }
-    let sum: [u64; 16] = std::array::from_fn(|n| counts.iter().map(|c| c[n]).sum());
+    let sum: [u64; 17] = std::array::from_fn(|n| counts.iter().map(|c| c[n]).sum());
     let all: u64 = differ.iter().sum();
     line("all", row(&sum, all));
     for (what, n) in &h.met {

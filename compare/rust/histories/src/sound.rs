@@ -15,6 +15,8 @@ pub struct Sound {
     pub both: Both,
     pub rng: Rng,
     scratch: Lent<u32>,
+    /// Figure numbers run on: the last that was given.
+    last: u32,
 }
 
 /// An error where a call gave another number than it should, or left a piece otherwise.
@@ -33,7 +35,7 @@ impl Sound {
     pub fn new(dim: usize, capacity: u32, degree: usize, alpha: f32, vector: &[u8], mut rng: Rng) -> Sound {
         let both = Both::made([dim as u32, capacity, degree as u32], alpha, 0, vector, &vec![BLANK; degree], &mut rng);
         let scratch = Lent::junk(table::scratch_words(capacity) as usize, &mut rng);
-        Sound { both, rng, scratch }
+        Sound { both, rng, scratch, last: 1 }
     }
     fn expect_words(&mut self) {
         let b = &mut self.both;
@@ -52,14 +54,17 @@ impl Sound {
             Err(said) if said.starts_with("err 10 ") => None,
             Err(said) => return Err(format!("insert by the Rust: {said}")),
         };
+        let numbers: Vec<u32> = (self.last + 1..).take(batch.len()).collect();
         if let Some(filled) = &filled {
             slots.expect(filled);
             found.expect(&[filled.len() as u32]);
+            filled.iter().zip(&numbers).for_each(|(&slot, &number)| self.both.slices.numbers.expect_at(slot as usize, number));
+            self.last += filled.len() as u32;
         }
         self.expect_words();
-        let lent = self.both.six.lengths();
+        let lent = self.both.slices.lengths();
         let refused = call!(
-            finder_insert, self.both, lent, bytes.as_ptr(), bytes.len(), beam, slots.mut_ptr(), batch.len(), self.scratch.mut_ptr(),
+            finder_insert, self.both, lent, bytes.as_ptr(), bytes.len(), numbers.as_ptr(), numbers.len(), beam, slots.mut_ptr(), batch.len(), self.scratch.mut_ptr(),
             self.scratch.len(), found.mut_ptr()
         );
         let pieces: Vec<(&str, &mut dyn Piece)> = vec![("slots", &mut slots), ("found", &mut found), ("words", &mut self.both.words)];
@@ -72,7 +77,7 @@ impl Sound {
         stats.expect(&done.concat());
         found.expect(&[done.len() as u32]);
         self.expect_words();
-        let lent = self.both.six.lengths();
+        let lent = self.both.slices.lengths();
         let refused = call!(
             finder_delete, self.both, lent, ids.as_ptr(), ids.len(), beam, degree, stats.mut_ptr(), ids.len(), self.scratch.mut_ptr(),
             self.scratch.len(), found.mut_ptr()
@@ -92,7 +97,7 @@ impl Sound {
         lost.expect(&gone);
         report.expect(&numbers);
         self.expect_words();
-        let lent = self.both.six.lengths();
+        let lent = self.both.slices.lengths();
         let refused = call!(
             finder_guarded_delete, self.both, lent, ids.as_ptr(), ids.len(), beam, degree, stats.mut_ptr(), ids.len(), checked.mut_ptr(), 64,
             lost.mut_ptr(), 64, self.scratch.mut_ptr(), self.scratch.len(), found.mut_ptr(), report.mut_ptr()
@@ -109,7 +114,7 @@ impl Sound {
         let mut status = Lent::junk(5, &mut self.rng);
         status.expect(&said);
         self.expect_words();
-        let (lent, [count, multiplier, sample, beam]) = (self.both.six.lengths(), settings);
+        let (lent, [count, multiplier, sample, beam]) = (self.both.slices.lengths(), settings);
         let refused = call!(
             finder_guard_enable, self.both, lent, count, multiplier, sample, beam, self.scratch.mut_ptr(), self.scratch.len(), status.mut_ptr()
         );
@@ -118,27 +123,29 @@ impl Sound {
     /// The slots found and the bits of their distances.
     pub fn search(&mut self, query: &[u8], k: usize, beam: u32) -> Same<Vec<(u32, u32)>> {
         let pairs: Vec<(u32, u32)> = self.both.rust.search(query, k, beam as usize).into_iter().map(|p| (p.0, p.1.to_bits())).collect();
-        let (mut slots, mut dists, mut found) = (Lent::junk(k, &mut self.rng), Lent::junk(k, &mut self.rng), Lent::junk(1, &mut self.rng));
+        let [mut slots, mut dists, mut numbers, mut found] = [k, k, k, 1].map(|n| Lent::junk(n, &mut self.rng));
         slots.expect(&pairs.iter().map(|p| p.0).collect::<Vec<_>>());
         dists.expect(&pairs.iter().map(|p| p.1).collect::<Vec<_>>());
+        numbers.expect(&pairs.iter().map(|p| self.both.slices.numbers.items()[p.0 as usize]).collect::<Vec<_>>());
         found.expect(&[pairs.len() as u32]);
-        let lent = self.both.six.lengths();
+        let lent = self.both.slices.lengths();
         let refused = call!(
-            finder_search, self.both, lent, query.as_ptr(), query.len(), k as u32, beam, slots.mut_ptr(), k, dists.mut_ptr(), k,
+            finder_search, self.both, lent, query.as_ptr(), query.len(), k as u32, beam, slots.mut_ptr(), k, dists.mut_ptr(), k, numbers.mut_ptr(), k,
             self.scratch.mut_ptr(), self.scratch.len(), found.mut_ptr()
         );
-        alike("search", 0, refused, vec![("slots", &mut slots), ("distances (bits)", &mut dists), ("found", &mut found)])?;
+        let outputs: [(&str, &mut dyn Piece); 3] = [("slots", &mut slots), ("distances (bits)", &mut dists), ("numbers", &mut numbers)];
+        alike("search", 0, refused, outputs.into_iter().chain([("found", &mut found as &mut dyn Piece)]).collect())?;
         Ok(pairs)
     }
-    /// Compares every byte of the two indexes: words, vectors, rows with their versions, versions, marks, pool.
+    /// Compares every byte of the two indexes: words, vectors, rows with their versions, versions, marks, pool; and the numbers and the summary with what they must be.
     pub fn whole(&mut self) -> Same<()> {
         self.expect_words();
         let b = &mut self.both;
-        b.six.expect(&b.rust.stored());
+        b.slices.expect(&b.rust.stored(), &[], &[]);
         if let Some((_, pool)) = b.rust.guard() {
-            b.six.pool.expect(&pool);
+            b.slices.pool.expect(&pool);
         }
-        let mut pieces = b.six.pieces();
+        let mut pieces = b.slices.pieces();
         pieces.push(("words", &mut b.words));
         alike("the index", 0, 0, pieces)
     }

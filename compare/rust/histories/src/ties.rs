@@ -13,11 +13,11 @@ pub fn distance(a: &[u8], b: &[u8]) -> u32 {
 
 /// The index's own, whatever its words say.
 fn dim(b: &Both) -> usize {
-    b.six.vectors.len() / b.six.marks.len()
+    b.slices.vectors.len() / b.slices.marks.len()
 }
 
 fn live(b: &Both) -> impl Iterator<Item = &[u8]> {
-    b.six.vectors.items().chunks_exact(dim(b)).zip(b.six.marks.items()).filter(|slot| *slot.1 != 0).map(|slot| slot.0)
+    b.slices.vectors.items().chunks_exact(dim(b)).zip(b.slices.marks.items()).filter(|slot| *slot.1 != 0).map(|slot| slot.0)
 }
 
 /// Whether two of the vectors are as far from the query.

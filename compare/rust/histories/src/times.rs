@@ -1,9 +1,10 @@
 //! Times of the calls, the library beside the Rust: one process, one thread, the same input, CPU time. Both go on from what they
 //! left themselves, and both must have the same index when a part is done.
 use crate::both::Both;
+use crate::draw;
 use crate::finder::call;
 use crate::lent::{Lent, Piece, Rng};
-use crate::table;
+use crate::table::{self, Given, Labels};
 use diskann_sorted::histories::{Cloud, Report, Rng as Numbers, Rust, cpu};
 use std::env;
 use std::fs::{File, OpenOptions};
@@ -18,6 +19,7 @@ const PARTS: &[(&str, fn())] = &[
     ("delete", delete),
     ("guard", guard),
     ("read", read),
+    ("numbers", numbers),
 ];
 
 const DIM: usize = 256;
@@ -29,7 +31,7 @@ const FIRST: usize = 232;
 
 /// Times the named parts, or all.
 pub fn main(names: &[String]) {
-    assert!(names.iter().all(|n| PARTS.iter().any(|(part, _)| n == part)), "parts: create, search, insert, delete, guard, read");
+    assert!(names.iter().all(|n| PARTS.iter().any(|(part, _)| n == part)), "parts: create, search, insert, delete, guard, read, numbers");
     println!("dim {DIM}, degree {DEGREE}, alpha {ALPHA}, clustered vectors; CPU time in microseconds");
     for (name, part) in PARTS {
         if names.is_empty() || names.iter().any(|n| n == name) {
@@ -71,6 +73,8 @@ struct Timed {
     both: Both,
     scratch: Lent<u32>,
     rng: Rng,
+    /// Figure numbers run on: the last that was given.
+    last: u32,
     spent: [f64; 2],
 }
 
@@ -80,53 +84,60 @@ impl Timed {
         let mut rng = Rng(1);
         let both = Both::made([DIM as u32, capacity as u32, DEGREE as u32], ALPHA, 0, vector, &[table::BLANK; DEGREE], &mut rng);
         let scratch = Lent::junk(table::scratch_words(capacity as u32) as usize, &mut rng);
-        Timed { both, scratch, rng, spent: [0.0; 2] }
+        Timed { both, scratch, rng, last: 1, spent: [0.0; 2] }
     }
-    /// Makes an index of the given vectors and rows on both sides, in the memory that is there.
-    fn create(&mut self, capacity: usize, bytes: &[u8], rows: &[u32]) {
+    /// Makes an index of the given vectors, rows and numbers on both sides, in the memory that is there.
+    fn create(&mut self, capacity: usize, bytes: &[u8], rows: &[u32], numbers: &[u32]) {
         let started = cpu();
         self.both.rust = Rust::make(DIM, capacity, DEGREE, ALPHA, 0, bytes, rows).unwrap();
         self.spent[0] += cpu() - started;
         let (sizes, count) = ([DIM as u32, capacity as u32, DEGREE as u32], (bytes.len() / DIM) as u32);
-        let (bytes, rows) = (Lent::of(bytes, &mut self.rng), Lent::of(rows, &mut self.rng));
-        let lent = self.both.six.lengths();
+        let given = Given { sizes, alpha: ALPHA.to_bits(), entry: 0, count, bytes: bytes.len(), rows, numbers };
+        let (bytes, rows, lent_numbers) = (Lent::of(bytes, &mut self.rng), Lent::of(rows, &mut self.rng), Lent::of(numbers, &mut self.rng));
+        let lent = self.both.slices.lengths();
         let started = cpu();
-        let refused = self.both.six.create(&mut self.both.words, lent, sizes, ALPHA.to_bits(), 0, count, &bytes, &rows);
+        let refused = self.both.slices.create(&mut self.both.words, lent, &given, &bytes, &rows, &lent_numbers);
         self.spent[1] += cpu() - started;
         assert!(refused == 0);
+        self.both.slices.numbers.expect(numbers);
+        self.last = count;
     }
     /// Searches on both sides; k is the beam.
     fn search(&mut self, query: &[u8], beam: usize) {
         let started = cpu();
         let said = self.both.rust.search(query, beam, beam);
         self.spent[0] += cpu() - started;
-        let (mut slots, mut dists) = (Lent::junk(beam, &mut self.rng), Lent::<u32>::junk(beam, &mut self.rng));
-        let mut found = Lent::junk(1, &mut self.rng);
-        let lent = self.both.six.lengths();
+        let [mut slots, mut dists, mut numbers, mut found] = [beam, beam, beam, 1].map(|n| Lent::<u32>::junk(n, &mut self.rng));
+        let lent = self.both.slices.lengths();
         let started = cpu();
         let refused = counted!(
             finder_search, self.both, lent, query.as_ptr(), DIM, beam as u32, beam as u32, slots.mut_ptr(), beam, dists.mut_ptr(), beam,
-            self.scratch.mut_ptr(), self.scratch.len(), found.mut_ptr()
+            numbers.mut_ptr(), beam, self.scratch.mut_ptr(), self.scratch.len(), found.mut_ptr()
         );
         self.spent[1] += cpu() - started;
         slots.expect(&said.iter().map(|c| c.0).collect::<Vec<u32>>());
         dists.expect(&said.iter().map(|c| c.1.to_bits()).collect::<Vec<u32>>());
+        numbers.expect(&said.iter().map(|c| self.both.slices.numbers.items()[c.0 as usize]).collect::<Vec<u32>>());
         found.expect(&[said.len() as u32]);
-        assert!(refused == 0 && [slots, dists, found].iter_mut().all(|piece| piece.difference().is_none()));
+        assert!(refused == 0 && [slots, dists, numbers, found].iter_mut().all(|piece| piece.difference().is_none()));
     }
-    /// Inserts by the library alone; its time and the slots.
+    /// Inserts by the library alone; its time and the slots. The lowest free slots are filled.
     fn insert_by_library(&mut self, batch: &[Vec<u8>]) -> (f64, Lent<u32>) {
         let bytes = batch.concat();
+        let numbers: Vec<u32> = (self.last + 1..).take(batch.len()).collect();
+        self.last += batch.len() as u32;
         let (mut slots, mut found) = (Lent::junk(batch.len(), &mut self.rng), Lent::junk(1, &mut self.rng));
-        let lent = self.both.six.lengths();
+        let lent = self.both.slices.lengths();
         let started = cpu();
         let refused = counted!(
-            finder_insert, self.both, lent, bytes.as_ptr(), bytes.len(), BEAM, slots.mut_ptr(), batch.len(), self.scratch.mut_ptr(),
-            self.scratch.len(), found.mut_ptr()
+            finder_insert, self.both, lent, bytes.as_ptr(), bytes.len(), numbers.as_ptr(), numbers.len(), BEAM, slots.mut_ptr(), batch.len(),
+            self.scratch.mut_ptr(), self.scratch.len(), found.mut_ptr()
         );
         let spent = cpu() - started;
         found.expect(&[batch.len() as u32]);
         assert!(refused == 0 && found.difference().is_none());
+        slots.accept(batch.len());
+        slots.items().iter().zip(numbers).for_each(|(&slot, number)| self.both.slices.numbers.expect_at(slot as usize, number));
         (spent, slots)
     }
     /// Inserts on both sides.
@@ -135,10 +146,9 @@ impl Timed {
         let started = cpu();
         let filled = self.both.rust.insert(given, BEAM as usize).unwrap();
         self.spent[0] += cpu() - started;
-        let (spent, mut slots) = self.insert_by_library(batch);
+        let (spent, slots) = self.insert_by_library(batch);
         self.spent[1] += spent;
-        slots.expect(&filled);
-        assert!(slots.difference().is_none());
+        assert!(slots.items() == filled);
     }
     /// Deletes on both sides.
     fn delete(&mut self, ids: &[u32]) {
@@ -146,7 +156,7 @@ impl Timed {
         let done = self.both.rust.delete(ids, 64, 4);
         self.spent[0] += cpu() - started;
         let (mut stats, mut found) = (Lent::junk(4 * ids.len(), &mut self.rng), Lent::junk(1, &mut self.rng));
-        let lent = self.both.six.lengths();
+        let lent = self.both.slices.lengths();
         let started = cpu();
         let refused = counted!(
             finder_delete, self.both, lent, ids.as_ptr(), ids.len(), 64, 4, stats.mut_ptr(), ids.len(), self.scratch.mut_ptr(), self.scratch.len(),
@@ -163,7 +173,7 @@ impl Timed {
         let said = self.both.rust.enable(settings).unwrap();
         self.spent[0] += cpu() - started;
         let mut status = Lent::junk(5, &mut self.rng);
-        let (lent, [count, multiplier, sample, beam]) = (self.both.six.lengths(), settings);
+        let (lent, [count, multiplier, sample, beam]) = (self.both.slices.lengths(), settings);
         let started = cpu();
         let refused = counted!(
             finder_guard_enable, self.both, lent, count, multiplier, sample, beam, self.scratch.mut_ptr(), self.scratch.len(), status.mut_ptr()
@@ -178,7 +188,7 @@ impl Timed {
         let said = self.both.rust.assess(ids).unwrap();
         self.spent[0] += cpu() - started;
         let mut r = Reported::junk(&mut self.rng);
-        let lent = self.both.six.lengths();
+        let lent = self.both.slices.lengths();
         let started = cpu();
         let refused = counted!(
             finder_assess, self.both, lent, ids.as_ptr(), ids.len(), r.checked.mut_ptr(), 64, r.lost.mut_ptr(), 64, self.scratch.mut_ptr(),
@@ -194,7 +204,7 @@ impl Timed {
         self.spent[0] += cpu() - started;
         let (mut stats, mut found) = (Lent::junk(4 * ids.len(), &mut self.rng), Lent::junk(1, &mut self.rng));
         let mut r = Reported::junk(&mut self.rng);
-        let lent = self.both.six.lengths();
+        let lent = self.both.slices.lengths();
         let started = cpu();
         let refused = counted!(
             finder_guarded_delete, self.both, lent, ids.as_ptr(), ids.len(), 64, 4, stats.mut_ptr(), ids.len(), r.checked.mut_ptr(), 64,
@@ -211,26 +221,27 @@ impl Timed {
     /// Makes the Rust's index of what the library's slices hold. None of its slots was emptied, so that all versions are 0.
     fn hand_to_the_rust(&mut self) {
         let b = &mut self.both;
-        let [vectors, targets, ..] = b.six.lengths();
-        b.six.vectors.accept(vectors);
-        b.six.targets.accept(targets);
+        let [vectors, targets, ..] = b.slices.lengths();
+        b.slices.vectors.accept(vectors);
+        b.slices.targets.accept(targets);
         b.words.accept(12);
+        b.slices.summary.accept(b.slices.summary.len());
         let [dim, capacity, degree, _, entry, live, ..] = b.words().map(|w| w as usize);
-        let (bytes, rows) = (&b.six.vectors.items()[..live * dim], &b.six.targets.items()[..live * degree]);
+        let (bytes, rows) = (&b.slices.vectors.items()[..live * dim], &b.slices.targets.items()[..live * degree]);
         b.rust = Rust::make(dim, capacity, degree, ALPHA, entry as u32, bytes, rows).unwrap();
         assert!(self.same());
     }
     /// Whether both sides have the same index.
     fn same(&mut self) -> bool {
         let b = &mut self.both;
-        b.six.expect(&b.rust.stored());
+        b.slices.expect(&b.rust.stored(), &[], &[]);
         let mut words = table::rewritten(&b.words(), b.rust.entry(), b.rust.live());
         if let Some((s, pool)) = b.rust.guard() {
             words[6..].copy_from_slice(&[1, s[0], s[1], s[2], s[3], pool.len() as u32]);
-            b.six.pool.expect(&pool);
+            b.slices.pool.expect(&pool);
         }
         b.words.expect(&words);
-        b.six.pieces().into_iter().all(|(_, piece)| piece.difference().is_none()) && b.words.difference().is_none()
+        b.slices.pieces().into_iter().all(|(_, piece)| piece.difference().is_none()) && b.words.difference().is_none()
     }
     /// The time of one, by the Rust and by the library, since it was last asked for; both must have the same index.
     fn each(&mut self, count: usize) -> [f64; 2] {
@@ -300,7 +311,7 @@ fn create() {
         let stored = t.both.rust.stored();
         let mut times = [f64::MAX; 2];
         for _ in 0..5 {
-            t.create(capacity, &stored.vectors, &stored.targets);
+            t.create(capacity, &stored.vectors, &stored.targets, &(1..=capacity as u32).collect::<Vec<u32>>());
             times = best(times, t.each(1));
         }
         line(capacity, capacity, 5, times);
@@ -400,7 +411,7 @@ fn read() {
     for capacity in [1_000usize, 20_000, 65_536] {
         let mut t = filled(capacity, &clustered(capacity));
         t.enable([32, 4, 4_096, 64]);
-        let (slots, lent) = (drawn(&mut t.rng, capacity, 10_000), t.both.six.lengths());
+        let (slots, lent) = (drawn(&mut t.rng, capacity, 10_000), t.both.slices.lengths());
         let mut five = [0u32; 5];
         macro_rules! reading {
             ($function:ident, $rust:expr, |$slot:ident| $($more:expr),*) => {
@@ -408,7 +419,7 @@ fn read() {
                 let started = cpu();
                 let said = slots.iter().map(|&slot| black_box(rust)(&t.both.rust, slot) as u64).sum::<u64>();
                 let alone = cpu();
-                let tested = slots.iter().map(|&slot| match table::reading(&t.both.words(), black_box(&lent), t.both.six.marks.items()) {
+                let tested = slots.iter().map(|&slot| match tested(&t.both.words(), black_box(&lent), &t.both.slices.labels()) {
                     0 => black_box(rust)(&t.both.rust, slot) as u64,
                     number => panic!("refused: {number}"),
                 });
@@ -431,9 +442,49 @@ fn read() {
         reading!(finder_live, |rust, _| rust.live(), |_slot|);
         reading!(finder_mark, |rust, slot| rust.is_live(slot) as u32, |slot| slot);
         reading!(finder_slot_version, |rust, slot| rust.version(slot) as u32, |slot| slot);
+        reading!(finder_number, |_, slot| slot + 1, |slot| slot);
         reading!(finder_target, |rust, slot| rust.targets(slot)[0], |slot| slot, 0);
         reading!(finder_guard_status, |rust, _| rust.status()[0], |_slot|);
         assert!(t.same(), "the library's index is another one than the Rust's");
+    }
+}
+
+/// The rows that every call tests, with numbers and summary tested in two passes. For slots whose numbers are in the order of the slots.
+fn tested(words: &table::Words, lent: &table::Lengths, l: &Labels) -> u32 {
+    table::shared(words, lent, l.marks, false, || {
+        let odd = l.marks.iter().zip(l.numbers).any(|(&mark, &number)| (mark == 0) != (number == 0));
+        let (named, rest) = l.summary.split_at(words[5] as usize);
+        let mut last = 0;
+        let falls = |&slot: &u32| {
+            let number = l.numbers.get(slot as usize).copied().unwrap_or(0);
+            number <= std::mem::replace(&mut last, number)
+        };
+        odd || named.iter().any(falls) || rest.iter().any(|&slot| slot != table::BLANK)
+    })
+}
+
+/// What the tests of one call cost, numbers and summary among them, in a full index; and what making it costs, with numbers that rise and with random ones.
+fn numbers() {
+    println!("numbers; one finder_live, and one making with rising and with random numbers, best of five rounds");
+    println!("{:>8} {:>10} {:>10} {:>10} {:>10}", "capacity", "live, us", "ns a slot", "rising, ms", "random, ms");
+    for capacity in [1_000usize, 20_000, 65_536] {
+        let mut t = filled(capacity, &clustered(capacity));
+        let stored = t.both.rust.stored();
+        let (mut live, mut making) = (f64::MAX, [f64::MAX; 2]);
+        for _ in 0..5 {
+            let (rising, random) = ((1..=capacity as u32).collect::<Vec<u32>>(), draw::any_numbers(capacity, &mut t.rng));
+            for (best, numbers) in making.iter_mut().zip([rising, random]) {
+                t.create(capacity, &stored.vectors, &stored.targets, &numbers);
+                *best = best.min(t.each(1)[1] / 1e3);
+            }
+            let (lent, mut value) = (t.both.slices.lengths(), 0);
+            let started = cpu();
+            for _ in 0..1_000 {
+                assert!(call!(finder_live, t.both, lent, &mut value) == 0 && value == capacity as u32);
+            }
+            live = live.min((cpu() - started) * 1e3);
+        }
+        println!("{capacity:>8} {live:>10.2} {:>10.2} {:>10.2} {:>10.2}", live * 1e3 / capacity as f64, making[0], making[1]);
     }
 }
 

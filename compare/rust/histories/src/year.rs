@@ -67,7 +67,7 @@ fn around(centre: &[u8], by: i32, rng: &mut Rng) -> Vec<u8> {
 /// A reading of one number by the library.
 macro_rules! read {
     ($index:expr, $name:ident $(, $more:expr)*) => {{
-        let (mut value, lent) = (u32::MAX, $index.both.six.lengths());
+        let (mut value, lent) = (u32::MAX, $index.both.slices.lengths());
         match call!($name, $index.both, lent $(, $more)*, &mut value) {
             0 => Ok(value),
             refused => Err(format!("{}: refused with {refused}", stringify!($name))),
@@ -157,13 +157,15 @@ impl Year {
         }
         match piece {
             "words" => flip!(b.words),
-            "vectors" => flip!(b.six.vectors),
-            "targets" => flip!(b.six.targets),
-            "edges" => flip!(b.six.edges),
-            "versions" => flip!(b.six.versions),
-            "marks" => flip!(b.six.marks),
-            "pool" => flip!(b.six.pool),
-            _ => panic!("{piece}: words, vectors, targets, edges, versions, marks or pool"),
+            "vectors" => flip!(b.slices.vectors),
+            "targets" => flip!(b.slices.targets),
+            "edges" => flip!(b.slices.edges),
+            "versions" => flip!(b.slices.versions),
+            "marks" => flip!(b.slices.marks),
+            "pool" => flip!(b.slices.pool),
+            "numbers" => flip!(b.slices.numbers),
+            "summary" => flip!(b.slices.summary),
+            _ => panic!("{piece}: words, vectors, targets, edges, versions, marks, pool, numbers or summary"),
         }
     }
     fn is_live(&mut self, slot: u32) -> Same<bool> {
@@ -171,9 +173,9 @@ impl Year {
     }
     /// The vector of a live slot.
     fn vector(&mut self, slot: u32) -> &[u8] {
-        let lent = self.index.both.six.lengths();
+        let lent = self.index.both.slices.lengths();
         let n = call!(finder_vector, self.index.both, lent, slot);
-        unsafe { std::slice::from_raw_parts(self.index.both.six.vectors.ptr().add(slot as usize * DIM), n) }
+        unsafe { std::slice::from_raw_parts(self.index.both.slices.vectors.ptr().add(slot as usize * DIM), n) }
     }
     fn row(&mut self, slot: u32) -> Same<Vec<u32>> {
         let mut row = vec![];
