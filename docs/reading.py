@@ -3,8 +3,8 @@
 
 The first has the definitions that the theorems for the three demands rest on. It begins with their statements and the `ensures` lines of the functions for
 C, and follows each name through the imports; so it is closed, and a definition reached in a file of no row fails. It does not follow a function's contract
-where the function's constructor of `Exported` has it as premise; a constructor that has another one, or belongs to no function, fails. The second table has
-all other files of definitions. Lines without blank ones, comments and imports.
+where the function's constructor of `Exported` has it as premise; a constructor that has another one, or belongs to no function, fails. (Two functions have the
+constructor of another one: SAME.) The second table has all other files of definitions. Lines without blank ones, comments and imports.
 """
 import glob
 import os
@@ -19,7 +19,10 @@ STATEMENTS = [
     ("exported/specs/Performs", "Exported-performs"), ("calls/specs/Instances", "Demand-2"),
     ("walk/specs/GreedySearch", "paper"), ("prune/specs/RobustPrune", "paper"),
     ("exported/specs/History", "Exported-history"),
+    ("calls/specs/Labelled", "Figure-numbers"),
 ]
+# the functions whose runs are those of another's constructor: a delete that names numbers
+SAME = {"finder-delete-numbers": "finder-delete", "finder-guarded-delete-numbers": "finder-guarded-delete"}
 ROWS = [
     ("an index: sizes and limits, what it shows, how it is stored, the plain index", "slots/specs/Sizes slots/specs/View slots/specs/Ops slots/specs/Store slots/specs/Plain"),
     ("every call: arguments, when it is turned back, what it does and writes", "calls/specs/Calls calls/specs/State calls/specs/Refusals calls/specs/Step calls/specs/Outputs slots/specs/Scratch"),
@@ -28,6 +31,7 @@ ROWS = [
     ("demand 2: the algorithms, under the names of the Rust", "vectors/specs/Distance vectors/specs/Space candidates/specs/Candidates candidates/specs/Quotient walk/specs/Walk prune/specs/Prune insert/specs/Insert repair/specs/Repair repair/specs/Delete guard/specs/Guard"),
     ("demand 2: the paper, and where the library uses it", "walk/specs/GreedySearch prune/specs/RobustPrune calls/specs/Instances"),
     ("demand 3: the main theorem", "calls/specs/History exported/specs/History"),
+    ("figure numbers: their rules, what calls write and test of them, and the theorem on them", "numbers/specs/Numbers calls/specs/Labelled"),
     ("functions on lists", "lists/specs/Lists"),
 ]
 BESIDES = [
@@ -115,17 +119,19 @@ def functions():
 def used_up(exported):
     """The contracts that the constructors of `Exported` have as premises, each that of its function"""
     premises = dict(re.findall(r"^  (finder-[\w-]+) : (.*?)(?=^  finder-|\Z)", "\n".join(exported.lines), re.S | re.M))
-    contracts = set()
+    contracts, named = set(), set()
     for name, promise, file in functions():
-        contract = promise.split()[0]
-        if name in premises:
-            if contract not in premises.pop(name).split():
-                sys.exit("%s has no premise %s" % (name, contract))
+        contract, constructor = promise.split()[0], SAME.get(name, name)
+        if constructor in premises:
+            if contract not in premises[constructor].split():
+                sys.exit("%s has no premise %s" % (constructor, contract))
             contracts.add(contract)
+            named.add(name)
         elif name not in ("finder-version", "finder-scratch-words"):
             sys.exit("no constructor: %s" % name)
-    if premises:
-        sys.exit("no function: %s" % ", ".join(premises))
+    missing = (set(premises) | set(SAME)) - named
+    if missing:
+        sys.exit("no function: %s" % ", ".join(sorted(missing)))
     return contracts
 
 
