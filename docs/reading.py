@@ -1,7 +1,7 @@
 #!/usr/bin/env python3
 """Prints README's two reading tables, or with --check fails where README has other ones, or docs/CLAIMS.md another number of lines of the first.
 
-The first has the definitions that the theorems for the three demands rest on. It begins with their statements and the `ensures` lines of the functions for
+The first has the definitions that the theorems for the three demands, on figure numbers and on pruning rest on. It begins with their statements and the `ensures` lines of the functions for
 C, and follows each name through the imports; so it is closed, and a definition reached in a file of no row fails. It does not follow a function's contract
 where the function's constructor of `Exported` has it as premise; a constructor that has another one, or belongs to no function, fails. (Two functions have the
 constructor of another one: SAME.) The second table has all other files of definitions. Lines without blank ones, comments and imports.
@@ -15,11 +15,11 @@ TOP = os.path.join(os.path.dirname(os.path.abspath(__file__)), "..")
 CRATES = os.path.join(TOP, "crates")
 
 STATEMENTS = [
-    ("calls/specs/Refused", "Demand-1"), ("exported/specs/Refused", "Exported-demand-1"),
+    ("calls/specs/Refused", "Demand-1"), ("calls/specs/Refused", "Table-rows"), ("exported/specs/Refused", "Exported-demand-1"),
     ("exported/specs/Performs", "Exported-performs"), ("calls/specs/Instances", "Demand-2"),
     ("walk/specs/GreedySearch", "paper"), ("prune/specs/RobustPrune", "paper"),
     ("exported/specs/History", "Exported-history"),
-    ("calls/specs/Labelled", "Figure-numbers"),
+    ("calls/specs/Labelled", "Figure-numbers"), ("calls/specs/FromPool", "From-pool"),
 ]
 # the functions whose runs are those of another's constructor: a delete that names numbers
 SAME = {"finder-delete-numbers": "finder-delete", "finder-guarded-delete-numbers": "finder-guarded-delete"}
@@ -32,6 +32,7 @@ ROWS = [
     ("demand 2: the paper, and where the library uses it", "walk/specs/GreedySearch prune/specs/RobustPrune calls/specs/Instances"),
     ("demand 3: the main theorem", "calls/specs/History exported/specs/History"),
     ("figure numbers: their rules, what calls write and test of them, and the theorem on them", "numbers/specs/Numbers calls/specs/Labelled"),
+    ("pruning selects nothing outside the list that it is given", "calls/specs/FromPool"),
     ("functions on lists", "lists/specs/Lists"),
 ]
 BESIDES = [

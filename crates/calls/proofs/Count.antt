@@ -71,7 +71,7 @@ insert-finds lent w a r =
     let count = length (a .bytes) / v .sizes .dim in
     let full = ltb (length (free-slots v)) count in
     let held = taken (w .numbers) (a .numbers) in
-    let fifteen : List Test = (15, held) ∷ (14, false) ∷ [] in
+    let fifteen : List Test = (15, held) ∷ [] in
     let ten : List Test = (10, full) ∷ fifteen in
     let odd = not (eqb (length (a .bytes)) (count * v .sizes .dim)) in
     let nine : List Test = (9, odd) ∷ ten in
@@ -87,7 +87,7 @@ insert-finds lent w a r =
       finds = record { sized = f .sized; grown = f .grown; long = f .long; not-wrong = f .not-wrong; live = f .live; labels = f .labels; own = refl };
       room = ltb-false (length (free-slots v)) count (t₁₅ .0);
       as-many = eqb-true (length (a .numbers)) count (not-false many (or-neither (ltb (lent .room .slots) count) (not many) (f .not-wrong) .1));
-      fresh = first-none 15 held ((14, false) ∷ []) (t₁₅ .1) .0;
+      fresh = first-none 15 held [] (t₁₅ .1) .0;
     }
 
 -- ---- every call

@@ -5,6 +5,8 @@ pub mod History
 pub mod Reached
 pub mod Runs
 pub mod Instances
+pub mod FromPool
 pub mod Enabling
 pub mod Count
 pub mod Labelled
+pub mod TableRows

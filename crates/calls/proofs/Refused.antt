@@ -96,6 +96,14 @@ module _ {B : Type 0} (K : Kind B) (w : State B) (c : Call) where
   tests-rows (assess a) = refl
   tests-rows (guarded-delete a) = refl
 
+  pub first-listed : (n : ℕ) → First n (tests-of K w c) → elem n (rows (c .operation)) ≡ true
+  first-listed n h = sym (ap (elem n) (tests-rows (c .operation))) ∙ first-in n (tests-of K w c) h
+
+  -- every number that a call can give stands in the list of its rows
+  pub refusal-numbers : (n : ℕ) → refusal K w c ≡ some n → elem n (rows (c .operation)) ≡ true
+  unfolding refusal
+  refusal-numbers n h = first-listed n (is-first n (tests-of K w c) h)
+
   settled : (q : Option ℕ) → refusal K w c ≡ q → step K w c ≡ settle K w c q
   unfolding step
   settled q h = ap (settle K w c) h
@@ -106,6 +114,7 @@ module _ {B : Type 0} (K : Kind B) (w : State B) (c : Call) where
     back = λ n h. settled (some n) (first-is n (tests-of K w c) h);
     done = λ none-holds. go-on none-holds (refusal K w c) refl;
     only = λ n e. by-first n e (refusal K w c) refl;
+    listed = refusal-numbers;
     rows = tests-rows (c .operation);
   }
     where
@@ -135,7 +144,7 @@ module _ {B : Type 0} (K : Kind B) (w : State B) (c : Call) where
   -- no row has the number 0
   pub not-zero : (n : ℕ) → First n (tests-of K w c) → n ≡ 0 → ⊥
   not-zero n h e =
-      let f : true ≡ false = sym (first-in n (tests-of K w c) h) ∙ ap (elem n) (tests-rows (c .operation)) ∙ ap (λ m. elem m (rows (c .operation))) e ∙ no-zero (c .operation) in
+      let f : true ≡ false = sym (first-listed n h) ∙ ap (λ m. elem m (rows (c .operation))) e ∙ no-zero (c .operation) in
       let z : _≡_ {A = ℕ} 0 1 = cc in omega arith
 
   pub refusal-not-zero : (n : ℕ) → refusal K w c ≡ some n → n ≡ 0 → ⊥

@@ -9,5 +9,6 @@ pub mod Reached
 pub mod Runs
 pub mod Count
 pub mod Instances
+pub mod FromPool
 pub mod Table
 pub mod Labelled

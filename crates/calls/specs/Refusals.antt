@@ -1,5 +1,5 @@
--- Turned-back calls: document 01's table, with document 02's 15 and its part of 6 (E1). For each call the tests that apply to it, in the table's order; the
--- first that holds is the number given. Assumes nothing.
+-- Turned-back calls: document 01's table, with document 02's 15 and its part of 6 (E1), less the row that E2 took away. For each call the tests that apply to
+-- it, in the table's order; the first that holds is the number given. Assumes nothing.
 use Prim.Native.Nat.{ℕ, _*_, _/_, min}
 use mathlib.Core.Bool.{Bool, true, false, not, _&&_, _||_, cond}
 use mathlib.Core.List.{List, [], _∷_}
@@ -119,8 +119,6 @@ module _ (l : Limits) where
       ∷ (9, not (eqb (length (a .bytes)) (n * dim)))
       ∷ (10, ltb (length (free-slots (w .graph))) n)
       ∷ (15, taken (w .numbers) (a .numbers))
-      -- pruning chose outside its pool: it never does (`chosen-given`)
-      ∷ (14, false)
       ∷ [])
   tests lent w (delete a) = index-tests (lent .slices) w (ltb (lent .room .stats) (length (a .names))) ((7, delete-over a) ∷ (8, scratch-short lent w) ∷ [])
   tests lent w (enable config) =

@@ -10,7 +10,7 @@ use Rattle.calls.specs.Refusals.{or-zero}
 use Rattle.calls.specs.Refused.{First}
 use Rattle.calls.specs.State.{State, stored, shown}
 use Rattle.calls.specs.Step.{reading, guarded, report-of, named, perform, refusal, settle, step}
-use Rattle.calls.proofs.Refused.{first-is, is-first, demand-1, not-zero}
+use Rattle.calls.proofs.Refused.{first-is, is-first, demand-1, first-listed, not-zero}
 use Rattle.exported.specs.Runs.{Places, Exported-run}
 use Rattle.exported.specs.Performs.{state-in, call-in, put, Gives, Performs}
 use Rattle.exported.specs.Refused.{tests-in, Turns-back, Exported-demand-1}
@@ -89,6 +89,7 @@ module _ {r : Exported-run} (k : Performs r) where
       λ f. (returns h ∙ ap or-zero (first-is n (tests-in r) f), not-zero stored w (call-in r) n f),
       λ e. first n (e .1) (refusal stored w (call-in r)) refl (sym (e .0) ∙ returns h),
     );
+    listed = λ h z. first-listed stored w (call-in r) (r .returned) (first (r .returned) z (refusal stored w (call-in r)) refl (returns h));
     empty = λ s q n f. ap (λ (x : ℕ × Places). x .0) (told (some n) (first-is n (tests-in r) f)) ∙ ap (λ o. put (refused-as n o) (r .before) .0) q;
     kept = λ n f. k .refused n (first-is n (tests-in r) f);
     done = λ f. subst (Gives r) (demand-1 stored w (call-in r) .done f) (k .does);

@@ -3,8 +3,9 @@ use Prim.Native.Nat.{ℕ, zero, suc}
 use mathlib.Core.Bool.{Bool, true, false, cond}
 use mathlib.Core.Path.{_≡_, refl}
 use mathlib.Core.List.{List, [], _∷_, _++_}
+use mathlib.Core.Logic.{inl, inr}
 use lib.ListN.{take, drop}
-use Rattle.lists.specs.Lists.{All, filter, init, insert-by, sort-by, foldl}
+use Rattle.lists.specs.Lists.{All, In, filter, init, insert-by, sort-by, foldl}
 
 -- what holds in both cases of a test
 pub by-cases : {A : Type 0} (P : A → Type 0) (b : Bool) {x y : A} → (b ≡ true → P x) → (b ≡ false → P y) → P (cond b x y)
@@ -19,6 +20,11 @@ module _ {A : Type 0} where
   pub all-both : (P Q : A → Type 0) (xs : List A) → All P xs → All Q xs → All (λ x. P x × Q x) xs
   all-both P Q [] h k = tt
   all-both P Q (x ∷ xs) h k = ((h .0, k .0), all-both P Q xs (h .1) (k .1))
+
+  -- each element is one of them
+  pub each-in : (xs : List A) → All (λ x. In x xs) xs
+  each-in [] = tt
+  each-in (x ∷ xs) = (inl refl, all-map (λ y. In y xs) (λ y. In y (x ∷ xs)) (λ y h. inr h) xs (each-in xs))
 
   -- what a filter leaves passes its test
   pub filter-test : (p : A → Bool) (xs : List A) → All (λ x. p x ≡ true) (filter p xs)

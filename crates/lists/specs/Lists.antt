@@ -2,6 +2,7 @@
 use Prim.Native.Nat.{ℕ, zero, suc, _+_, _*_}
 use mathlib.Core.Bool.{Bool, true, false, not, _||_, cond}
 use mathlib.Core.List.{List, [], _∷_, _++_}
+use mathlib.Core.Logic.{_⊎_}
 use mathlib.Core.Path.{_≡_}
 use lib.ListN.{length, take, drop}
 use lib.Dec.{eqb, ltb}
@@ -103,6 +104,11 @@ module _ {A : Type 0} where
   abbrev pub All : (A → Type 0) → List A → Type 0
   All P [] = Unit {0}
   All P (x ∷ xs) = P x × All P xs
+
+  -- x is one of the elements
+  abbrev pub In : A → List A → Type 0
+  In x [] = ⊥
+  In x (y ∷ ys) = (x ≡ y) ⊎ In x ys
 
   -- of each element and every later one
   abbrev pub Pairwise : (A → A → Type 0) → List A → Type 0

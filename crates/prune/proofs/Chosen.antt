@@ -1,17 +1,17 @@
--- What is selected: whatever holds of every candidate given holds of every one selected, so each stands in the list given; each is live and not the
--- source, they are at most as many as the degree, and no slot is selected twice. Assumes nothing.
+-- What is selected: whatever holds of every candidate given holds of every one selected, so each stands in the list given, slot and distance; each is
+-- live and not the source, they are at most as many as the degree, and no slot is selected twice. Assumes nothing.
 use Prim.Native.Nat.{ℕ, _≤_}
 use mathlib.Core.Path.{_≡_, refl, sym, _∙_}
 use mathlib.Core.Bool.{Bool, true, false, not, _&&_, _||_, true≢false}
 use mathlib.Core.List.{List, [], _∷_, _++_}
 use native.Mathlib.Omega.{arith}
-use borrow.Author.Tests.{leb-false, eq-eqb, not-true}
+use borrow.Author.Tests.{leb-false, not-true}
 use lib.ListN.{length, length-append, length-take}
 use lib.Seq.{take-all}
 use lib.Dec.{eqb, leb}
 use lib.Ieee.{Float, lt}
-use Rattle.lists.specs.Lists.{All, filter, elem, foldl, sort-by, distinct-by}
-use Rattle.lists.proofs.All.{by-cases, all-map, all-append, all-take, all-filter, all-sort, filter-test}
+use Rattle.lists.specs.Lists.{All, In, filter, elem, foldl, sort-by, distinct-by}
+use Rattle.lists.proofs.All.{by-cases, all-map, each-in, all-append, all-take, all-filter, all-sort, filter-test}
 use Rattle.lists.proofs.Unique.{Unique, all-distinct, unique-snoc, unique-distinct, unique-take, keys-snoc, or-false-l, or-false-r, eqb-flip}
 use Rattle.candidates.specs.Candidates.{Candidate, ids, nearer}
 use Rattle.candidates.specs.Quotient.{largest}
@@ -150,6 +150,10 @@ module _ (degree : ℕ) (alpha : Float) (live : ℕ → Bool) (d : ℕ → ℕ �
   unfolding prune-scored
   chosen P a = all-passes degree alpha d P (considered live source cs) (all-of-given P live source cs a)
 
+  -- each one selected stands in the list given, slot and distance
+  pub chosen-given : All (λ c. In c cs) (prune-scored degree alpha live d source cs)
+  chosen-given = chosen (λ c. In c cs) (each-in cs)
+
   kept : All (λ c. not (eqb (c .id) source) && live (c .id) ≡ true) (prune-scored degree alpha live d source cs)
   unfolding prune-scored
   kept = all-passes degree alpha d (λ c. not (eqb (c .id) source) && live (c .id) ≡ true) (considered live source cs) (considered-kept live source cs)
@@ -175,22 +179,6 @@ module _ (degree : ℕ) (alpha : Float) (live : ℕ → Bool) (d : ℕ → ℕ �
       (all-map (Threshold alpha) (λ t. lt t largest ≡ true) (threshold-largest alpha a) (thresholds alpha) (all-thresholds alpha a))
       (record { unique = tt; marked = marked-none c (start c .factors) }))
 
--- each one selected stands in the list given
-in-more : (x : Candidate) (pool xs : List Candidate) → All (λ c. elem (c .id) (ids pool) ≡ true) xs → All (λ c. elem (c .id) (ids (x ∷ pool)) ≡ true) xs
-in-more x pool xs a = all-map _ _ (λ c e. or-true (eqb (c .id) (x .id)) (elem (c .id) (ids pool)) e) xs a
-  where
-    or-true : (p q : Bool) → q ≡ true → (p || q) ≡ true
-    or-true true q e = refl
-    or-true false q e = e
-
-in-itself : (pool : List Candidate) → All (λ c. elem (c .id) (ids pool) ≡ true) pool
-in-itself [] = tt
-in-itself (x ∷ xs) = (rw (eq-eqb (x .id) (x .id) refl), in-more x xs xs (in-itself xs))
-
-pub chosen-given : (degree : ℕ) (alpha : Float) (live : ℕ → Bool) (d : ℕ → ℕ → ℕ) (source : ℕ) (cs : List Candidate)
-    → All (λ c. elem (c .id) (ids cs) ≡ true) (prune-scored degree alpha live d source cs)
-chosen-given degree alpha live d source cs = chosen degree alpha live d source cs (λ c. elem (c .id) (ids cs) ≡ true) (in-itself cs)
-
 -- ---- the same of a view
 
 -- the slots selected are live
@@ -205,6 +193,6 @@ ids-live v source cs = go (prune v source cs) (chosen-live (v .sizes .degree) (v
 pub none-chosen : (v : View) (source : ℕ) → prune v source [] ≡ []
 none-chosen v source = go (prune v source []) (chosen-given (v .sizes .degree) (v .sizes .alpha) (v .live) (slot-distance (v .space)) source [])
   where
-    go : (l : List Candidate) → All (λ c. elem (c .id) [] ≡ true) l → l ≡ []
+    go : (l : List Candidate) → All (λ c. In c []) l → l ≡ []
     go [] h = refl
-    go (c ∷ l) h = absurd (true≢false (sym (h .0)))
+    go (c ∷ l) h = absurd (h .0)

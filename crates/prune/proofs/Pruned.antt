@@ -7,7 +7,7 @@ use native.Mathlib.Omega.{arith}
 use lib.ListN.{length}
 use lib.Dec.{eqb}
 use lib.Ieee.{Float}
-use Rattle.lists.specs.Lists.{All, elem}
+use Rattle.lists.specs.Lists.{All, In}
 use Rattle.lists.proofs.All.{all-map}
 use Rattle.lists.proofs.Unique.{Unique}
 use Rattle.candidates.specs.Candidates.{Candidate, ids}
@@ -35,9 +35,9 @@ module _ {degree : ℕ} {alpha : Float} {live : ℕ → Bool} {d : ℕ → ℕ �
   pub pruned-all : (P : Candidate → Type 0) → All P (cands w a n) → All P (cands w′ to r)
   pruned-all P h = so (All P) (chosen degree alpha live d source (cands w a n) P h)
 
-  -- each stands in the list given
-  pub pruned-given : All (λ c. elem (c .id) (ids (cands w a n)) ≡ true) (cands w′ to r)
-  pruned-given = so (All (λ c. elem (c .id) (ids (cands w a n)) ≡ true)) (chosen-given degree alpha live d source (cands w a n))
+  -- each stands in the list given, slot and distance
+  pub pruned-given : All (λ c. In c (cands w a n)) (cands w′ to r)
+  pruned-given = so (All (λ c. In c (cands w a n))) (chosen-given degree alpha live d source (cands w a n))
 
   pub pruned-live : All (λ c. live (c .id) ≡ true) (cands w′ to r)
   pruned-live = so (All (λ c. live (c .id) ≡ true)) (chosen-live degree alpha live d source (cands w a n))

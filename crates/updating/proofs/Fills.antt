@@ -211,7 +211,7 @@ module _ (index : Index) (s : Slices) (a : Insert) (slots scratch : List ℕ) {r
   full = ltb (length (filter (λ t. not (is-valid (s .marks) t)) (range 0 (index .capacity)))) count
 
   numbered : All Numbered (insert-tests index (s .marks) (s .numbers) (length (a .bytes)) (a .numbers) (a .beam) (length scratch))
-  numbered = (omega arith, (omega arith, (omega arith, (omega arith, (omega arith, (omega arith, tt))))))
+  numbered = (omega arith, (omega arith, (omega arith, (omega arith, (omega arith, tt)))))
 
   pub inserts-back : (r ≡ 0 → ⊥) → Inserts index s a (insert-outputs slots) scratch s (insert-outputs slots) scratch (Refused r)
   unfolding tests refused-as inserted-as index-after written state-of stored store-ops store-view shown room-of call-of slices-of
@@ -236,8 +236,8 @@ module _ (index : Index) (s : Slices) (a : Insert) (slots scratch : List ℕ) {r
 
     own : (over ≡ false) × (small ≡ false)
     own =
-        let e = first-none 7 over ((8, small) ∷ (9, odd) ∷ (10, full) ∷ (15, taken (s .numbers) (a .numbers)) ∷ (14, false) ∷ []) (own-none index s numbered d z) in
-        (e .0, first-none 8 small ((9, odd) ∷ (10, full) ∷ (15, taken (s .numbers) (a .numbers)) ∷ (14, false) ∷ []) (e .1) .0)
+        let e = first-none 7 over ((8, small) ∷ (9, odd) ∷ (10, full) ∷ (15, taken (s .numbers) (a .numbers)) ∷ []) (own-none index s numbered d z) in
+        (e .0, first-none 8 small ((9, odd) ∷ (10, full) ∷ (15, taken (s .numbers) (a .numbers)) ∷ []) (e .1) .0)
 
     beam-most : a .beam ≤ 1024
     unfolding limits
@@ -408,7 +408,7 @@ module _ {index : Index} {s : Slices} {a : Insert} {outputs : Outputs} {scratch 
           let b : inserted (c .filled) ≡ refused-as m (insert a) = ap (λ x. x .1) (c .meets .does ∙ step-back on asked m e) in
           absurd (let z : _≡_ {A = ℕ} 0 1 = cc in omega arith)
       go none e =
-          let p = passed-none index s _ _ (omega arith, (omega arith, (omega arith, (omega arith, (omega arith, (omega arith, tt)))))) e in
+          let p = passed-none index s _ _ (omega arith, (omega arith, (omega arith, (omega arith, (omega arith, tt))))) e in
           let g = on .graph in
           let vs = vectors-of (index .dim) (a .bytes) in
           let w : state-of i s′ ≡ with-graph stored on (insert-batch store-ops (a .beam) g vs) _ = ap (λ x. x .0) (c .meets .does ∙ step-on on asked e) in

@@ -38,7 +38,7 @@ module _ (lent : Lent) (w w′ : State Store) (a : Insert) where
   unfolding tests index-tests
   insert-positive e =
       positive (tests limits lent (shown stored w) (insert a))
-      (omega arith, (omega arith, (omega arith, (omega arith, (omega arith, (omega arith, (omega arith, (omega arith, (omega arith, (omega arith, tt)))))))))) e
+      (omega arith, (omega arith, (omega arith, (omega arith, (omega arith, (omega arith, (omega arith, (omega arith, (omega arith, tt))))))))) e
 
   insert-numbered : {n : ℕ} → (w′, refused n) ≡ step stored w asked → n ≡ 0 → ⊥
   unfolding refused-as perform

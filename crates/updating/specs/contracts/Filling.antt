@@ -14,7 +14,7 @@ use Rattle.numbers.specs.contracts.Listed.{Inserting}
 use Rattle.calls.specs.Refusals.{Test}
 use Rattle.index.specs.declared.Index.{Index}
 
--- 7 to 10, 15, and 14, which never holds
+-- 7 to 10, and 15
 abbrev pub insert-tests : Index → List ℕ → List ℕ → ℕ → List ℕ → ℕ → ℕ → List Test
 insert-tests index marks numbers bytes given beam scratch =
     let n = bytes / index .dim in
@@ -23,7 +23,6 @@ insert-tests index marks numbers bytes given beam scratch =
     ∷ (9, not (eqb bytes (n * index .dim)))
     ∷ (10, ltb (length (filter (λ s. not (is-valid marks s)) (range 0 (index .capacity)))) n)
     ∷ (15, taken numbers given)
-    ∷ (14, false)
     ∷ []
 
 -- another live count
