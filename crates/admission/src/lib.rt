@@ -1,4 +1,6 @@
 // The routability guard on lent slices: the landmark pool, trial walks and the report.
+#![tactic(auto)]
+
 mod entry;
 mod pool;
 mod report;

@@ -15,7 +15,7 @@ use landmarks::{narrow, select_landmarks, stays};
 use slots::rows::BLANK;
 
 // A report without its two lists; `entry` is blank where there is none, `checked` and `lost` are how many the lists hold.
-#[derive(Drop)]
+#[derive(Clone, Copy)]
 pub struct Report {
     pub admitted: bool,
     pub requested: u32,

@@ -52,7 +52,7 @@ fn note_lost(lost: &mut [u32], n: u32, landmark: u32, before: bool, after: bool)
 }
 
 // How many landmarks are met at baseline, how many with the slots left out, and how many are lost.
-#[derive(Drop)]
+#[derive(Clone, Copy)]
 pub struct Trials {
     pub baseline: u32,
     pub residual: u32,

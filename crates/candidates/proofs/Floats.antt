@@ -74,6 +74,10 @@ or_eq a b =
 -- ---- the order of two values that are not negative is that of the fractions that they equal
 pub lt_of_values : (x y : Float) (a c b d : ℕ) → 0 < c → 0 < d → HasValue x false a c → HasValue y false b d → lt x y ≡ ltb (a * d) (b * c)
 unfolding lt
+lt_of_values lib.Ieee.nan y a c b d C D p q = elim p [ ]
+lt_of_values (inf _) y a c b d C D p q = elim p [ ]
+lt_of_values (fin false m e) lib.Ieee.nan a c b d C D p q = elim q [ ]
+lt_of_values (fin false m e) (inf _) a c b d C D p q = elim q [ ]
 lt_of_values (fin true m e) y a c b d C D p q = absurd (true≢false p.0)
 lt_of_values (fin false m e) (fin true n k) a c b d C D p q = absurd (true≢false q.0)
 lt_of_values (fin false m e) (fin false n k) a c b d C D p q =
@@ -85,6 +89,10 @@ lt_of_values (fin false m e) (fin false n k) a c b d C D p q =
 
 pub le_of_fractions : (x y : Float) (a c b d : ℕ) → 0 < c → 0 < d → HasValue x false a c → HasValue y false b d → le x y ≡ leb (a * d) (b * c)
 unfolding le
+le_of_fractions lib.Ieee.nan y a c b d C D p q = elim p [ ]
+le_of_fractions (inf _) y a c b d C D p q = elim p [ ]
+le_of_fractions (fin false m e) lib.Ieee.nan a c b d C D p q = elim q [ ]
+le_of_fractions (fin false m e) (inf _) a c b d C D p q = elim q [ ]
 le_of_fractions (fin true m e) y a c b d C D p q = absurd (true≢false p.0)
 le_of_fractions (fin false m e) (fin true n k) a c b d C D p q = absurd (true≢false q.0)
 le_of_fractions (fin false m e) (fin false n k) a c b d C D p q =
@@ -97,6 +105,10 @@ le_of_fractions (fin false m e) (fin false n k) a c b d C D p q =
 
 pub eq_of_values : (x y : Float) (a c b d : ℕ) → 0 < c → 0 < d → HasValue x false a c → HasValue y false b d → eq x y ≡ eqb (a * d) (b * c)
 unfolding eq
+eq_of_values lib.Ieee.nan y a c b d C D p q = elim p [ ]
+eq_of_values (inf _) y a c b d C D p q = elim p [ ]
+eq_of_values (fin false m e) lib.Ieee.nan a c b d C D p q = elim q [ ]
+eq_of_values (fin false m e) (inf _) a c b d C D p q = elim q [ ]
 eq_of_values (fin true m e) y a c b d C D p q = absurd (true≢false p.0)
 eq_of_values (fin false m e) (fin true n k) a c b d C D p q = absurd (true≢false q.0)
 eq_of_values (fin false m e) (fin false n k) a c b d C D p q =
@@ -145,6 +157,10 @@ not_zero n h e = omega arith
 
 div_of_values : (f : Format) (x y : Float) (a b : ℕ) → 0 < b → HasValue x false a 1 → HasValue y false b 1 → div f x y ≡ round f false a b
 unfolding div
+div_of_values f lib.Ieee.nan y a b B p q = elim p [ ]
+div_of_values f (inf _) y a b B p q = elim p [ ]
+div_of_values f (fin false m e) lib.Ieee.nan a b B p q = elim q [ ]
+div_of_values f (fin false m e) (inf _) a b B p q = elim q [ ]
 div_of_values f (fin true m e) y a b B p q = absurd (true≢false p.0)
 div_of_values f (fin false m e) (fin true n k) a b B p q = absurd (true≢false q.0)
 div_of_values f (fin false m e) (fin false n k) a b B p q =
@@ -170,6 +186,9 @@ step_up p q P h = omega arith
 
 above_one_by : (y : Float) → T (le (fin false 8388609 (negsuc 22)) y) → T (above y) → T (lt (fin false 1 (pos 0)) y)
 unfolding lt le
+above_one_by lib.Ieee.nan t u = elim t [ ]
+above_one_by (inf true) t u = elim t [ ]
+above_one_by (fin true n k) t u = elim u [ ]
 above_one_by (inf false) t u = tt
 above_one_by (fin false n k) t u =
     lt→ltb (1 * 1 * down k) (n * up k * 1)
@@ -183,6 +202,9 @@ crossed p q h k = omega arith
 
 not_above_one : (y : Float) → T (le y (fin false 1 (pos 0))) → T (lt (fin false 1 (pos 0)) y) → ⊥
 unfolding lt le
+not_above_one lib.Ieee.nan t u = elim t [ ]
+not_above_one (inf true) t u = elim u [ ]
+not_above_one (fin true n k) t u = elim u [ ]
 not_above_one (inf false) t u = t
 not_above_one (fin false n k) t u =
     crossed (down k) (n * up k) (leb→le (n * up k * 1) (1 * 1 * down k) (subst T (or_eq (n * up k * 1) (1 * 1 * down k)) t)) (ltb→lt (1 * 1 * down k) (n * up k * 1) u)

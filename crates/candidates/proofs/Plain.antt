@@ -25,13 +25,21 @@ plain (fin true m e) = false
 plain (fin false m e) = true
 
 value : (x : Float) → T (plain x) → HasValue x false (num x) (den x)
+value nan p = elim p [ ]
+value (inf _) p = elim p [ ]
+value (fin true m e) p = elim p [ ]
 value (fin false m e) p = (refl, refl)
 
 plain_of_value : (x : Float) (a c : ℕ) → HasValue x false a c → T (plain x)
+plain_of_value nan a c h = elim h [ ]
+plain_of_value (inf _) a c h = elim h [ ]
 plain_of_value (fin true m e) a c h = absurd (true≢false h.0)
 plain_of_value (fin false m e) a c h = tt
 
 pub plain_of_positive : (x : Float) → T (positive x) → T (plain x)
+plain_of_positive nan p = elim p [ ]
+plain_of_positive (inf _) p = elim p [ ]
+plain_of_positive (fin true m e) p = elim p [ ]
 plain_of_positive (fin false m e) p = tt
 
 pub lt_plain : (x y : Float) → T (plain x) → T (plain y) → lt x y ≡ ltb (num x * den y) (num y * den x)

@@ -9,7 +9,7 @@ ghost use Rattle.candidates.specs.Inner.Words.{pair};
 // The largest finite f32.
 pub const LARGEST: f32 = 3.4028235e38;
 
-#[derive(Drop)]
+#[derive(Clone, Copy)]
 pub struct Candidate {
     pub dist: f32,
     pub id: u32,

@@ -1,4 +1,6 @@
 // Candidates: a distance and a slot. Their order and the quotient of two distances; and lists of them in lent words.
+#![tactic(auto)]
+
 mod candidate;
 mod list;
 mod sort;

@@ -1,4 +1,6 @@
 // The lines of calls that make or change an index, each compared with the stored answer.
+#![tactic(auto)]
+
 mod deleting;
 mod inserting;
 mod making;

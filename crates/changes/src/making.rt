@@ -6,7 +6,7 @@ use lines::words::Word;
 use text::{after, ends, first};
 
 // The numbers of a line `make`.
-#[derive(Drop)]
+#[derive(Clone, Copy)]
 struct Making {
     dim: u32,
     capacity: u32,

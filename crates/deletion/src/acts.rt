@@ -11,7 +11,7 @@ use slots::finish;
 use slots::marks::wide;
 
 // How many slots a delete empties, and the entry after it.
-#[derive(Drop)]
+#[derive(Clone, Copy)]
 pub struct Emptied {
     pub count: usize,
     pub entry: u32,

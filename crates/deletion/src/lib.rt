@@ -1,4 +1,6 @@
 // Delete batches: the rows of the deleted slots are taken, their marks cleared, the rows around them repaired, and the slots emptied.
+#![tactic(auto)]
+
 mod acts;
 mod batch;
 mod named;

@@ -83,7 +83,7 @@ fn recover(
 }
 
 // How many slots are recovered, and how many candidates a plan has.
-#[derive(Drop)]
+#[derive(Clone, Copy)]
 pub struct Collected {
     pub recovered: usize,
     pub candidates: usize,

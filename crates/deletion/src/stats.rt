@@ -5,7 +5,7 @@ ghost use Rattle.deletion.specs.Batch.{record_of, records_of};
 
 // The counts of one emptied slot.
 #[repr(C)]
-#[derive(Drop)]
+#[derive(Clone, Copy)]
 pub struct DeleteStats {
     pub outgoing_seeds: u32,
     pub recovered_in_neighbors: u32,

@@ -1,4 +1,6 @@
 // The distance of two vectors, of two slots, and of a query and a slot.
+#![tactic(auto)]
+
 ghost use Rattle.std.specs.Prelude.{◌≡◌, ◌+◌, ◌*◌, ◌-◌, ◌<◌, ◌≤◌, length};
 ghost use Rattle.vectors.specs.Distance.{squared_difference, distance};
 ghost use Rattle.vectors.specs.Space.{slot_distance, query_distance, space, Measured};

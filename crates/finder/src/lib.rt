@@ -1,5 +1,7 @@
 // The calls of the crates `index`, `reading`, `updating` and `guarding` for C and Rust: include/finder.h describes each function.
 // An index is twelve words of 32 bits beside the eight slices.
+#![tactic(auto)]
+
 mod deleting;
 mod guard_calls;
 mod guarded_delete;

@@ -1,4 +1,6 @@
 // The calls of the guard: enabling it, reading its status, assessing a delete, and deleting if it admits that.
+#![tactic(auto)]
+
 mod assessing;
 mod deleting;
 mod enabling;
@@ -12,7 +14,7 @@ use index::Index;
 pub use statuses::guard_status;
 
 // The status of a guard; all 0 where it is off.
-#[derive(Drop)]
+#[derive(Clone, Copy)]
 pub struct Status {
     pub enabled: bool,
     pub pool: u32,
@@ -22,21 +24,21 @@ pub struct Status {
 }
 
 // An index whose guard is on, with the guard's status, or the number of a refusal.
-#[derive(Drop)]
+#[derive(Clone, Copy)]
 pub enum Enabled {
     Refused(u32),
     Enabled(Index, Status),
 }
 
 // The guard's status, or the number of a refusal.
-#[derive(Drop)]
+#[derive(Clone, Copy)]
 pub enum Standing {
     Refused(u32),
     Standing(Status),
 }
 
 // The report on a delete, or the number of a refusal.
-#[derive(Drop)]
+#[derive(Clone, Copy)]
 pub enum Assessed {
     Refused(u32),
     Assessed(Report),
@@ -44,7 +46,7 @@ pub enum Assessed {
 
 // A guarded delete: the index without the slots that are emptied, how many they are, and the report that admits it; the report that does not; or the
 // number of a refusal.
-#[derive(Drop)]
+#[derive(Clone, Copy)]
 pub enum Guarded {
     Refused(u32),
     Applied(Index, u32, Report),

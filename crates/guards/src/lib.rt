@@ -1,4 +1,6 @@
 // The lines of the guard's calls, each compared with the stored answer.
+#![tactic(auto)]
+
 mod assessing;
 mod deleting;
 mod enabling;

@@ -1,4 +1,6 @@
 // An index by value and the eight slices that are lent beside it: making one, and the tests that all calls share.
+#![tactic(auto)]
+
 mod making;
 pub mod refusals;
 
@@ -6,7 +8,7 @@ pub use making::create;
 pub use refusals::scratch_words;
 
 // The settings of a guard that is on, and the length of its landmark pool.
-#[derive(Drop)]
+#[derive(Clone, Copy)]
 pub struct Settings {
     pub count: u32,
     pub multiplier: u32,
@@ -15,14 +17,14 @@ pub struct Settings {
     pub pool: u32,
 }
 
-#[derive(Drop)]
+#[derive(Clone, Copy)]
 pub enum Guard {
     Off,
     On(Settings),
 }
 
 // An index without its eight slices.
-#[derive(Drop)]
+#[derive(Clone, Copy)]
 pub struct Index {
     pub dim: u32,
     pub capacity: u32,
@@ -34,7 +36,7 @@ pub struct Index {
 }
 
 // The lengths of the eight slices.
-#[derive(Drop)]
+#[derive(Clone, Copy)]
 pub struct Lengths {
     pub vectors: usize,
     pub targets: usize,
@@ -47,14 +49,14 @@ pub struct Lengths {
 }
 
 // The size answer, or the number of a refusal.
-#[derive(Drop)]
+#[derive(Clone, Copy)]
 pub enum ScratchWords {
     Refused(u32),
     Words(u32),
 }
 
 // A new index, or the number of a refusal.
-#[derive(Drop)]
+#[derive(Clone, Copy)]
 pub enum Created {
     Refused(u32),
     Done(Index),

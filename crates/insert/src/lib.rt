@@ -1,1 +1,3 @@
 // The definition of `insert_batch`; its code is the crate `insertion`.
+#![tactic(auto)]
+

@@ -5,7 +5,7 @@ ghost use Rattle.insertion.specs.Inner.Layout.{Parts};
 use slots::scratch::MARKS;
 
 // The candidates of the plans, and for each its source and the next one of its slot; the plans' ends; a list of candidates, and a selection from it.
-#[derive(Drop)]
+#[derive(Clone, Copy)]
 pub struct Layout {
     pub plans: usize,
     pub sources: usize,

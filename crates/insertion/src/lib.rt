@@ -1,4 +1,6 @@
 // Insert batches: vectors go into the lowest free slots, chunk by chunk; of a chunk all plans are made before its rows are written.
+#![tactic(auto)]
+
 mod batch;
 mod chains;
 mod chunk;

@@ -1,4 +1,6 @@
 // Choosing landmarks on lent slices: which slots stay, a sample of them, and the farthest of the sample.
+#![tactic(auto)]
+
 mod choose;
 mod sample;
 mod select;

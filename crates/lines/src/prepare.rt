@@ -39,13 +39,13 @@ pub fn wide(n: u32) -> usize {
 }
 
 // How much of each array is lent to a call.
-#[derive(Drop)]
+#[derive(Clone, Copy)]
 pub struct Lent {
     pub of: [usize; 15],
 }
 
 // An index, what is lent to its calls, and whether the line was performed and its answer agrees.
-#[derive(Drop)]
+#[derive(Clone, Copy)]
 pub struct Step {
     pub index: Index,
     pub lent: Lent,
@@ -281,7 +281,7 @@ pub fn give(
 }
 
 // What a line `store` alters; array 7 is none.
-#[derive(Drop)]
+#[derive(Clone, Copy)]
 struct Place {
     array: u32,
     i: usize,

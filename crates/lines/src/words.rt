@@ -5,7 +5,7 @@ use super::kinds::{
 };
 
 // The word that a line begins with, and where it ends.
-#[derive(Drop)]
+#[derive(Clone, Copy)]
 pub struct Word {
     pub kind: usize,
     pub end: usize,

@@ -1,4 +1,6 @@
 // Repair links: of each plan of a delete, applied to the stored rows as they are found.
+#![tactic(auto)]
+
 mod link;
 mod plan;
 mod span;

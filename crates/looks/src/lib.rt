@@ -1,4 +1,6 @@
 // The lines of calls that leave an index as it is, each compared with the stored answer.
+#![tactic(auto)]
+
 use index::{Index, ScratchWords};
 use lines::kinds::{READ, SEARCH, VECTOR, WORDS};
 use lines::prepare::{Lent, Step, alpha_of, bytes, least, part, wide};

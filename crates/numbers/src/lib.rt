@@ -1,4 +1,6 @@
 // Figure numbers: a number for each slot, and the summary, which names the live slots by rising number.
+#![tactic(auto)]
+
 mod fresh;
 mod labels;
 mod naming;

@@ -1,4 +1,6 @@
 // Selections: which of a list of candidates become the neighbours of a slot.
+#![tactic(auto)]
+
 ghost use Rattle.std.specs.Prelude.{◌≡◌, ◌+◌, ◌*◌, ◌<◌, ◌≤◌, length};
 ghost use Rattle.vectors.specs.Space.{slot_distance, space};
 ghost use Rattle.distances.specs.Inner.Kept.{Kept};

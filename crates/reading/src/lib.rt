@@ -1,4 +1,6 @@
 // Calls that leave an index as it is: the readings, and search.
+#![tactic(auto)]
+
 mod readings;
 mod searching;
 
@@ -6,7 +8,7 @@ pub use readings::{read, read_vector};
 pub use searching::search;
 
 // What can be read of an index as one number.
-#[derive(Drop)]
+#[derive(Clone, Copy)]
 pub enum Reading {
     Dim,
     Capacity,
@@ -23,7 +25,7 @@ pub enum Reading {
 }
 
 // What was read, or the number of a refusal.
-#[derive(Drop)]
+#[derive(Clone, Copy)]
 pub enum Value {
     Refused(u32),
     Number(u32),
@@ -32,7 +34,7 @@ pub enum Value {
 }
 
 // How many were found, or the number of a refusal.
-#[derive(Drop)]
+#[derive(Clone, Copy)]
 pub enum Found {
     Refused(u32),
     Found(u32),

@@ -2,6 +2,8 @@
 // says where its answers come from. It prints the number of each line that differs, malformed ones and those that ask for more than its arrays hold
 // included, and then how many calls of each kind agreed, how many lines there were, and how many differed. The list has wrong answers of every kind, so
 // that a comparison that does not compare is seen.
+#![tactic(auto)]
+
 ghost use Rattle.std.specs.Prelude.{◌≤◌, length};
 
 use index::{Guard, Index};
@@ -13,7 +15,7 @@ use lines::prepare::{Lent, Step};
 use lines::words::Word;
 
 // How many lines there were of each kind.
-#[derive(Drop)]
+#[derive(Clone, Copy)]
 struct Counts {
     of: [u64; 21],
 }

@@ -1,4 +1,6 @@
 // The row of a slot, worked out in lent words: its live targets with their distances, and a selection of candidates that is written as the row.
+#![tactic(auto)]
+
 ghost use Rattle.std.specs.Prelude.{◌+◌, ◌*◌, ◌<◌, ◌≤◌, length};
 ghost use Rattle.distances.specs.Inner.Kept.{Kept};
 ghost use Rattle.slots.specs.Store.{arrays};

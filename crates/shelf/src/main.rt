@@ -1,4 +1,6 @@
 // Document 01's small shelf: it is made with the numbers 30, 10 and 20, 6 is inserted with 41 and slot 1 deleted; then it is printed, as read.
+#![tactic(auto)]
+
 use index::{Created, Index};
 use reading::{Reading, Value};
 use updating::{Deleted, Inserted, Naming};

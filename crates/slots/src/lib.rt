@@ -1,4 +1,6 @@
 // Slots of an index in lent slices: their marks and versions, their rows, and what making, insert and delete write.
+#![tactic(auto)]
+
 pub mod limits;
 pub mod making;
 pub mod marks;

@@ -11,7 +11,7 @@ use super::marks::{node_version, wide};
 pub const BLANK: u32 = 4294967295;
 
 // A reference of a row: its target where it is live.
-#[derive(Drop)]
+#[derive(Clone, Copy)]
 pub enum Ref {
     At(u32),
     Dead,

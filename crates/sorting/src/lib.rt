@@ -1,4 +1,6 @@
 // Places of a list of keys: sorted by their keys, and looked up by a key.
+#![tactic(auto)]
+
 mod key;
 mod look_up;
 mod shell;

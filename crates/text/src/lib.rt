@@ -1,9 +1,11 @@
 // Lines of a text, and the numbers in them, also compared with words.
+#![tactic(auto)]
+
 ghost use Rattle.std.specs.Prelude.{true, false, ◌≡◌, ◌≤◌, ◌<◌, length};
 ghost use Rattle.text.specs.Inner.Text.{Digit, Digits, Follows};
 
 // A number that was read, and where it ends; whether it and those before it were there.
-#[derive(Drop)]
+#[derive(Clone, Copy)]
 pub struct Number {
     pub value: u32,
     pub next: usize,

@@ -1,4 +1,6 @@
 // Calls that change the graph: insert and delete.
+#![tactic(auto)]
+
 mod deleting;
 mod inserting;
 mod names;
@@ -9,21 +11,21 @@ pub use inserting::insert;
 pub use names::{by_numbers, translate};
 
 // What the names of a delete are: slots, or figure numbers.
-#[derive(Drop)]
+#[derive(Clone, Copy)]
 pub enum Naming {
     Slots,
     Numbers,
 }
 
 // The index with its vectors inserted, and how many they are; or the number of a refusal.
-#[derive(Drop)]
+#[derive(Clone, Copy)]
 pub enum Inserted {
     Refused(u32),
     Done(Index, u32),
 }
 
 // The index without the slots that are emptied, and how many they are; or the number of a refusal.
-#[derive(Drop)]
+#[derive(Clone, Copy)]
 pub enum Deleted {
     Refused(u32),
     Done(Index, u32),

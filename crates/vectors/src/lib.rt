@@ -1,4 +1,6 @@
 // The vector of a slot. The distance in code is the crate `distances`.
+#![tactic(auto)]
+
 ghost use Rattle.std.specs.Prelude.{◌+◌, ◌*◌, ◌≤◌, length};
 ghost use Rattle.vectors.specs.Vector.{VectorAt};
 

@@ -1,4 +1,6 @@
 // The walk over the graph, in lent words: `graph_search`, the same with some slots left out, and `search_pool`.
+#![tactic(auto)]
+
 mod words;
 
 ghost use Rattle.std.specs.Prelude.{false, ◌≡◌, List, ℕ, ◌+◌, ◌*◌, max, ◌<◌, ◌≤◌, length, take};

@@ -16,7 +16,7 @@ const MET: u32 = 1;
 pub const EXPANDED: u32 = 2;
 
 // How many candidates the list holds, and how many of its first are known to be expanded.
-#[derive(Drop)]
+#[derive(Clone, Copy)]
 pub struct Held {
     pub count: usize,
     pub next: usize,

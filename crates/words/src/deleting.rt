@@ -13,7 +13,7 @@ use deletion::stats_place;
 use updating::{Deleted, Naming};
 
 // A delete's status, and where in the scratch the words of how many stats stand.
-#[derive(Drop)]
+#[derive(Clone, Copy)]
 pub struct Left {
     pub status: u32,
     pub at: usize,

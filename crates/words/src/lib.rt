@@ -1,4 +1,6 @@
 // An index in twelve words, and what a call on it writes for C: its status, the words of the index left, and the numbers of the answer.
+#![tactic(auto)]
+
 mod deleting;
 mod guard_calls;
 mod guarded_delete;
