@@ -1,0 +1,6 @@
+use Rattle.std.proofs.Common.{refl}
+use Rattle.slots.proofs.Done.{filled_by}
+use Rattle.slots.proofs.ops.fill.Goals as goal
+
+pub returns : goal.returns
+returns c = filled_by c.write_vector.ensures c.write.ensures refl
