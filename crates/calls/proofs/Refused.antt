@@ -20,6 +20,7 @@ use Rattle.guard.specs.Guard.{Report}
 -- ---- the first test that holds
 
 pub first_is : (n : ℕ) (ts : List Test) → First n ts → first_of ts ≡ some n
+first_is n [] x' = elim x' [ ]
 first_is n (t ∷ ts) (inl h) = rw (h.0, h.1)
 first_is n (t ∷ ts) (inr h) = rw h.0 (first_is n ts h.1)
 
@@ -29,6 +30,7 @@ is_first n ((m, true) ∷ ts) e = inl (refl, cc)
 is_first n ((m, false) ∷ ts) e = inr (refl, is_first n ts e)
 
 first_in : (n : ℕ) (ts : List Test) → First n ts → elem n (map (λ t. t.0) ts) ≡ true
+first_in n [] x' = elim x' [ ]
 first_in n (t ∷ ts) (inl h) = rw (eq-eqb n t.0 (sym h.1))
 first_in n (t ∷ ts) (inr h) = rw (first_in n ts h.1) (or-true (eqb n t.0))
 

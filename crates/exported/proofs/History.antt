@@ -219,7 +219,7 @@ as_plain log had p s h (e ∷ es) c f =
     let h' = has_right had k log p s c.1 h in
     let b = both e k log had p s c.1 f.0 in
     let q = step plain p (asked e).call in
-    let rest = as_plain _ e.has q.0 b.same h' es c.2 f.1 in
+    let rest = as_plain (log_after log p (asked e).call) e.has q.0 b.same h' es c.2 f.1 in
     record { hands = ap₂ (λ x y. x ∷ y) (hand e k _ q h' b) rest.hands; refused = (turned_back e k log had p s c.1, rest.refused) }
 
 -- ---- the making with which they begin

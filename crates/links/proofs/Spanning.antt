@@ -2,7 +2,7 @@
 -- place, until none remains. Assumes nothing.
 use Prim.Native.Nat.{ℕ, zero, suc, ◌+◌, ◌-◌, ◌*◌, ◌≤◌, ◌<◌, min}
 use mathlib.Core.Bool.{Bool, true, false, cond, true≢false}
-use mathlib.Core.Path.{◌≡◌, refl, ap, sym, ◌∙◌, fun_ext}
+use mathlib.Core.Path.{◌≡◌, refl, ap, sym, ◌∙◌, fun_ext, subst}
 use mathlib.Core.List.{List, [], ◌∷◌, ◌++◌, map, map-append, append_assoc, append-nil}
 use native.Mathlib.Omega.{arith}
 use native.Mathlib.Decide.{dec_lt}
@@ -77,13 +77,14 @@ unfolding cands
 cands_set w a zero i d s h l = absurd (omega arith)
 cands_set w a (suc n) zero d s h l =
     let e : a + 2 * 0 ≡ a = omega arith in
-    rw (e, put_cand w a d s (omega arith), cands_put w a d s (a + 2) n (λ q. omega arith))
+    subst (λ (p : ℕ). cands (put w p d s) a (suc n) ≡ set (cands w a (suc n)) 0 (pair d s)) (sym e)
+    (rw (put_cand w a d s (omega arith), cands_put w a d s (a + 2) n (λ q. omega arith)))
 cands_set w a (suc n) (suc i) d s h l =
     let e : a + 2 * suc i ≡ a + 2 + 2 * i = omega arith in
     let p : get_or (put w (a + 2 + 2 * i) d s) a 0 ≡ get_or w a 0 = put_outside w (a + 2 + 2 * i) d s a (λ q. omega arith) in
     let q : get_or (put w (a + 2 + 2 * i) d s) (a + 1) 0 ≡ get_or w (a + 1) 0 = put_outside w (a + 2 + 2 * i) d s (a + 1) (λ q. omega arith) in
     let r : cands (put w (a + 2 + 2 * i) d s) (a + 2) n ≡ set (cands w (a + 2) n) i (pair d s) = cands_set w (a + 2) n i d s (omega arith) (omega arith) in
-    rw (e, p, q, r)
+    subst (λ (z : ℕ). cands (put w z d s) a (suc n) ≡ set (cands w a (suc n)) (suc i) (pair d s)) (sym e) (rw (p, q, r))
 
 -- ---- the links of one
 between_sym : (dim : ℕ) (vectors : List ℕ) (x y : ℕ) → between dim vectors x y ≡ between dim vectors y x

@@ -221,7 +221,9 @@ module _ (degree : ℕ) (alpha : Float) (a : Accepted alpha) (live : ℕ → Boo
       → choose (amended live alpha) degree d (suc k) t N (x ∷ C)
       ≡ cond (leb degree (length (N ++ (x ∷ [])))) (N ++ (x ∷ [])) (choose (amended live alpha) degree d k t (N ++ (x ∷ [])) (filter (λ y. not (drops d t y x)) C))
   unfolding choose stays amended
-  choose_first k t N x C f e = rw (least_first (λ y. y.dist) x C f, e)
+  choose_first k t N x C f e =
+      ap (λ (p : Candidate). cond (leb degree (length (N ++ (p ∷ [])))) (N ++ (p ∷ [])) (choose (amended live alpha) degree d k t (N ++ (p ∷ [])) (filter (λ y. not (drops d t y p)) (x ∷ C)))) (least_first (λ y. y.dist) x C f)
+      ∙ rw e
 
   module _ (own : (s : ℕ) → d s s ≡ 0) where
     drops_itself : (t : Float) → Threshold alpha t → (x : Candidate) → drops d t x x ≡ true

@@ -34,6 +34,10 @@ pow_le_inv a b h = le_of_suc-le-suc (lt_of_not-le (λ (g : suc b ≤ a). not-le_
 
 round_self : (f : Format) (x : Float) → T (positive x) → T (fits f x) → HasValue (round f false (num x) (den x)) false (num x) (den x)
 unfolding fits
+round_self f lib.Ieee.nan p t = elim p [ ]
+round_self f (lib.Ieee.inf _) p t = elim p [ ]
+round_self f (fin false zero _) p t = elim p [ ]
+round_self f (fin true _ _) p t = elim p [ ]
 round_self f (fin false (suc m) (pos k)) p t =
     let a : Bool = eqb (suc m % 2) 1 in
     let b : Bool = ltb (suc m) (2 ^ prec f) in

@@ -102,7 +102,7 @@ module _ {words : List ℕ} {s : Slices} {a : Delete} {checked lost scratch word
   pub asked : {room : ℕ} → LeavesGuarded words s a room checked lost scratch words' s' checked' lost' scratch' found found' report report' r
       → (r.count ≤ room) × (r.at + 4 * r.count ≤ length scratch')
   unfolding guarded_left
-  asked {room} c = (go c.answer c.does.ranges c.place, c.inside)
+  asked {room} c = (go c.answer c.does.fits c.place, c.inside)
     where
       go : (d : Guarded) → ((i : Index) (n : ℕ) (v : Report) → d ≡ Applied i n v → n ≤ room) → (r.at, r.count) ≡ guarded_left d (stats_at (index_of words).capacity) → r.count ≤ room
       go (Refused n) f e = omega (arith, ap (λ x. x.1) e)
@@ -124,7 +124,7 @@ module _ {words : List ℕ} {s : Slices} {a : Delete} {checked lost scratch word
           numbers_deferred = d.numbers_deferred;
           words = d.words;
           there = d.there;
-          fits = λ i n v e. rw k (d.ranges i n v e);
+          fits = λ i n v e. rw k (d.fits i n v e);
           meets = λ l e. d.meets l (e ∙ k);
         };
         told = c.told;

@@ -184,7 +184,7 @@ module _ {words : List ℕ} {s : Slices} {a : Delete} {scratch words' : List ℕ
   -- what `write_stats` asks
   pub asked : {room : ℕ} → LeavesStats words s a room scratch words' s' scratch' found found' r → (r.count ≤ room) × (r.at + 4 * r.count ≤ length scratch')
   unfolding stats_left
-  asked {room} c = (go c.answer c.does.ranges c.place, c.inside)
+  asked {room} c = (go c.answer c.does.fits c.place, c.inside)
     where
       go : (d : Deleted) → ((i : Index) (n : ℕ) → d ≡ Done i n → n ≤ room) → (r.at, r.count) ≡ stats_left d (stats_at (index_of words).capacity) → r.count ≤ room
       go (Refused n) f e = omega (arith, ap (λ x. x.1) e)
@@ -198,7 +198,7 @@ module _ {words : List ℕ} {s : Slices} {a : Delete} {scratch words' : List ℕ
       let d = c.does in
       record {
         answer = c.answer;
-        does = record { stats = d.stats; words = d.words; fits = λ i n e. rw k (d.ranges i n e); meets = λ l e. d.meets l (e ∙ k) };
+        does = record { stats = d.stats; words = d.words; fits = λ i n e. rw k (d.fits i n e); meets = λ l e. d.meets l (e ∙ k) };
         told = c.told;
         held = c.held;
         listed = listed (stats_at (index_of words).capacity) scratch' ys vs f c.answer d.stats d.words c.place;
