@@ -1,0 +1,38 @@
+use Prim.Native.Nat.{◌-◌}
+use mathlib.Core.Logic.{⊎_elim}
+use native.Mathlib.Omega.{arith}
+use Rattle.landmarks.proofs.Drawing.{drawing_none, drawing_inside, drawing_take, drawing_skip, drawing_done}
+use Rattle.landmarks.proofs.choose.draw_near.Goals as goal
+
+pub loop-k-init : goal.loop-k-init
+loop-k-init c = drawing_none _ _ c.requires.0
+
+pub dist_at-dist-requires : goal.dist_at-dist-requires
+dist_at-dist-requires c = omega (arith, c.requires.0.room, c.loop-k.invariant.size)
+
+pub id_at-id-requires : goal.id_at-id-requires
+id_at-id-requires c = omega (arith, c.requires.0.room, c.loop-k.invariant.size)
+
+pub slot_distance-d-requires : goal.slot_distance-d-requires
+slot_distance-d-requires c = (drawing_inside c.loop-k.invariant c.loop-k-test.true c.id_at-id.ensures c.wide.ensures, rw c.wide-then-id-next.ensures c.requires.1, c.requires.0.small)
+
+pub overflow_mul-m : goal.overflow_mul-m
+overflow_mul-m c = omega (arith, c.requires.0.room, c.loop-k.invariant.size, c.loop-k.invariant.within)
+
+pub overflow_add-a : goal.overflow_add-a
+overflow_add-a c = omega (arith, c.requires.0.room, c.loop-k.invariant.size, c.loop-k.invariant.within)
+
+pub put-requires : goal.put-requires
+put-requires c = omega (arith, c.requires.0.room, c.loop-k.invariant.size, c.loop-k.invariant.within)
+
+pub overflow_add-m : goal.overflow_add-m
+overflow_add-m c = omega (arith, c.requires.0.room, c.loop-k.invariant.within)
+
+pub loop-k-preserved : goal.loop-k-preserved
+loop-k-preserved c = ⊎_elim
+    (λ w. rw (w.9, w.10, w.6.ensures) (drawing_take c.loop-k.invariant c.requires.0.room c.loop-k-test.true c.dist_at-dist.ensures c.id_at-id.ensures w.0.taken w.1.ensures w.2.ensures w.3.ensures w.5.ensures))
+    (λ w. rw (w.1, w.2) (drawing_skip c.loop-k.invariant c.loop-k-test.true c.id_at-id.ensures w.0.left))
+    c.if-id-next.branch
+
+pub returns : goal.returns
+returns c = drawing_done c.loop-k.invariant c.loop-k-test.false

@@ -1,0 +1,7 @@
+-- The three steps one after the other are the definition of what is selected from.
+use mathlib.Core.Path.{refl}
+use Rattle.prune.proofs.Scored.{prepared}
+use Rattle.prune.proofs.prepare.Goals as goal
+
+pub returns : goal.returns
+returns c = prepared _ _ _ refl c.keep_valid-k.ensures c.sort_by_distance.ensures c.keep_first.ensures
