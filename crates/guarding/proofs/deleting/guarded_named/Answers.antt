@@ -1,0 +1,17 @@
+use mathlib.Core.Path.{refl}
+use Rattle.slots.specs.Sizes.{Slices, slices}
+use Rattle.updating.proofs.Named.{names_fit, names_fit_after}
+use Rattle.guarding.proofs.Guards.{guards_slots, guards_numbers}
+use Rattle.guarding.proofs.deleting.guarded_named.Goals as goal
+
+pub translate-requires : goal.translate-requires
+translate-requires c = (refl, refl, refl, names_fit c.args.naming c.by_numbers.ensures c.if-by_numbers.true c.requires)
+
+pub slice_bounds-guarded_slots-end : goal.slice_bounds-guarded_slots-end
+slice_bounds-guarded_slots-end c = names_fit_after c.args.naming c.by_numbers.ensures c.if-by_numbers.true c.requires c.translate.auto.slots
+
+pub returns-then-by_numbers : goal.returns-then-by_numbers
+returns-then-by_numbers c = let lent : Slices = slices c.args.vectors.now c.args.targets.now c.args.edges.now c.args.versions.now c.args.marks.now c.args.pool.now c.args.numbers.now c.args.summary.now in guards_numbers c.args.naming c.args.index lent c.args.names.now c.by_numbers.ensures _ c.if-by_numbers.true (names_fit_after c.args.naming c.by_numbers.ensures c.if-by_numbers.true c.requires c.translate.auto.slots) c.translate.ensures c.guarded_slots.ensures
+
+pub returns : goal.returns
+returns c = let lent : Slices = slices c.args.vectors.now c.args.targets.now c.args.edges.now c.args.versions.now c.args.marks.now c.args.pool.now c.args.numbers.now c.args.summary.now in guards_slots c.args.naming c.args.index lent c.args.names.now c.by_numbers.ensures c.if-by_numbers.false c.guarded_slots-2.ensures

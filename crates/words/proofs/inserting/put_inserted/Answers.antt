@@ -1,0 +1,11 @@
+use Rattle.words.proofs.Filling.{put_refused, put_inserted}
+use Rattle.words.proofs.inserting.put_inserted.Goals as goal
+
+pub words_from-requires : goal.words_from-requires
+words_from-requires c = c.requires _ _ c.in-Done.is
+
+pub returns-in-Refused : goal.returns-in-Refused
+returns-in-Refused c = put_refused _ _ c.in-Refused.is
+
+pub returns-in-Done : goal.returns-in-Done
+returns-in-Done c = put_inserted _ _ c.in-Done.is c.words_from.ensures
