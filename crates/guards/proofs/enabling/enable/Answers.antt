@@ -1,0 +1,30 @@
+use native.Mathlib.Omega.{arith}
+use lib.ListN.{length-take}
+use Rattle.guards.proofs.enabling.enable.Goals as goal
+
+pub slice_bounds-enable_guard-end : goal.slice_bounds-enable_guard-end
+slice_bounds-enable_guard-end c = simp length-take (omega arith)
+
+pub slice_bounds-enable_guard-end-2 : goal.slice_bounds-enable_guard-end-2
+slice_bounds-enable_guard-end-2 c = simp length-take (omega arith)
+
+pub slice_bounds-enable_guard-end-3 : goal.slice_bounds-enable_guard-end-3
+slice_bounds-enable_guard-end-3 c = simp length-take (omega arith)
+
+pub slice_bounds-enable_guard-end-4 : goal.slice_bounds-enable_guard-end-4
+slice_bounds-enable_guard-end-4 c = simp length-take (omega arith)
+
+pub slice_bounds-enable_guard-end-5 : goal.slice_bounds-enable_guard-end-5
+slice_bounds-enable_guard-end-5 c = simp length-take (omega arith)
+
+pub slice_bounds-enable_guard-end-7 : goal.slice_bounds-enable_guard-end-7
+slice_bounds-enable_guard-end-7 c = simp length-take (omega arith)
+
+pub slice_bounds-enable_guard-end-8 : goal.slice_bounds-enable_guard-end-8
+slice_bounds-enable_guard-end-8 c = simp length-take (omega arith)
+
+pub slice_bounds-enable_guard-end-9 : goal.slice_bounds-enable_guard-end-9
+slice_bounds-enable_guard-end-9 c = simp length-take (omega arith)
+
+pub slice_bounds-enable_guard-end-11 : goal.slice_bounds-enable_guard-end-11
+slice_bounds-enable_guard-end-11 c = simp length-take (omega arith)
