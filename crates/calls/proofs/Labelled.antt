@@ -398,8 +398,8 @@ module _ (w : State Store) (lent : Lent) (l : lent.slices ≡ lengths_of (slices
         write_other s filled a.numbers w.numbers (go filled f.dead (elem s filled) refl)
       where
         go : (filled : List ℕ) → All (λ t. (store_view w.graph).live t ≡ false) filled → (b : Bool) → elem s filled ≡ b → elem s filled ≡ false
-        go filled d true q = absurd (true≢false (sym e ∙ all_elem (λ t. (store_view w.graph).live t ≡ false) s filled d q))
-        go filled d false q = q
+        go l d true q = absurd (true≢false (sym e ∙ all_elem (λ t. (store_view w.graph).live t ≡ false) s l d q))
+        go _ d false q = q
 
     performed_stays : (o : Operation) → ((m : Making) → o ≡ create m → ⊥) → first_of (tests limits lent (shown stored w) o) ≡ none → (view_of stored (perform stored w o).0).live s ≡ true
         → number_of (perform stored w o).0.numbers s ≡ number_of w.numbers s
