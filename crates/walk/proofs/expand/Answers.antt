@@ -22,11 +22,15 @@ pub part_end-to-requires : goal.part_end-to-requires
 part_end-to-requires c = c.loop-place-test.true
 
 pub gather-n-requires : goal.gather-n-requires
-gather-n-requires c = ((c.requires.lent.rows, c.requires.lent.vectors.vectors_long), ((c.loop-place.invariant.2.goes.room, c.loop-place.invariant.1), (expands_inside c.requires.walkable.0 c.requires.walkable.1 c.id_at.ensures c.wide-s.ensures, omega (arith, c.part_end-to.ensures.0), c.part_end-to.ensures.1, c.part_end-to.ensures.2, c.touch_next-ahead.ensures)))
+gather-n-requires c = record {
+  row_shape = (c.requires.lent.rows, c.requires.lent.vectors.vectors_long);
+  marks_in_bounds = (c.loop-place.invariant.2.goes.room, c.loop-place.invariant.1);
+  s_in_bounds = (expands_inside c.requires.walkable.0 c.requires.walkable.1 c.id_at.ensures c.wide-s.ensures, omega (arith, c.part_end-to.ensures.0), c.part_end-to.ensures.1, c.part_end-to.ensures.2, c.touch_next-ahead.ensures);
+}
 
 pub enter_all-now-requires : goal.enter_all-now-requires
 enter_all-now-requires c = let h = c.gather-n.ensures.each c.args.query.now _ _ _ c.loop-place.invariant.2.goes in
-    record { vectors = (c.requires.lent.vectors, h.goes); n_in_bounds = (omega (arith, c.loop-place.invariant.1, c.gather-n.ensures.few, c.part_end-to.ensures.2, c.fresh-1.given), h.fresh) }
+    record { vectors = (c.requires.lent.vectors, h.goes); n_in_bounds = (omega (arith, c.loop-place.invariant.1, c.gather-n.ensures.few, c.part_end-to.ensures.2, c.gather-n.auto.fresh), h.fresh) }
 
 pub loop-place-smaller : goal.loop-place-smaller
 loop-place-smaller c = omega (arith, c.part_end-to.ensures, c.loop-place-test.true)

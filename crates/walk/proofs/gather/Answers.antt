@@ -1,5 +1,4 @@
 use Prim.Native.Nat.{◌-◌}
-use mathlib.Core.Logic.{⊎_elim}
 use mathlib.Core.Path.{◌≡◌, refl, ◌∙◌}
 use native.Mathlib.Omega.{arith}
 use Rattle.lists.proofs.Parts.{fits_in}
@@ -7,6 +6,7 @@ use Rattle.slots.specs.Store.{arrays}
 use Rattle.slots.proofs.Places.{ref_inside}
 use Rattle.walk.proofs.Gathering.{added_length, gathers_none, gathers_new, gathers_pass, touched_none}
 use Rattle.walk.proofs.gather.Goals as goal
+use Rattle.walk.proofs.gather.Goals.{in-At, in-Dead}
 
 pub loop-place-init : goal.loop-place-init
 loop-place-init c = (c.requires.s_in_bounds.1, c.requires.marks_in_bounds.1, omega (arith, c.requires.s_in_bounds.4), gathers_none _ _ _ _ _)
@@ -15,7 +15,8 @@ pub unmet_at-r-requires : goal.unmet_at-r-requires
 unmet_at-r-requires c = record { row_shape = c.requires.row_shape.0; s_in_bounds = (c.requires.s_in_bounds.0, omega (arith, c.loop-place-test.true, c.requires.s_in_bounds.2), omega (arith, c.requires.marks_in_bounds.0, c.loop-place.invariant.3.size)) }
 
 pub add-touched-requires : goal.add-touched-requires
-add-touched-requires c = let u = (c.unmet_at-r.ensures c.args.dim c.args.vectors.now).found _ c.r-1.given.1 in
+add-touched-requires c =
+    let u = (c.unmet_at-r.ensures c.args.dim c.args.vectors.now).found _ c.in-At.is in
     let i = ref_inside (arrays c.args.dim c.args.degree c.args.vectors.now c.args.targets.now c.args.edges.now c.args.versions.now c.args.marks.now) _ _ u.0 refl in
     record { dim_in_bounds = fits_in _ _ _ _ i c.requires.row_shape.1; id_in_bounds = (omega (arith, i, c.requires.marks_in_bounds.0, c.loop-place.invariant.3.size), u.1, omega (arith, c.loop-place.invariant.1, c.loop-place.invariant.3.few, c.loop-place-test.true, c.requires.s_in_bounds.3)) }
 
@@ -32,11 +33,15 @@ pub loop-place-smaller : goal.loop-place-smaller
 loop-place-smaller c = omega (arith, c.loop-place-test.true)
 
 pub loop-place-preserved : goal.loop-place-preserved
-loop-place-preserved c = let u = c.unmet_at-r.ensures c.args.dim c.args.vectors.now in
-    ⊎_elim
-    (λ w. (omega (arith, c.loop-place-test.true), rw w.11 (added_length w.5.ensures.0 ∙ c.loop-place.invariant.1), rw (w.12, w.13) (omega (arith, c.loop-place.invariant.2, w.5.ensures.1)), rw (w.10, w.11, w.12) (gathers_new c.requires.row_shape.0 c.requires.s_in_bounds.0 (omega (arith, c.loop-place-test.true, c.requires.s_in_bounds.2)) c.loop-place.invariant.3 u w.1.given.1 (omega (arith, c.loop-place.invariant.1, c.loop-place.invariant.3.few, c.loop-place-test.true, c.requires.s_in_bounds.3)) w.5.ensures.0)))
-    (λ w. (omega (arith, c.loop-place-test.true), rw w.3 c.loop-place.invariant.1, rw (w.4, w.5) c.loop-place.invariant.2, rw (w.2, w.3, w.4) (gathers_pass c.requires.row_shape.0 c.requires.s_in_bounds.0 (omega (arith, c.loop-place-test.true, c.requires.s_in_bounds.2)) c.loop-place.invariant.3 u w.1.given.1)))
-    c.match-r.branch
+loop-place-preserved c =
+    let u = c.unmet_at-r.ensures c.args.dim c.args.vectors.now in
+    let v = c.loop-place.invariant in
+    let h = c.loop-place-test.true in
+    let s = c.requires.s_in_bounds in
+    elim c.match-r.branch [
+      in-At w ↦ (omega (arith, h), rw w.fresh-is (added_length w.add-touched.ensures.0 ∙ v.1), rw (w.n-is, w.touched-is) (omega (arith, v.2, w.add-touched.ensures.1)),
+        rw (w.scratch-is, w.fresh-is, w.n-is) (gathers_new c.requires.row_shape.0 s.0 (omega (arith, h, s.2)) v.3 u w.in-At.is (omega (arith, v.1, v.3.few, h, s.3)) w.add-touched.ensures.0))
+    | in-Dead w ↦ (omega (arith, h), rw w.fresh-is v.1, rw (w.n-is, w.touched-is) v.2, rw (w.scratch-is, w.fresh-is, w.n-is) (gathers_pass c.requires.row_shape.0 s.0 (omega (arith, h, s.2)) v.3 u w.in-Dead.is)) ]
 
 pub overflow_add-result : goal.overflow_add-result
 overflow_add-result c = omega (arith, touched_none _ _ c.loop-place.invariant.2 (omega (arith, c.loop-place.invariant.0, c.loop-place.invariant.3.few, c.requires.s_in_bounds.3)), c.loop-place.invariant.0, c.loop-place.invariant.3.few)
