@@ -1,6 +1,6 @@
-use Prim.Native.Nat.{◌-◌}
+use Prim.Native.Nat.{◌≤◌}
 use mathlib.Core.Path.{◌≡◌}
-use lib.ListN.{drop, drop_of_length-le}
+use lib.ListN.{length, drop, drop_of_length-le}
 use native.Mathlib.Omega.{arith}
 use Rattle.vectors.specs.Distance.{distance}
 use Rattle.vectors.proofs.Distances.{distance_end}
@@ -45,5 +45,6 @@ returns-else-left-ge4 c = let e = summed_all (omega arith) c.rest-else-left-ge4.
     record { equals = omega (arith, e); bound = omega arith }
 
 pub returns : goal.returns
-returns c = let e : distance (drop c.loop-i.i c.args.a.now) (drop c.loop-i.i c.args.b.now) ≡ 0 = rw (drop_of_length-le c.args.a.now) (distance_end _) in
+returns c = let h : length c.args.a.now ≤ c.loop-i.i = c.loop-i-test.false in
+    let e : distance (drop c.loop-i.i c.args.a.now) (drop c.loop-i.i c.args.b.now) ≡ 0 = rw (drop_of_length-le c.args.a.now) (distance_end _) in
     record { equals = omega arith; bound = omega arith }

@@ -5,15 +5,6 @@ use native.Mathlib.Omega.{arith}
 use Rattle.vectors.proofs.Distances.{distance_step}
 use Rattle.distances.proofs.rest.Goals as goal
 
-loop-holds : tie.Need-loop-init invariant-loop decreases-loop
-loop-holds c = omega arith
-shared-slice-read-squared-difference :
-    tie.Need-shared-slice-read-squared-difference invariant-loop decreases-loop
-shared-slice-read-squared-difference c = omega arith
-shared-slice-read-squared-difference-2 :
-    tie.Need-shared-slice-read-squared-difference-2 invariant-loop decreases-loop
-shared-slice-read-squared-difference-2 c = omega arith
-
 pub loop-i-preserved : goal.loop-i-preserved
 loop-i-preserved c = omega (arith, distance_step c.args.a.now c.args.b.now c.loop-i.i (omega arith) (omega arith))
 

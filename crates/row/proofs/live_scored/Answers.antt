@@ -1,8 +1,8 @@
 use Rattle.row.proofs.Scored.{scoring_none, scoring_near, scoring_live, scoring_dead, scoring_done}
 use Prim.Native.Nat.{◌-◌}
-use mathlib.Core.Logic.{⊎_elim}
 use native.Mathlib.Omega.{arith}
 use Rattle.row.proofs.live_scored.Goals as goal
+use Rattle.row.proofs.live_scored.Goals.{in-At, in-Dead}
 
 pub loop-place-init : goal.loop-place-init
 loop-place-init c = scoring_none _ _ _ _
@@ -11,13 +11,14 @@ pub live_at-r-requires : goal.live_at-r-requires
 live_at-r-requires c = record { row_shape = c.requires.together.rows; s_in_bounds = (omega (arith, c.requires.s_in_bounds.0, c.wide-slot.ensures), c.loop-place-test.true) }
 
 pub slot_distance-dist-requires : goal.slot_distance-dist-requires
-slot_distance-dist-requires c = scoring_near c.loop-place.invariant c.requires.together c.requires.s_in_bounds.0 c.loop-place-test.true c.wide-slot.ensures (c.live_at-r.ensures _ _) c.r-1.given.1 c.wide.ensures
+slot_distance-dist-requires c = scoring_near c.loop-place.invariant c.requires.together c.requires.s_in_bounds.0 c.loop-place-test.true c.wide-slot.ensures (c.live_at-r.ensures _ _) c.in-At.is c.wide.ensures
 
 pub loop-place-preserved : goal.loop-place-preserved
-loop-place-preserved c = ⊎_elim
-    (λ w. rw (w.9, w.10, w.6.ensures) (scoring_live c.loop-place.invariant c.requires.together c.requires.s_in_bounds.0 c.loop-place-test.true c.wide-slot.ensures (c.live_at-r.ensures _ _) w.1.given.1 w.3.ensures w.4.ensures c.requires.s_in_bounds.1))
-    (λ w. rw (w.2, w.3) (scoring_dead c.loop-place.invariant c.requires.together c.requires.s_in_bounds.0 c.loop-place-test.true c.wide-slot.ensures (c.live_at-r.ensures _ _) w.1.given.1))
-    c.match-r.branch
+loop-place-preserved c =
+    elim c.match-r.branch [
+      in-At w ↦ rw (w.scratch-is, w.n-is, w.put.ensures)
+        (scoring_live c.loop-place.invariant c.requires.together c.requires.s_in_bounds.0 c.loop-place-test.true c.wide-slot.ensures (c.live_at-r.ensures _ _) w.in-At.is w.wide.ensures w.slot_distance-dist.ensures c.requires.s_in_bounds.1)
+    | in-Dead w ↦ rw (w.scratch-is, w.n-is) (scoring_dead c.loop-place.invariant c.requires.together c.requires.s_in_bounds.0 c.loop-place-test.true c.wide-slot.ensures (c.live_at-r.ensures _ _) w.in-Dead.is) ]
 
 pub returns : goal.returns
 returns c = scoring_done c.loop-place.invariant c.loop-place-test.false
