@@ -19,7 +19,7 @@ pub loop-k-smaller : goal.loop-k-smaller
 loop-k-smaller c = omega (arith, c.loop-k-test.true)
 
 pub loop-k-preserved : goal.loop-k-preserved
-loop-k-preserved c = finishing_more c.loop-k.invariant c.requires c.loop-k-test.true c.id_at.ensures c.wide-s.ensures c.finish.ensures c.targets-1.given c.edges-1.given c.versions-1.given
+loop-k-preserved c = finishing_more c.loop-k.invariant c.requires c.loop-k-test.true c.id_at.ensures c.wide-s.ensures c.finish.ensures (omega arith) (omega arith) (omega arith)
 
 pub returns : goal.returns
 returns c = finishing_done c.loop-k.invariant c.loop-k-test.false

@@ -12,7 +12,7 @@ pub clear-requires : goal.clear-requires
 clear-requires c = taken_clear c.requires.together c.requires.takeable c.take_ids-p.ensures c.take_rows.ensures
 
 pub new_entry-e-requires : goal.new_entry-e-requires
-new_entry-e-requires c = let t = taken_clear c.requires.together c.requires.takeable c.take_ids-p.ensures c.take_rows.ensures in (omega (arith, c.requires.together.rows.few, c.marks-1.given), t.words)
+new_entry-e-requires c = let t = taken_clear c.requires.together c.requires.takeable c.take_ids-p.ensures c.take_rows.ensures in (omega (arith, c.requires.together.rows.few), t.words)
 
 pub returns : goal.returns
 returns c = marked c.requires.together c.requires.takeable c.take_ids-p.ensures c.take_rows.ensures c.clear.ensures c.new_entry-e.ensures

@@ -1,8 +1,8 @@
-use mathlib.Core.Logic.{⊎_elim}
 use Rattle.deletion.proofs.Naming.{gathering_none, gathering_more, gathering_skip, gathering_done}
 use native.Mathlib.Omega.{arith}
 use Prim.Native.Nat.{◌-◌}
 use Rattle.deletion.proofs.named.gather.Goals as goal
+use Rattle.deletion.proofs.named.gather.Goals.{then-is_valid, else-is_valid}
 
 pub loop-k-init : goal.loop-k-init
 loop-k-init c = gathering_none _ _ _ _
@@ -26,10 +26,10 @@ pub loop-k-smaller : goal.loop-k-smaller
 loop-k-smaller c = omega (arith, c.loop-k-test.true, c.requires)
 
 pub loop-k-preserved : goal.loop-k-preserved
-loop-k-preserved c = ⊎_elim
-    (λ w. rw (w.5, w.6, w.2.ensures) (gathering_more c.loop-k.invariant c.loop-k-test.true c.wide.ensures c.is_valid.ensures w.0.taken c.requires))
-    (λ w. rw (w.1, w.2) (gathering_skip c.loop-k.invariant c.loop-k-test.true c.wide.ensures c.is_valid.ensures w.0.left))
-    c.if-is_valid.branch
+loop-k-preserved c =
+    elim c.if-is_valid.branch [
+      then-is_valid w ↦ rw (w.scratch-is, w.n-is, w.put.ensures) (gathering_more c.loop-k.invariant c.loop-k-test.true c.wide.ensures c.is_valid.ensures w.if-is_valid.true c.requires)
+    | else-is_valid w ↦ rw (w.scratch-is, w.n-is) (gathering_skip c.loop-k.invariant c.loop-k-test.true c.wide.ensures c.is_valid.ensures w.if-is_valid.false) ]
 
 pub returns : goal.returns
 returns c = gathering_done c.loop-k.invariant c.loop-k-test.false

@@ -1,9 +1,9 @@
-use mathlib.Core.Logic.{⊎_elim}
 use mathlib.Core.List.{[]}
 use Rattle.deletion.proofs.Collecting.{passing_none, rows_ready, refers_by, passing_id, passing_more, passing_skip, passing_done}
 use native.Mathlib.Omega.{arith}
 use Prim.Native.Nat.{◌-◌}
 use Rattle.deletion.proofs.plans.recover.Goals as goal
+use Rattle.deletion.proofs.plans.recover.Goals.{then-holds, else-holds}
 
 pub loop-k-init : goal.loop-k-init
 loop-k-init c = passing_none _ _ _ _ _
@@ -33,10 +33,10 @@ pub loop-k-smaller : goal.loop-k-smaller
 loop-k-smaller c = omega (arith, c.loop-k-test.true)
 
 pub loop-k-preserved : goal.loop-k-preserved
-loop-k-preserved c = ⊎_elim
-    (λ w. rw (w.5, w.6, w.2.ensures) (passing_more c.loop-k.invariant c.requires.apart c.requires.inside c.loop-k-test.true c.id_at-s.ensures (refers_by c.args.id c.args.degree c.args.targets.now c.args.edges.now c.args.versions.now c.wide.ensures (c.holds.ensures 0 [] []) w.0.taken)))
-    (λ w. rw (w.1, w.2) (passing_skip c.loop-k.invariant c.requires.apart c.loop-k-test.true c.id_at-s.ensures (refers_by c.args.id c.args.degree c.args.targets.now c.args.edges.now c.args.versions.now c.wide.ensures (c.holds.ensures 0 [] []) w.0.left)))
-    c.if-holds.branch
+loop-k-preserved c =
+    elim c.if-holds.branch [
+      then-holds w ↦ rw (w.scratch-is, w.m-is, w.put.ensures) (passing_more c.loop-k.invariant c.requires.apart c.requires.inside c.loop-k-test.true c.id_at-s.ensures (refers_by c.args.id c.args.degree c.args.targets.now c.args.edges.now c.args.versions.now c.wide.ensures (c.holds.ensures 0 [] []) w.if-holds.true))
+    | else-holds w ↦ rw (w.scratch-is, w.m-is) (passing_skip c.loop-k.invariant c.requires.apart c.loop-k-test.true c.id_at-s.ensures (refers_by c.args.id c.args.degree c.args.targets.now c.args.edges.now c.args.versions.now c.wide.ensures (c.holds.ensures 0 [] []) w.if-holds.false)) ]
 
 pub returns : goal.returns
 returns c = passing_done c.loop-k.invariant c.requires.apart c.loop-k-test.false

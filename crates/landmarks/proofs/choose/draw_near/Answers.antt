@@ -1,8 +1,8 @@
 use Prim.Native.Nat.{◌-◌}
-use mathlib.Core.Logic.{⊎_elim}
 use native.Mathlib.Omega.{arith}
 use Rattle.landmarks.proofs.Drawing.{drawing_none, drawing_inside, drawing_take, drawing_skip, drawing_done}
 use Rattle.landmarks.proofs.choose.draw_near.Goals as goal
+use Rattle.landmarks.proofs.choose.draw_near.Goals.{then-id-next, else-id-next}
 
 pub loop-k-init : goal.loop-k-init
 loop-k-init c = drawing_none _ _ c.requires.0
@@ -29,10 +29,10 @@ pub overflow_add-m : goal.overflow_add-m
 overflow_add-m c = omega (arith, c.requires.0.room, c.loop-k.invariant.within)
 
 pub loop-k-preserved : goal.loop-k-preserved
-loop-k-preserved c = ⊎_elim
-    (λ w. rw (w.9, w.10, w.6.ensures) (drawing_take c.loop-k.invariant c.requires.0.room c.loop-k-test.true c.dist_at-dist.ensures c.id_at-id.ensures w.0.taken w.1.ensures w.2.ensures w.3.ensures w.5.ensures))
-    (λ w. rw (w.1, w.2) (drawing_skip c.loop-k.invariant c.loop-k-test.true c.id_at-id.ensures w.0.left))
-    c.if-id-next.branch
+loop-k-preserved c =
+    elim c.if-id-next.branch [
+      then-id-next w ↦ rw (w.words-is, w.m-is, w.put.ensures) (drawing_take c.loop-k.invariant c.requires.0.room c.loop-k-test.true c.dist_at-dist.ensures c.id_at-id.ensures w.if-id-next.true w.wide.ensures w.wide-then-id-next.ensures w.slot_distance-d.ensures w.lesser.ensures)
+    | else-id-next w ↦ rw (w.words-is, w.m-is) (drawing_skip c.loop-k.invariant c.loop-k-test.true c.id_at-id.ensures w.if-id-next.false) ]
 
 pub returns : goal.returns
 returns c = drawing_done c.loop-k.invariant c.loop-k-test.false

@@ -1,8 +1,8 @@
 use Prim.Native.Nat.{◌-◌}
-use mathlib.Core.Logic.{⊎_elim}
 use native.Mathlib.Omega.{arith}
 use Rattle.landmarks.proofs.Sampling.{sampling_none, sampling_take, sampling_skip, sampling_done}
 use Rattle.landmarks.proofs.sample.sample_slots.Goals as goal
+use Rattle.landmarks.proofs.sample.sample_slots.Goals.{then-is_sampled, else-is_sampled}
 
 pub loop-s-init : goal.loop-s-init
 loop-s-init c = sampling_none _ _ _ _ _
@@ -29,10 +29,10 @@ pub overflow_add-s : goal.overflow_add-s
 overflow_add-s c = omega (arith, c.requires.0)
 
 pub loop-s-preserved : goal.loop-s-preserved
-loop-s-preserved c = ⊎_elim
-    (λ w. rw (w.6, w.7, w.3.ensures) (sampling_take c.loop-s.invariant c.requires.3 c.loop-s-test.true c.is_sampled.ensures w.0.taken w.2.ensures))
-    (λ w. rw (w.1, w.2) (sampling_skip c.loop-s.invariant c.loop-s-test.true c.is_sampled.ensures w.0.left))
-    c.if-is_sampled.branch
+loop-s-preserved c =
+    elim c.if-is_sampled.branch [
+      then-is_sampled w ↦ rw (w.words-is, w.m-is, w.put.ensures) (sampling_take c.loop-s.invariant c.requires.3 c.loop-s-test.true c.is_sampled.ensures w.if-is_sampled.true w.narrow.ensures)
+    | else-is_sampled w ↦ rw (w.words-is, w.m-is) (sampling_skip c.loop-s.invariant c.loop-s-test.true c.is_sampled.ensures w.if-is_sampled.false) ]
 
 pub returns : goal.returns
 returns c = sampling_done c.loop-s.invariant c.loop-s-test.false

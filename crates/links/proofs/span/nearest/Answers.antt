@@ -1,8 +1,8 @@
-use mathlib.Core.Logic.{⊎_elim}
 use Rattle.links.proofs.Scoring.{nearing_none, nearing_take, nearing_keep, nearing_done}
 use native.Mathlib.Omega.{arith}
 use Prim.Native.Nat.{◌-◌}
 use Rattle.links.proofs.span.nearest.Goals as goal
+use Rattle.links.proofs.span.nearest.Goals.{then-dist_at, else-dist_at}
 
 pub loop-i-init : goal.loop-i-init
 loop-i-init c = nearing_none _ _ _ c.requires.0
@@ -20,10 +20,10 @@ pub loop-i-smaller : goal.loop-i-smaller
 loop-i-smaller c = omega (arith, c.loop-i-test.true)
 
 pub loop-i-preserved : goal.loop-i-preserved
-loop-i-preserved c = ⊎_elim
-    (λ w. rw w.1 (nearing_take c.loop-i.invariant c.loop-i-test.true c.dist_at.ensures c.dist_at-in-loop-i.ensures w.0.taken))
-    (λ w. rw w.1 (nearing_keep c.loop-i.invariant c.loop-i-test.true c.dist_at.ensures c.dist_at-in-loop-i.ensures w.0.left))
-    c.if-dist_at.branch
+loop-i-preserved c =
+    elim c.if-dist_at.branch [
+      then-dist_at w ↦ rw w.best-is (nearing_take c.loop-i.invariant c.loop-i-test.true c.dist_at.ensures c.dist_at-in-loop-i.ensures w.if-dist_at.true)
+    | else-dist_at w ↦ rw w.best-is (nearing_keep c.loop-i.invariant c.loop-i-test.true c.dist_at.ensures c.dist_at-in-loop-i.ensures w.if-dist_at.false) ]
 
 pub returns : goal.returns
 returns c = nearing_done c.loop-i.invariant c.loop-i-test.false
