@@ -1,14 +1,11 @@
 -- The stored index and the plain one agree: what a view of the stored one shows is the plain one, and each operation of `Ops` keeps that as long as no
 -- slot is emptied more than 65,535 times. Assumes nothing.
-use Rattle.std.proofs.Common.{◌≡◌, ℕ, zero, suc, ◌+◌, ◌*◌, ◌%◌, ◌<◌, ◌≤◌, Bool, true, false, cond, not, ◌&&◌, eqb, ltb, ◌≢◌, List, [], ◌∷◌, ◌++◌, map, length, get_or, take, drop, set, sym, refl, ap, ◌∙◌, mod-eq_of_lt, arith, length-set, length-take, get_or-set_other, get_or-set_same, ltb-false, ltb-true, lt-ltb, eq-eqb, ne_eqb, eqb-true}
-use borrow.Author.Tests.{eqb-false}
-use lib.ListN.{length-map}
-use lib.Seq.{take-nil}
+use Rattle.std.proofs.Common.{◌≡◌, ℕ, suc, ◌+◌, ◌*◌, ◌%◌, ◌<◌, ◌≤◌, Bool, true, false, cond, ◌&&◌, eqb, ltb, ◌≢◌, List, [], ◌∷◌, ◌++◌, length, get_or, take, drop, set, sym, refl, ap, ◌∙◌, mod-eq_of_lt, arith, length-take, ltb-false, ltb-true, ne_eqb, eqb-true}
 use Rattle.lists.specs.Lists.{filter, part, put_part}
 use Rattle.slots.specs.Sizes.{limits, sizes_ok, alpha_ok}
 use Rattle.slots.specs.View.{View}
-use Rattle.slots.specs.Ops.{Ops, Row, write_rows}
-use Rattle.slots.specs.Store.{Arrays, Shaped, Store, blank, is_valid, current, vector_of, refs_of, store_view, padded, edge_version, write_neighbors, write_vector, set_mark, next_version, with_arrays, at_slot, store_ops}
+use Rattle.slots.specs.Ops.{Row, write_rows}
+use Rattle.slots.specs.Store.{Shaped, Store, blank, is_valid, current, vector_of, refs_of, store_view, padded, write_neighbors, write_vector, set_mark, next_version, with_arrays, store_ops}
 use Rattle.slots.specs.Plain.{other_than, with_slots, plain_ops}
 use Rattle.slots.proofs.Written.{new_edges, length_new_edges, shaped_written, refs_written, refs_emptied}
 use Rattle.slots.proofs.Changes.{valid_set, shaped_marked, shaped_stepped, shaped_vector, vector_written}

@@ -1,5 +1,5 @@
 -- Counting the live slots: one slot a turn in a block, and block by block. Assumes nothing.
-use Rattle.std.proofs.Common.{◌≡◌, ℕ, zero, suc, ◌+◌, ◌-◌, ◌<◌, ◌≤◌, Bool, true, false, cond, List, ◌∷◌, length, get_or, sym, refl, ap, ◌∙◌, add-one, arith, eq-eqb, ne_eqb}
+use Rattle.std.proofs.Common.{◌≡◌, ℕ, zero, suc, ◌+◌, ◌-◌, ◌<◌, ◌≤◌, Bool, true, false, cond, List, ◌∷◌, length, get_or, arith, eq-eqb, ne_eqb}
 use Rattle.lists.specs.Lists.{filter, range}
 use Rattle.slots.specs.View.{live_slots}
 use Rattle.slots.specs.Store.{Store, Shaped, is_valid, live_between, store_view}

@@ -1,13 +1,13 @@
 -- The references of a row that are current: what writing a row and raising a version do to them. Assumes nothing.
-use Rattle.std.proofs.Common.{◌≡◌, ℕ, zero, suc, ◌<◌, ◌≤◌, Bool, true, false, cond, not, ◌&&◌, eqb, List, [], ◌∷◌, ◌++◌, map, length, get_or, take, drop, set, replicate, refl, ap, ◌∙◌, arith, length-append, length-take, get_or-set_other, get_or-set_same, eq-eqb, ne_eqb, eqb-true}
+use Rattle.std.proofs.Common.{◌≡◌, ℕ, zero, suc, ◌<◌, ◌≤◌, Bool, true, false, cond, not, ◌&&◌, eqb, List, [], ◌∷◌, ◌++◌, map, length, get_or, take, drop, set, replicate, refl, ap, arith, length-append, length-take, get_or-set_other, get_or-set_same, eq-eqb, ne_eqb, eqb-true}
 use mathlib.Core.Bool.{and-false}
 use borrow.Author.Tests.{eqb-false}
 use lib.ListN.{length-replicate}
 use Rattle.lists.specs.Lists.{filter}
 use Rattle.slots.specs.Store.{blank, current, edge_version, padded}
 use Rattle.slots.specs.Plain.{other_than}
+
 -- the examples are checked first, so that a wrong definition shows in one of them
-use Rattle.slots.proofs.Cases
 
 -- ---- a row as it is written
 

@@ -1,11 +1,11 @@
 -- What the operations on lent slices do to the arrays, they do to every index that has them. Assumes nothing.
-use Rattle.std.proofs.Common.{◌≡◌, ℕ, suc, ◌+◌, ◌*◌, ◌%◌, ◌<◌, List, [], get_or, set, sym, refl, ap, ◌∙◌, arith, lt-ltb}
+use Rattle.std.proofs.Common.{◌≡◌, ℕ, suc, ◌%◌, List, [], get_or, set, sym, refl, ap, ◌∙◌, arith, lt-ltb}
 use Rattle.lists.specs.Lists.{put_part}
 use Rattle.vectors.specs.Distance.{f32}
 use Rattle.slots.specs.Store.{Arrays, arrays, Store, write_neighbors, write_vector, set_mark, next_version, filled, finished, with_arrays, at_slot, store_ops}
 use Rattle.slots.specs.Inner.Writing.{Done, Filled, Wrote, Killed, Finished}
+
 -- the examples are checked first, so that a wrong definition shows in one of them
-use Rattle.slots.proofs.Cases
 
 module _ (s : ℕ) (g : Arrays → Arrays) {a a' : Arrays} where
   done_by : a' ≡ g a → Done (λ b. at_slot b s (g b.arrays)) s a a'

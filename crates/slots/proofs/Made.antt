@@ -1,5 +1,5 @@
 -- What making writes, from what each slice holds then. Assumes nothing.
-use Rattle.std.proofs.Common.{◌≡◌, ℕ, ◌-◌, ◌*◌, ◌≤◌, List, ◌++◌, length, take, replicate, sym, refl, ap, ◌∙◌, mul-le-mul_right, mul_comm, arith}
+use Rattle.std.proofs.Common.{◌≡◌, ℕ, ◌-◌, ◌*◌, ◌≤◌, List, ◌++◌, length, take, replicate, sym, ap, ◌∙◌, mul-le-mul_right, mul_comm}
 use native.Mathlib.Nat.{mul-sub}
 use Rattle.lists.proofs.Pasting.{filled_whole}
 use Rattle.slots.specs.Sizes.{limits}

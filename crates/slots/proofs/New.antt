@@ -4,7 +4,6 @@ use lib.ListN.{length-replicate}
 use lib.Dec.{leb-suc-suc, leb-zero, leb-suc-zero}
 use Rattle.lists.specs.Lists.{filter, part}
 use Rattle.slots.specs.Sizes.{Sizes, limits, sizes_ok, alpha_ok}
-use Rattle.slots.specs.View.{View}
 use Rattle.slots.specs.Store.{Store, blank, is_valid, current, vector_of, refs_of, store_view, new_arrays}
 use Rattle.slots.specs.Plain.{other_than, new_plain}
 use Rattle.slots.proofs.Current.{fresh_zeros}

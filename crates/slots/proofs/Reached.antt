@@ -1,5 +1,5 @@
 -- What holds of every index that calls have reached (`Reached`), kept by the operations of the plain index. Assumes nothing.
-use Rattle.std.proofs.Common.{◌≡◌, ℕ, ◌-◌, ◌<◌, Bool, true, false, cond, not, ◌&&◌, ◌||◌, eqb, ltb, List, [], ◌∷◌, take, sym, refl, ap, ◌∙◌, true≢false, arith, ltb-true, lt-ltb, eqb-true}
+use Rattle.std.proofs.Common.{◌≡◌, ℕ, ◌<◌, Bool, true, false, cond, not, ◌&&◌, ◌||◌, eqb, ltb, List, [], ◌∷◌, take, sym, refl, ap, ◌∙◌, true≢false, arith, ltb-true, lt-ltb, eqb-true}
 use lib.Seq.{take-nil}
 use Rattle.lists.specs.Lists.{filter, foldl, elem, All}
 use Rattle.lists.proofs.Bools.{and_both}

@@ -1,6 +1,6 @@
 -- The stored index: its slices as lists, what a view of it shows, and what insert and delete do to it. Document 01, "Slots, versions, rows";
 -- `MmapDynamicDiskANN` in the Rust. Assumes nothing.
-use Rattle.std.specs.Prelude.{◌≡◌, ℕ, suc, ◌+◌, ◌-◌, ◌*◌, ◌%◌, Bool, cond, not, ◌&&◌, List, [], ◌∷◌, ◌++◌, map, length, take, set, replicate, ◌==◌, nat_lt, slice_index, slice_set, Float}
+use Rattle.std.specs.Prelude.{◌≡◌, ℕ, suc, ◌-◌, ◌*◌, ◌%◌, Bool, cond, not, ◌&&◌, List, [], ◌∷◌, ◌++◌, map, length, take, set, replicate, ◌==◌, nat_lt, slice_index, slice_set, Float}
 use Rattle.std.proofs.Math.Option.{Option, none, some}
 use Rattle.lists.specs.Lists.{filter, range, part, put_part}
 use Rattle.slots.specs.Sizes.{Sizes}

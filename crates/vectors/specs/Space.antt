@@ -1,5 +1,5 @@
 -- The vectors of all slots, and the two distances that the algorithms read. Document 01, "Grey values and distance". Assumes nothing.
-use Rattle.std.specs.Prelude.{ℕ, ◌*◌, ◌≤◌, List, ◌≡◌}
+use Rattle.std.specs.Prelude.{ℕ, ◌≤◌, List, ◌≡◌}
 use Rattle.lists.specs.Lists.{part}
 use Rattle.vectors.specs.Distance.{distance}
 

@@ -1,4 +1,4 @@
-use Rattle.std.proofs.Common.{◌-◌, arith}
+use Rattle.std.proofs.Common.{arith}
 use Rattle.slots.proofs.Count.{counting_none, counting_block, counted_all}
 use Rattle.slots.proofs.marks.count_valid.Goals as goal
 

@@ -1,4 +1,3 @@
-use Rattle.std.proofs.Common.{◌-◌}
 use Rattle.slots.proofs.Written.{writing_none, writing_more, writing_done}
 use Rattle.slots.proofs.ops.write.Goals as goal
 

@@ -1,4 +1,4 @@
-use Rattle.std.proofs.Common.{◌-◌, length, refl, arith}
+use Rattle.std.proofs.Common.{length, refl, arith}
 use Rattle.lists.proofs.Pasting.{pasting_none, pasting_more, pasting_done}
 use Rattle.slots.proofs.parts.copy_u8.Goals as goal
 

@@ -1,4 +1,3 @@
-use Rattle.std.proofs.Common.{◌-◌}
 use Rattle.lists.proofs.Pasting.{filling_none, filling_more, filling_done}
 use Rattle.slots.proofs.parts.fill_u16.Goals as goal
 

@@ -1,4 +1,4 @@
-use Rattle.std.proofs.Common.{◌+◌, ◌*◌, ◌<◌, length, sym, ap, ◌∙◌, arith}
+use Rattle.std.proofs.Common.{sym, ap, ◌∙◌, arith}
 use Rattle.slots.specs.declared.rows.Ref.TheVariants.{At}
 use Rattle.slots.proofs.Places.{shape_fits, ref_outside, ref_unmarked, ref_stale, ref_live}
 use Rattle.slots.proofs.rows.live_at.Goals as goal
