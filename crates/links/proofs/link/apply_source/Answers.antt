@@ -25,7 +25,7 @@ pub loop-i-smaller : goal.loop-i-smaller
 loop-i-smaller c = omega (arith, c.loop-i-test.true)
 
 pub loop-i-preserved : goal.loop-i-preserved
-loop-i-preserved c = (linked_more c.loop-i.invariant.0 c.requires.pairs.0 c.loop-i-test.true c.dist_at-x.ensures c.id_at-p.ensures c.targets-1.given c.edges-1.given c.apply_pair.ensures.0, since_then c.loop-i.invariant.1 c.apply_pair.ensures.1 c.kept-1.given)
+loop-i-preserved c = (linked_more c.loop-i.invariant.0 c.requires.pairs.0 c.loop-i-test.true c.dist_at-x.ensures c.id_at-p.ensures (omega arith) (omega arith) c.apply_pair.ensures.0, since_then c.loop-i.invariant.1 c.apply_pair.ensures.1 (omega arith))
 
 pub returns : goal.returns
 returns c = (linked_done c.loop-i.invariant.0 c.loop-i-test.false, c.loop-i.invariant.1.table)

@@ -28,7 +28,7 @@ pub overflow_add-base : goal.overflow_add-base
 overflow_add-base c = omega (arith, c.requires.in_bounds.3.below)
 
 pub apply_sources-requires : goal.apply_sources-requires
-apply_sources-requires c = let e = plan_pairs c.requires.together c.requires.in_bounds.0 c.requires.in_bounds.1 c.requires.in_bounds.2 c.requires.in_bounds.3 c.score.ensures c.nearest-i.ensures c.id_at-start.ensures c.put.ensures c.score-2.ensures c.keep_valid-m.ensures c.span-t.ensures (c.pairs-1.given ∙ c.requires.in_bounds.6) in
+apply_sources-requires c = let e = plan_pairs c.requires.together c.requires.in_bounds.0 c.requires.in_bounds.1 c.requires.in_bounds.2 c.requires.in_bounds.3 c.score.ensures c.nearest-i.ensures c.id_at-start.ensures c.put.ensures c.score-2.ensures c.keep_valid-m.ensures c.span-t.ensures (omega arith) in
     record { together = c.requires.together; pairs = (e.0, e.1, e.2, c.requires.in_bounds.4) }
 
 pub returns : goal.returns
