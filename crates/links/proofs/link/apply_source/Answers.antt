@@ -3,7 +3,6 @@ use Rattle.distances.proofs.Kept.{since_start, since_then}
 use Rattle.row.proofs.Kept.{together_kept}
 use Rattle.links.proofs.Linking.{linked_none, linked_inside, linked_more, linked_done, linked_room}
 use native.Mathlib.Omega.{arith}
-use Prim.Native.Nat.{◌-◌}
 use Rattle.links.proofs.link.apply_source.Goals as goal
 
 pub loop-i-init : goal.loop-i-init

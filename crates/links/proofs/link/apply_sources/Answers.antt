@@ -3,7 +3,6 @@ use Rattle.distances.proofs.Kept.{since_start, since_then}
 use Rattle.row.proofs.Kept.{together_kept}
 use Rattle.links.proofs.Linking.{sourced_none, sourced_more, sourced_done, sourced_room}
 use native.Mathlib.Omega.{arith}
-use Prim.Native.Nat.{◌-◌}
 use Rattle.links.proofs.link.apply_sources.Goals as goal
 
 pub loop-i-init : goal.loop-i-init

@@ -2,7 +2,6 @@ use mathlib.Core.Path.{refl, ◌∙◌}
 use Rattle.row.proofs.Kept.{together_kept}
 use Rattle.links.proofs.Planning.{applying_none, applying_area, applying_plan, applying_more, applying_done}
 use native.Mathlib.Omega.{arith}
-use Prim.Native.Nat.{◌-◌}
 use Rattle.distances.proofs.Kept.{since_start, since_then}
 use Rattle.links.proofs.plan.apply_each.Goals as goal
 

@@ -1,6 +1,5 @@
 use Rattle.links.proofs.Planning.{plan_none, plan_ready, plan_remain, plan_kept, plan_planned, plan_pairs, plan_done}
 use native.Mathlib.Omega.{arith}
-use mathlib.Core.Path.{◌∙◌}
 use Rattle.links.proofs.plan.apply_plan.Goals as goal
 
 pub returns-then-n-eq0 : goal.returns-then-n-eq0
