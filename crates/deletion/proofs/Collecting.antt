@@ -19,7 +19,7 @@ use Rattle.candidates.specs.Inner.Words.{cand, cands, put, kept, Left, Outside}
 use Rattle.candidates.proofs.Words.{cands_length, cands_none, cands_cons, cands_append, cands_each, cands_kept, put_length, outside_none, outside_put}
 use Rattle.candidates.proofs.Scored.{ids_length}
 use Rattle.slots.specs.Scratch.{work_at}
-use Rattle.slots.specs.Store.{Arrays, Store, is_valid, vector_of, refs_of, store_view, arrays}
+use Rattle.slots.specs.Store.{Arrays, Store, is_valid, vector_of, refs_of, store_view}
 use Rattle.slots.proofs.Places.{live_inside, shape_fits}
 use Rattle.walk.specs.Walk.{search_pool}
 use Rattle.walk.specs.Inner.Scratch.{Ready, Pool}

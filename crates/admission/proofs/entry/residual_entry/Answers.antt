@@ -1,4 +1,3 @@
-use Prim.Native.Nat.{◌-◌}
 use Rattle.admission.proofs.Entering.{passing_none, passing_more, passing_found, passing_done, entry_kept}
 use Rattle.admission.proofs.entry.residual_entry.Goals as goal
 

@@ -1,4 +1,3 @@
-use Prim.Native.Nat.{◌-◌}
 use mathlib.Core.Path.{refl}
 use native.Mathlib.Omega.{arith}
 use Rattle.admission.proofs.Pooling.{keeping_none, keeping_take, keeping_skip, keeping_full, keeping_done}

@@ -1,4 +1,3 @@
-use Prim.Native.Nat.{◌-◌}
 use native.Mathlib.Omega.{arith}
 use Rattle.admission.proofs.Naming.{naming_none, naming_next, naming_done}
 use Rattle.admission.proofs.report.count_named.Goals as goal

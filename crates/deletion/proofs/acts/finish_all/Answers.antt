@@ -1,6 +1,5 @@
 use Rattle.deletion.proofs.Acting.{finishing_none, finishing_asks, finishing_more, finishing_done}
 use native.Mathlib.Omega.{arith}
-use Prim.Native.Nat.{◌-◌}
 use Rattle.deletion.proofs.acts.finish_all.Goals as goal
 
 pub loop-k-init : goal.loop-k-init

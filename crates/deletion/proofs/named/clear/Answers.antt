@@ -1,6 +1,5 @@
 use Rattle.deletion.proofs.Naming.{clearing_none, clearing_inside, clearing_more, clearing_done}
 use native.Mathlib.Omega.{arith}
-use Prim.Native.Nat.{◌-◌}
 use Rattle.deletion.proofs.named.clear.Goals as goal
 
 pub loop-k-init : goal.loop-k-init

@@ -1,6 +1,5 @@
 use Rattle.deletion.proofs.Naming.{gathering_none, gathering_more, gathering_skip, gathering_done}
 use native.Mathlib.Omega.{arith}
-use Prim.Native.Nat.{◌-◌}
 use Rattle.deletion.proofs.named.gather.Goals as goal
 use Rattle.deletion.proofs.named.gather.Goals.{then-is_valid, else-is_valid}
 

@@ -1,6 +1,5 @@
 use Rattle.deletion.proofs.Naming.{keying_none, keying_more, keying_done}
 use native.Mathlib.Omega.{arith}
-use Prim.Native.Nat.{◌-◌}
 use Rattle.deletion.proofs.named.key.Goals as goal
 
 pub loop-k-init : goal.loop-k-init

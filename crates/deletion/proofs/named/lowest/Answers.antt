@@ -1,6 +1,5 @@
 use Rattle.deletion.proofs.Naming.{lowest_none, lowest_found, lowest_more, lowest_done}
 use native.Mathlib.Omega.{arith}
-use Prim.Native.Nat.{◌-◌}
 use Rattle.deletion.proofs.named.lowest.Goals as goal
 
 pub loop-s-init : goal.loop-s-init

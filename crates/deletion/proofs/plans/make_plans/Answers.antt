@@ -1,6 +1,5 @@
 use Rattle.deletion.proofs.Making.{making_none, making_collects, making_room, making_more, making_done}
 use native.Mathlib.Omega.{arith}
-use Prim.Native.Nat.{◌-◌}
 use Rattle.deletion.proofs.plans.make_plans.Goals as goal
 
 pub loop-k-init : goal.loop-k-init

@@ -1,7 +1,6 @@
 use mathlib.Core.List.{[]}
 use Rattle.deletion.proofs.Collecting.{passing_none, rows_ready, refers_by, passing_id, passing_more, passing_skip, passing_done}
 use native.Mathlib.Omega.{arith}
-use Prim.Native.Nat.{◌-◌}
 use Rattle.deletion.proofs.plans.recover.Goals as goal
 use Rattle.deletion.proofs.plans.recover.Goals.{then-holds, else-holds}
 

@@ -1,6 +1,5 @@
 use Rattle.deletion.proofs.Making.{taking_none, taking_asks, taking_more, taking_done}
 use native.Mathlib.Omega.{arith}
-use Prim.Native.Nat.{◌-◌}
 use Rattle.deletion.proofs.plans.take_rows.Goals as goal
 
 pub loop-k-init : goal.loop-k-init

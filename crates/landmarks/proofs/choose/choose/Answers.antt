@@ -1,4 +1,3 @@
-use Prim.Native.Nat.{◌-◌}
 use native.Mathlib.Omega.{arith}
 use Rattle.landmarks.proofs.Choosing.{farthest_inside, choosing_none, choosing_more, choosing_empty, choosing_done}
 use Rattle.landmarks.proofs.choose.choose.Goals as goal

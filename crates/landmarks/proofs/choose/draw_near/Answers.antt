@@ -1,4 +1,3 @@
-use Prim.Native.Nat.{◌-◌}
 use native.Mathlib.Omega.{arith}
 use Rattle.landmarks.proofs.Drawing.{drawing_none, drawing_inside, drawing_take, drawing_skip, drawing_done}
 use Rattle.landmarks.proofs.choose.draw_near.Goals as goal

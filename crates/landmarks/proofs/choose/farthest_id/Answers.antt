@@ -1,4 +1,3 @@
-use Prim.Native.Nat.{◌-◌}
 use native.Mathlib.Omega.{arith}
 use Rattle.landmarks.proofs.Choosing.{comparing_none, comparing_farther, comparing_nearer, comparing_done}
 use Rattle.landmarks.proofs.choose.farthest_id.Goals as goal

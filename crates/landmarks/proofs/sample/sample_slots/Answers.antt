@@ -1,4 +1,3 @@
-use Prim.Native.Nat.{◌-◌}
 use native.Mathlib.Omega.{arith}
 use Rattle.landmarks.proofs.Sampling.{sampling_none, sampling_take, sampling_skip, sampling_done}
 use Rattle.landmarks.proofs.sample.sample_slots.Goals as goal

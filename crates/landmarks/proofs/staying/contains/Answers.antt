@@ -1,4 +1,3 @@
-use Prim.Native.Nat.{◌-◌}
 use Rattle.landmarks.proofs.Looking.{looking_none, looking_here, looking_more, looking_done}
 use Rattle.landmarks.proofs.staying.contains.Goals as goal
 

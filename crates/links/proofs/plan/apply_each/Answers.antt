@@ -2,7 +2,6 @@ use mathlib.Core.Path.{refl, ◌∙◌}
 use Rattle.row.proofs.Kept.{together_kept}
 use Rattle.links.proofs.Planning.{applying_none, applying_area, applying_plan, applying_more, applying_done}
 use native.Mathlib.Omega.{arith}
-use Prim.Native.Nat.{◌-◌}
 use Rattle.distances.proofs.Kept.{since_start, since_then}
 use Rattle.links.proofs.plan.apply_each.Goals as goal
 
@@ -41,7 +40,7 @@ pub loop-j-smaller : goal.loop-j-smaller
 loop-j-smaller c = omega (arith, c.loop-j-test.true)
 
 pub loop-j-preserved : goal.loop-j-preserved
-loop-j-preserved c = (applying_more c.loop-j.invariant.0 c.requires.in_bounds.1 c.loop-j-test.true c.wide-n.ensures c.targets-1.given c.edges-1.given c.apply_plan.ensures.0, since_then c.loop-j.invariant.1 c.apply_plan.ensures.1 c.kept-1.given, c.pairs-1.given ∙ c.loop-j.invariant.2)
+loop-j-preserved c = (applying_more c.loop-j.invariant.0 c.requires.in_bounds.1 c.loop-j-test.true c.wide-n.ensures (omega arith) (omega arith) c.apply_plan.ensures.0, since_then c.loop-j.invariant.1 c.apply_plan.ensures.1 (omega arith), omega arith)
 
 pub returns : goal.returns
 returns c = (applying_done c.loop-j.invariant.0 c.requires.in_bounds.1 c.loop-j-test.false, c.loop-j.invariant.1.table)

@@ -1,6 +1,5 @@
 use Rattle.links.proofs.Planning.{plan_none, plan_ready, plan_remain, plan_kept, plan_planned, plan_pairs, plan_done}
 use native.Mathlib.Omega.{arith}
-use mathlib.Core.Path.{◌∙◌}
 use Rattle.links.proofs.plan.apply_plan.Goals as goal
 
 pub returns-then-n-eq0 : goal.returns-then-n-eq0
@@ -28,7 +27,7 @@ pub overflow_add-base : goal.overflow_add-base
 overflow_add-base c = omega (arith, c.requires.in_bounds.3.below)
 
 pub apply_sources-requires : goal.apply_sources-requires
-apply_sources-requires c = let e = plan_pairs c.requires.together c.requires.in_bounds.0 c.requires.in_bounds.1 c.requires.in_bounds.2 c.requires.in_bounds.3 c.score.ensures c.nearest-i.ensures c.id_at-start.ensures c.put.ensures c.score-2.ensures c.keep_valid-m.ensures c.span-t.ensures (c.pairs-1.given ∙ c.requires.in_bounds.6) in
+apply_sources-requires c = let e = plan_pairs c.requires.together c.requires.in_bounds.0 c.requires.in_bounds.1 c.requires.in_bounds.2 c.requires.in_bounds.3 c.score.ensures c.nearest-i.ensures c.id_at-start.ensures c.put.ensures c.score-2.ensures c.keep_valid-m.ensures c.span-t.ensures (omega arith) in
     record { together = c.requires.together; pairs = (e.0, e.1, e.2, c.requires.in_bounds.4) }
 
 pub returns : goal.returns

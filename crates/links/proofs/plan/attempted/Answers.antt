@@ -1,6 +1,5 @@
 use Rattle.links.proofs.Counting.{counting_none, counting_more, counting_done}
 use native.Mathlib.Omega.{arith}
-use Prim.Native.Nat.{◌-◌}
 use Rattle.links.proofs.plan.attempted.Goals as goal
 
 pub loop-k-init : goal.loop-k-init

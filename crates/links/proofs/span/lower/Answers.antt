@@ -1,7 +1,6 @@
 use Rattle.links.proofs.Linking.{measured}
 use Rattle.links.proofs.Scoring.{lowering_none, stored_ready, lowering_id, lowering_more, lowering_done}
 use native.Mathlib.Omega.{arith}
-use Prim.Native.Nat.{◌-◌}
 use Rattle.links.proofs.span.lower.Goals as goal
 
 pub loop-k-init : goal.loop-k-init

@@ -1,6 +1,5 @@
 use Rattle.links.proofs.Scoring.{nearing_none, nearing_take, nearing_keep, nearing_done}
 use native.Mathlib.Omega.{arith}
-use Prim.Native.Nat.{◌-◌}
 use Rattle.links.proofs.span.nearest.Goals as goal
 use Rattle.links.proofs.span.nearest.Goals.{then-dist_at, else-dist_at}
 

@@ -1,6 +1,5 @@
 use Rattle.links.proofs.Spanning.{pairing_none, pairing_more, pairing_done}
 use native.Mathlib.Omega.{arith}
-use Prim.Native.Nat.{◌-◌}
 use Rattle.links.proofs.span.pair_each.Goals as goal
 
 pub loop-i-init : goal.loop-i-init

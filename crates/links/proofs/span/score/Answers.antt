@@ -1,7 +1,6 @@
 use Rattle.links.proofs.Linking.{measured}
 use Rattle.links.proofs.Scoring.{scoring_none, stored_ready, scoring_id, scoring_more, scoring_done}
 use native.Mathlib.Omega.{arith}
-use Prim.Native.Nat.{◌-◌}
 use Rattle.links.proofs.span.score.Goals as goal
 
 pub loop-k-init : goal.loop-k-init

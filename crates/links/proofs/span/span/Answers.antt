@@ -18,7 +18,7 @@ pub loop-m-smaller : goal.loop-m-smaller
 loop-m-smaller c = omega (arith, c.loop-m-test.true)
 
 pub loop-m-preserved : goal.loop-m-preserved
-loop-m-preserved c = spanning_more c.loop-m.invariant c.loop-m-test.true c.pairs-1.given c.connect-t.ensures
+loop-m-preserved c = spanning_more c.loop-m.invariant c.loop-m-test.true (omega arith) c.connect-t.ensures
 
 pub returns : goal.returns
 returns c = spanning_done c.loop-m.invariant c.loop-m-test.false
