@@ -18,8 +18,8 @@ use lib.Ieee.Positive.{first_pos, above, above_of_le}
 use borrow.Author.Tests.{ne_eqb}
 use Rattle.vectors.specs.Distance.{f32}
 use Rattle.candidates.specs.Quotient.{largest, quotient}
+
 -- so that the examples are checked first
-use Rattle.candidates.proofs.Cases
 
 -- ---- the constants
 pub one_bits : f32 1 ≡ of_bits binary32 0x3f80_0000

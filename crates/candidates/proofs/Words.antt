@@ -9,8 +9,8 @@ use Rattle.lists.specs.Lists.{All, init, last}
 use Rattle.lists.proofs.Places.{init_snoc, last_snoc, all_at, at_all}
 use Rattle.candidates.specs.Candidates.{Candidate}
 use Rattle.candidates.specs.Inner.Words.{pair, cand, cands, put, Outside}
+
 -- so that the examples are checked first
-use Rattle.candidates.proofs.Cases
 
 -- ---- parts of a list
 pub cands_none : (w : List ℕ) (a n : ℕ) → n ≡ 0 → cands w a n ≡ []

@@ -1,4 +1,3 @@
-use Prim.Native.Nat.{◌-◌}
 use native.Mathlib.Omega.{arith}
 use Rattle.sorting.proofs.Search.{halving_none, halving_up, halving_down, halving_done}
 use Rattle.sorting.proofs.look_up.below.Goals as goal
