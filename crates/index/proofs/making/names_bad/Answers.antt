@@ -1,4 +1,3 @@
-use Prim.Native.Nat.{◌-◌}
 use Rattle.index.proofs.Makes.{naming_none, naming_blank, naming_given, naming_bad, naming_done}
 use Rattle.index.proofs.making.names_bad.Goals as goal
 use Rattle.index.proofs.making.names_bad.Goals.{then-t+else-count-t, else-t}

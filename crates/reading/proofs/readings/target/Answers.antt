@@ -1,4 +1,3 @@
-use Prim.Native.Nat.{◌-◌}
 use native.Mathlib.Omega.{arith}
 use Rattle.reading.proofs.Shown.{finding_none, finding_dead, finding_more, finding_here, finding_end, no_row}
 use Rattle.reading.proofs.readings.target.Goals as goal
