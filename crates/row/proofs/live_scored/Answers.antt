@@ -1,5 +1,4 @@
 use Rattle.row.proofs.Scored.{scoring_none, scoring_near, scoring_live, scoring_dead, scoring_done}
-use Prim.Native.Nat.{◌-◌}
 use native.Mathlib.Omega.{arith}
 use Rattle.row.proofs.live_scored.Goals as goal
 use Rattle.row.proofs.live_scored.Goals.{in-At, in-Dead}

@@ -1,4 +1,3 @@
-use Prim.Native.Nat.{◌-◌}
 use Rattle.numbers.proofs.Twice.{later_start, later_found, later_more, later_done}
 use Rattle.numbers.proofs.fresh.again_later.Goals as goal
 

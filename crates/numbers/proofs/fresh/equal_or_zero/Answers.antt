@@ -1,4 +1,3 @@
-use Prim.Native.Nat.{◌-◌}
 use mathlib.Core.Path.{◌∙◌, ap}
 use Rattle.numbers.specs.Numbers.{number_of}
 use Rattle.numbers.proofs.Twice.{sifting_none, sifting_found, sifting_more, sifting_done}

@@ -1,4 +1,3 @@
-use Prim.Native.Nat.{◌-◌}
 use native.Mathlib.Omega.{arith}
 use Rattle.numbers.proofs.Tests.{fitting_none, fitting_more, fitting_done, bit}
 use Rattle.numbers.proofs.labels.block_misfits.Goals as goal

@@ -1,4 +1,3 @@
-use Prim.Native.Nat.{◌-◌}
 use Rattle.numbers.proofs.Tests.{rising_none, rising_outside, rising_low, rising_more, rising_done}
 use Rattle.numbers.proofs.labels.falls.Goals as goal
 

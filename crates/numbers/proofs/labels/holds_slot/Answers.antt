@@ -1,4 +1,3 @@
-use Prim.Native.Nat.{◌-◌}
 use Rattle.numbers.proofs.Tests.{blank_none, blank_more, blank_found, blank_done}
 use Rattle.numbers.proofs.labels.holds_slot.Goals as goal
 

@@ -1,4 +1,3 @@
-use Prim.Native.Nat.{◌-◌}
 use native.Mathlib.Omega.{arith}
 use Rattle.numbers.proofs.Tests.{fit_none, fit_block, fit_fails, fit_done}
 use Rattle.numbers.proofs.labels.numbers_misfit.Goals as goal

@@ -1,4 +1,3 @@
-use Prim.Native.Nat.{◌-◌}
 use Rattle.numbers.proofs.Loops.{any_none, any_found, any_more, any_done}
 use Rattle.numbers.proofs.naming.any_live.Goals as goal
 

@@ -1,4 +1,3 @@
-use Prim.Native.Nat.{◌-◌}
 use native.Mathlib.Omega.{arith}
 use Rattle.numbers.proofs.Writes.{mapped_none, mapped_more, mapped_all}
 use Rattle.numbers.proofs.naming.slots_of.Goals as goal

@@ -1,4 +1,3 @@
-use Prim.Native.Nat.{◌-◌}
 use Rattle.lists.proofs.Pasting.{filling_none, filling_more, filling_done}
 use Rattle.numbers.proofs.summary.blank_from.Goals as goal
 

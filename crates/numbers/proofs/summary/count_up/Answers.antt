@@ -1,4 +1,3 @@
-use Prim.Native.Nat.{◌-◌}
 use Rattle.numbers.proofs.Loops.{counted_none, counted_more, counted_done}
 use Rattle.numbers.proofs.summary.count_up.Goals as goal
 

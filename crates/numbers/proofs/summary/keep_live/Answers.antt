@@ -1,5 +1,4 @@
 use mathlib.Core.Path.{refl}
-use Prim.Native.Nat.{◌-◌}
 use mathlib.Core.Path.{sym, ◌∙◌, ap}
 use Rattle.slots.specs.Store.{is_valid}
 use Rattle.numbers.proofs.Loops.{keeping_none, keeping_live, keeping_dead, keeping_done}

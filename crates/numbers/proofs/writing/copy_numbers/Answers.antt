@@ -1,4 +1,3 @@
-use Prim.Native.Nat.{◌-◌}
 use mathlib.Core.Path.{◌∙◌, ap}
 use Rattle.numbers.specs.Numbers.{number_of}
 use Rattle.numbers.proofs.Writes.{mapped_none, mapped_more, mapped_done}

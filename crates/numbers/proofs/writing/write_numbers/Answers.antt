@@ -1,4 +1,3 @@
-use Prim.Native.Nat.{◌-◌}
 use native.Mathlib.Omega.{arith}
 use Rattle.numbers.proofs.Writes.{written_none, written_inside, written_more, written_done}
 use Rattle.numbers.proofs.writing.write_numbers.Goals as goal

@@ -1,4 +1,3 @@
-use Prim.Native.Nat.{◌-◌}
 use native.Mathlib.Omega.{arith}
 use Rattle.numbers.proofs.Writes.{zeroed_none, zeroed_more, zeroed_done}
 use Rattle.numbers.proofs.writing.zero_dead.Goals as goal

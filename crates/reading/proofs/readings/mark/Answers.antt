@@ -1,7 +1,6 @@
 use Prim.Native.Nat.{ℕ}
 use mathlib.Core.Bool.{cond}
 use mathlib.Core.Path.{sym, ◌∙◌, ap}
-use Rattle.slots.specs.Store.{is_valid}
 use Rattle.reading.proofs.readings.mark.Goals as goal
 
 pub returns-then-is_valid : goal.returns-then-is_valid

@@ -1,8 +1,7 @@
-use Prim.Native.Nat.{◌-◌}
-use mathlib.Core.Logic.{⊎_elim}
 use native.Mathlib.Omega.{arith}
 use Rattle.reading.proofs.Shown.{finding_none, finding_dead, finding_more, finding_here, finding_end, no_row}
 use Rattle.reading.proofs.readings.target.Goals as goal
+use Rattle.reading.proofs.readings.target.Goals.{in-At+else-left-eq0, in_default}
 
 pub returns-then-marks-s : goal.returns-then-marks-s
 returns-then-marks-s c = no_row c.args.s c.args.place c.requires c.if-marks-s.true
@@ -23,10 +22,10 @@ pub loop-at-smaller : goal.loop-at-smaller
 loop-at-smaller c = omega (arith, c.loop-at-test.true)
 
 pub loop-at-preserved : goal.loop-at-preserved
-loop-at-preserved c = ⊎_elim
-    (λ w. rw w.4 (omega (arith, c.loop-at.invariant.0), finding_more c.requires c.if-marks-s.false c.loop-at-test.true c.live_at-found.ensures c.loop-at.invariant.1 w.1.given.1 w.3.left))
-    (λ w. rw w.2 (c.loop-at.invariant.0, finding_dead c.requires c.if-marks-s.false c.loop-at-test.true c.live_at-found.ensures c.loop-at.invariant.1 w.1.given.1))
-    c.match-found.branch
+loop-at-preserved c =
+    elim c.match-found.branch [
+      in-At+else-left-eq0 w ↦ rw w.left-is (omega (arith, c.loop-at.invariant.0), finding_more c.requires c.if-marks-s.false c.loop-at-test.true c.live_at-found.ensures c.loop-at.invariant.1 w.in-At.is w.if-left-eq0.false)
+    | in_default w ↦ rw w.left-is (c.loop-at.invariant.0, finding_dead c.requires c.if-marks-s.false c.loop-at-test.true c.live_at-found.ensures c.loop-at.invariant.1 w.in_default.is) ]
 
 pub returns : goal.returns
 returns c = finding_end c.loop-at-test.false c.loop-at.invariant.1

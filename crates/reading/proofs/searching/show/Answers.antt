@@ -1,4 +1,3 @@
-use Prim.Native.Nat.{◌-◌}
 use Rattle.reading.proofs.Finds.{showing_none, showing_small, showing_more, showing_done}
 use Rattle.reading.proofs.searching.show.Goals as goal
 
