@@ -18,8 +18,8 @@ for part; do
 done
 out=target/peers
 mkdir -p "$out"
-rt staticlib finder > "$out/log" 2>&1 || { grep -E '^rt:|error|NOT PROVED' "$out/log"; exit 1; }
-g++ -std=c++17 -O3 -Iinclude -o "$out/peers" compare/peers/main.cc target/staticlib/libfinder.a
+(cd crates/finder && rt lib) > "$out/log" 2>&1 || { grep -E '^rt:|error|no proof' "$out/log"; exit 1; }
+g++ -std=c++17 -O3 -Iinclude -o "$out/peers" compare/peers/main.cc crates/finder/out/libfinder.a
 for part; do
   status=0
   "$out/peers" "$part" $spoil > "$out/$part.txt" || status=$?

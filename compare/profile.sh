@@ -17,7 +17,7 @@ mkdir -p "$out"
 mkfifo "$out/control" "$out/answer"
 COUNTED=finder_$1 PIPES=$out RAYON_NUM_THREADS=1 perf record -q -N -e cpu-clock -F 5000 -D -1 --control fifo:"$out/control","$out/answer" -o "$out/data" \
   "$histories" times "$part" > "$out/times.txt" 2>&1
-nm ../target/staticlib/libfinder.a | awk '$2 ~ /[tT]/ { print $3 }' > "$out/functions"
+nm ../crates/finder/out/libfinder.a | awk '$2 ~ /[tT]/ { print $3 }' > "$out/functions"
 perf report -i "$out/data" --stdio -F sample,symbol 2> /dev/null | awk '
   NR == FNR { library[$0]; next }
   $2 == "[.]" && ($3 in library || $3 ~ /^__memset/) { all += $1; count[$3] += $1 }
