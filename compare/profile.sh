@@ -2,7 +2,7 @@
 # compare/profile.sh CALL: where the time of the library's calls goes in compare/times.sh, by function of the archive, in per cent of the samples that perf takes
 # inside of them, with memset, which clears words. CALL is search, insert, delete, guard_enable, assess or guarded_delete. What is inlined counts for the function
 # around it. Needs what compare/times.sh needs, and Debian's linux-perf and libc6-dbg (for the name of
-# memset); writes below target/ and compare/rust/ only.
+# memset); writes below target/, compare/rust/ and the folders crates/*/out only.
 set -e
 cd "$(dirname "$0")"
 case $1 in

@@ -1,6 +1,6 @@
 #!/bin/sh
 # Times search, readings and pruning beside the Rust, one thread, one run. Needs the Rattle kit, cargo (1.88 or newer) and the packages that
-# compare/rust/README.md names; writes below a new directory, which it removes, crates/finder/out and compare/rust/target/ only.
+# compare/rust/README.md names; writes below a new directory, which it removes, compare/rust/target/ and the folders crates/*/out only.
 set -e
 cd "$(dirname "$0")/.."
 work=$(mktemp -d)

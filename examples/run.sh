@@ -1,8 +1,8 @@
 #!/bin/sh
 # Builds the archive of the crate `finder`, compiles the headers every way (headers.sh), and runs the examples that link it: those in C and C++ under valgrind and
 # with the sanitizers of gcc and clang, and as programs outside the tree against an installed library (installed/run.sh); and the crate bindings/rust by its tests. Prints a
-# line for each. Needs the Rattle kit, gcc, g++, clang, libclang-rt-dev, valgrind, pkg-config, cmake and cargo. Everything is written below target/, but the
-# archive, which is crates/finder/out/libfinder.a, and what is built outside the tree, which is removed. None of it is part of the proof.
+# line for each. Needs the Rattle kit, gcc, g++, clang, libclang-rt-dev, valgrind, pkg-config, cmake and cargo. Everything is written below target/, but for
+# the folders crates/*/out, of which crates/finder/out has the archive, and what is built outside the tree, which is removed. None of it is part of the proof.
 set -eu
 cd "$(dirname "$0")/.."
 out=$PWD/target/examples
