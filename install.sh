@@ -21,10 +21,10 @@ filled() {
     sed "s/@VERSION@/$version/; s/@MAJOR@/$(number MAJOR)/" "packaging/$1"
 }
 
-rt staticlib finder
+(cd crates/finder && rt lib)
 mkdir -p "$to/include" "$to/lib/pkgconfig" "$to/lib/cmake/finder" "$to/share/doc/finder"
 install -m 644 include/finder.h include/finder.hpp "$to/include"
-install -m 644 target/staticlib/libfinder.a "$to/lib"
+install -m 644 crates/finder/out/libfinder.a "$to/lib"
 install -m 644 packaging/finder-config.cmake "$to/lib/cmake/finder"
 filled finder.pc.in >"$to/lib/pkgconfig/finder.pc"
 filled finder-config-version.cmake.in >"$to/lib/cmake/finder/finder-config-version.cmake"

@@ -312,7 +312,7 @@ def main():
     shutil.rmtree(os.path.join(COPY, "rust"), ignore_errors=True)
     shutil.copytree(os.path.join(ROOT, "compare", "rust"), os.path.join(COPY, "rust"), ignore=shutil.ignore_patterns("target"))
     run("./prepare.sh", check=True)
-    env = dict(os.environ, LIBRARY=os.path.join(ROOT, "target", "staticlib"), CARGO_TARGET_DIR=os.path.join(COPY, "built"), RAYON_NUM_THREADS="1")
+    env = dict(os.environ, LIBRARY=os.path.join(ROOT, "crates", "finder", "out"), CARGO_TARGET_DIR=os.path.join(COPY, "built"), RAYON_NUM_THREADS="1")
     env |= {"CARGO_PROFILE_RELEASE_OPT_LEVEL": "1", "CARGO_PROFILE_RELEASE_INCREMENTAL": "true"}  # it is built often and run little
     chosen = [fault for fault in FAULTS if words in fault[0]]
     missed = 0

@@ -4,7 +4,7 @@
 #   own:   each builds its own index of the same vectors; recall against time
 #   year:  a year of deliveries and withdrawals on both; recall against time of what is left
 # The last two are drawn in docs/peers.svg. --spoil: part graph, with some references of the library's graph blanked, which must end with exit code 1.
-# Needs the Rattle kit, python3 and Debian's g++ and libhnswlib-dev; writes below target/ and docs/peers.svg only.
+# Needs the Rattle kit, python3 and Debian's g++ and libhnswlib-dev; writes below target/ and the folders crates/*/out, and docs/peers.svg only.
 set -e
 cd "$(dirname "$0")/.."
 spoil=
@@ -18,8 +18,8 @@ for part; do
 done
 out=target/peers
 mkdir -p "$out"
-rt staticlib finder > "$out/log" 2>&1 || { grep -E '^rt:|error|NOT PROVED' "$out/log"; exit 1; }
-g++ -std=c++17 -O3 -Iinclude -o "$out/peers" compare/peers/main.cc target/staticlib/libfinder.a
+(cd crates/finder && rt lib) > "$out/log" 2>&1 || { grep -E '^rt:|error|no proof' "$out/log"; exit 1; }
+g++ -std=c++17 -O3 -Iinclude -o "$out/peers" compare/peers/main.cc crates/finder/out/libfinder.a
 for part; do
   status=0
   "$out/peers" "$part" $spoil > "$out/$part.txt" || status=$?

@@ -1,20 +1,22 @@
 #!/bin/sh
 # Times search, readings and pruning beside the Rust, one thread, one run. Needs the Rattle kit, cargo (1.88 or newer) and the packages that
-# compare/rust/README.md names; writes below target/ and compare/rust/target/ only.
+# compare/rust/README.md names; writes below a new directory, which it removes, compare/rust/target/ and the folders crates/*/out only.
 set -e
 cd "$(dirname "$0")/.."
-work=target/compare-search-and-prune
-rm -rf "$work"
+work=$(mktemp -d)
+trap 'rm -rf "$work"' EXIT
 mkdir -p "$work/crates/exports/src"
-cp -r crates/lists crates/vectors crates/distances crates/candidates crates/slots crates/walk crates/prune "$work/crates/"
-{ grep -E '^(lists|vectors|distances|slots|candidates|walk|prune):' crates.txt; echo 'exports: lists vectors distances slots candidates walk prune'; } > "$work/crates.txt"
+tar -c --exclude=out crates/lists crates/vectors crates/distances crates/candidates crates/slots crates/walk crates/prune | tar -x -C "$work"
+{ grep -E '^(lists|vectors|distances|slots|candidates|walk|prune):' crates.txt; echo 'exports staticlib: lists vectors distances slots candidates walk prune'; } > "$work/crates.txt"
 cat > "$work/crates/exports/src/lib.rt" <<'RT'
-ghost use Rattle·slots.specs.Store.{arrays};
-ghost use Rattle·walk.specs.contracts.Scratch as Scratch;
-ghost use Rattle·prune.specs.contracts.Selecting as Selecting;
-ghost use Rattle·distances.specs.contracts.Kept as Kept;
+#![tactic(auto)]
 
-#[no_mangle]
+ghost use Rattle.slots.specs.Store.{arrays};
+ghost use Rattle.walk.specs.Inner.Scratch as Scratch;
+ghost use Rattle.prune.specs.Inner.Selecting as Selecting;
+ghost use Rattle.distances.specs.Inner.Kept as Kept;
+
+#[unsafe(no_mangle)]
 pub extern "C" fn exported_search(
     dim: usize,
     degree: usize,
@@ -28,12 +30,12 @@ pub extern "C" fn exported_search(
     beam: usize,
     scratch: &mut [u32],
 ) -> usize
-    requires { ⌜ Scratch.Ready (arrays dim degree (now vectors) (now targets) (now edges) (now versions) (now marks)) (now query) entry beam (now scratch) ⌝ }
+    requires { Scratch.Ready (arrays dim degree vectors.now targets.now edges.now versions.now marks.now) query.now entry beam scratch.old }
 {
     walk::search_pool(dim, degree, vectors, targets, edges, versions, marks, query, entry, beam, scratch)
 }
 
-#[no_mangle]
+#[unsafe(no_mangle)]
 pub extern "C" fn exported_prune(
     degree: usize,
     alpha: f32,
@@ -47,14 +49,14 @@ pub extern "C" fn exported_prune(
     n: usize,
     to: usize,
 ) -> usize
-    requires { ⌜ Selecting.Ready degree dim (now vectors) (now marks) (now scratch) a n to × Kept.Kept dim (now vectors) (now kept) ⌝ }
+    requires { Selecting.Ready degree dim vectors.now marks.now scratch.old a n to × Kept.Kept dim vectors.now kept.old }
 {
     prune::prune_scored(degree, alpha, dim, vectors, kept, marks, source, scratch, a, n, to)
 }
 RT
-(cd "$work" && rt staticlib exports) > "$work/log" 2>&1 || { grep -E '^(rt:|fn exports)|error' "$work/log"; exit 1; }
-rt staticlib finder > "$work/log" 2>&1 || { grep -E '^(rt:|fn finder)|error' "$work/log"; exit 1; }
-archives=$(pwd)/$work/target/staticlib:$(pwd)/target/staticlib
+(cd "$work/crates/exports" && rt lib) > "$work/log" 2>&1 || { grep -E '^(rt:|fn exports)|error' "$work/log"; exit 1; }
+(cd crates/finder && rt lib) > "$work/log" 2>&1 || { grep -E '^(rt:|fn finder)|error' "$work/log"; exit 1; }
+archives=$work/crates/exports/out:$(pwd)/crates/finder/out
 cd compare/rust
 ./prepare.sh > /dev/null
 LIBRARIES=$archives cargo build --release --offline -p beside --quiet

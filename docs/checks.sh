@@ -1,14 +1,18 @@
 #!/bin/sh
 # Prints the table of docs/CHECKS.md: for each crate its lines of definitions, inner contracts, code and proof, its must-fail edits, the seconds of its
 # proof in a run from nothing, and what its edits cost at that, each edit being a check of the whole crate. A line that is blank or only a comment is not
-# counted. docs/checks.sh LOG takes the seconds from what `.ci/run` printed; without it, all is proved first (needs the Rattle kit; removes and makes target/).
+# counted. docs/checks.sh LOG takes the seconds from what an earlier run left in target/checks.log; without it, all is proved first, one crate after the other
+# (needs the Rattle kit).
 set -eu
-if [ $# -gt 0 ]; then out=$(realpath "$1"); else
-    out=$(mktemp)
-    trap 'rm -f "$out"' EXIT
-fi
+if [ $# -gt 0 ]; then out=$(realpath "$1"); fi
 cd "$(dirname "$0")/.."
-[ $# -gt 0 ] || rt prove >"$out" 2>&1 || { grep '^rt:' "$out" >&2; exit 1; }
+if [ $# -eq 0 ]; then
+    out=$PWD/target/checks.log
+    mkdir -p target
+    # each line behind the second in which it comes; a crate's lines come when it is proved, and the first of them is `== NAME`
+    { echo begins; rt all verdict --jobs 1 2>&1; } | while IFS= read -r line; do echo "$(date +%s) $line"; done >"$out"
+    awk 'END { exit !(NF == 6 && $2 == $4 && $6 == "ok") }' "$out" || { grep -E '^[0-9]+ rt:|no proof|not proved' "$out" >&2; exit 1; }
+fi
 
 # lines FOLDER SUFFIX COMMENT [WORDS for find]: the lines of the files with this suffix in a folder and below it
 lines() {
@@ -23,13 +27,13 @@ edits() {
 }
 
 seconds() {
-    awk -v name="$1" '$1 == "rt:" && $2 == name && $3 == "proved" { gsub(/[^0-9]/, "", $4); s = $4; found = 1 } END { print found ? s : "?" }' "$out"
+    awk -v name="$1" 'NR == 1 { before = $1 } $2 == "==" { if ($3 == name) { s = $1 - before; found = 1 } before = $1 } END { print found ? s : "?" }' "$out"
 }
 
 {
     sed 's/#.*//' crates.txt | awk -F: 'NF > 1 { gsub(/[ \t]/, "", $1); print $1 }' | while read -r name; do
         crate=crates/$name
-        echo "$name $(lines "$crate/specs" antt -- -maxdepth 1) $(lines "$crate/specs/contracts" antt --) $(lines "$crate/src" rt //) $(lines "$crate/proofs" antt --) $(edits "$crate/must-fail") $(seconds "$name")"
+        echo "$name $(lines "$crate/specs" antt -- -maxdepth 1) $(lines "$crate/specs/Inner" antt --) $(lines "$crate/src" rt //) $(lines "$crate/proofs" antt --) $(edits "$crate/must-fail") $(seconds "$name")"
     done
 } | awk '
     BEGIN {

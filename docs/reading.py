@@ -15,14 +15,14 @@ TOP = os.path.join(os.path.dirname(os.path.abspath(__file__)), "..")
 CRATES = os.path.join(TOP, "crates")
 
 STATEMENTS = [
-    ("calls/specs/Refused", "Demand-1"), ("calls/specs/Refused", "Table-rows"), ("exported/specs/Refused", "Exported-demand-1"),
-    ("exported/specs/Performs", "Exported-performs"), ("calls/specs/Instances", "Demand-2"),
+    ("calls/specs/Refused", "Demand1"), ("calls/specs/Refused", "TableRows"), ("exported/specs/Refused", "ExportedDemand1"),
+    ("exported/specs/Performs", "ExportedPerforms"), ("calls/specs/Instances", "Demand2"),
     ("walk/specs/GreedySearch", "paper"), ("prune/specs/RobustPrune", "paper"),
-    ("exported/specs/History", "Exported-history"),
-    ("calls/specs/Labelled", "Figure-numbers"), ("calls/specs/FromPool", "From-pool"),
+    ("exported/specs/History", "ExportedHistory"),
+    ("calls/specs/Labelled", "FigureNumbers"), ("calls/specs/FromPool", "FromPool"),
 ]
 # the functions whose runs are those of another's constructor: a delete that names numbers
-SAME = {"finder-delete-numbers": "finder-delete", "finder-guarded-delete-numbers": "finder-guarded-delete"}
+SAME = {"finder_delete_numbers": "finder_delete", "finder_guarded_delete_numbers": "finder_guarded_delete"}
 ROWS = [
     ("an index: sizes and limits, what it shows, how it is stored, the plain index", "slots/specs/Sizes slots/specs/View slots/specs/Ops slots/specs/Store slots/specs/Plain"),
     ("every call: arguments, when it is turned back, what it does and writes", "calls/specs/Calls calls/specs/State calls/specs/Refusals calls/specs/Step calls/specs/Outputs slots/specs/Scratch"),
@@ -62,9 +62,10 @@ class Definition:
 
 
 def module(name):
-    """The file of a module of this repository: crate/specs/Name"""
-    found = re.match(r"Rattle·(\w+)(?:·specs)?\.(?:specs\.)?specs\.(.+)$", name) or re.match(r"Rattle·(\w+)\.specs\.(.+)$", name)
-    return "%s/specs/%s" % (found.group(1), found.group(2).replace(".", "/")) if found else None
+    """The file of a module of this repository, not of the library: crate/specs/Name"""
+    found = re.match(r"Rattle\.(\w+)\.specs\.(.+)$", name)
+    here = found and os.path.isdir(os.path.join(CRATES, found.group(1)))
+    return "%s/specs/%s" % (found.group(1), found.group(2).replace(".", "/")) if here else None
 
 
 class File:
@@ -113,13 +114,13 @@ def functions():
             file.use(line)
         if re.search(r"^ +requires ", source, re.M):
             sys.exit("a function of %s asks for something" % path)
-        for name, promise in re.findall(r'#\[no_mangle\]\npub extern "C" fn (\w+)\(.*?ensures \{ λ r\. ⌜ (.*?) ⌝ \}\n', source, re.S):
-            yield name.replace("_", "-"), promise, file
+        for name, promise in re.findall(r'#\[unsafe\(no_mangle\)\]\npub extern "C" fn (\w+)\(.*?ensures \{ (.*?) \}\n', source, re.S):
+            yield name, promise, file
 
 
 def used_up(exported):
     """The contracts that the constructors of `Exported` have as premises, each that of its function"""
-    premises = dict(re.findall(r"^  (finder-[\w-]+) : (.*?)(?=^  finder-|\Z)", "\n".join(exported.lines), re.S | re.M))
+    premises = dict(re.findall(r"^  (finder_\w+) : (.*?)(?=^  finder_|\Z)", "\n".join(exported.lines), re.S | re.M))
     contracts, named = set(), set()
     for name, promise, file in functions():
         contract, constructor = promise.split()[0], SAME.get(name, name)
@@ -128,7 +129,7 @@ def used_up(exported):
                 sys.exit("%s has no premise %s" % (constructor, contract))
             contracts.add(contract)
             named.add(name)
-        elif name not in ("finder-version", "finder-scratch-words"):
+        elif name not in ("finder_version", "finder_scratch_words"):
             sys.exit("no constructor: %s" % name)
     missing = (set(premises) | set(SAME)) - named
     if missing:
@@ -148,7 +149,7 @@ def declared(file, name):
 
 def main():
     paths = glob.glob(CRATES + "/*/specs/**/*.antt", recursive=True)
-    files = {os.path.relpath(p, CRATES)[:-5]: File(p) for p in paths if not p.endswith(("/Lib.antt", "/contracts.antt"))}
+    files = {os.path.relpath(p, CRATES)[:-5]: File(p) for p in paths if not p.endswith(("/Lib.antt", "/Inner.antt"))}
     skipped = used_up(files["exported/specs/Runs"].named["Exported"])
     todo, seen, needed, structs = list(STATEMENTS), set(), {}, {}
     for name, promise, file in functions():
@@ -195,7 +196,7 @@ def main():
     rest = {file: files[file].lines() - sum(len(d.lines) for d in needed.get(file, ())) for file in files}
     for what, row in BESIDES:
         starts = tuple(row.split())
-        some = [f for f in sorted(rest) if f.startswith(starts) and "/contracts/" not in f]
+        some = [f for f in sorted(rest) if f.startswith(starts) and "/Inner/" not in f]
         out.append("| %s | %s | %d |" % (what, ", ".join("`%s`" % s for s in starts), sum(rest.pop(f) for f in some)))
     out.append("| the words of inner contracts, and laws | all other files of `specs` | %d |" % sum(rest.values()))
 

@@ -1,8 +1,8 @@
 #!/bin/sh
 # Builds the archive of the crate `finder`, compiles the headers every way (headers.sh), and runs the examples that link it: those in C and C++ under valgrind and
 # with the sanitizers of gcc and clang, and as programs outside the tree against an installed library (installed/run.sh); and the crate bindings/rust by its tests. Prints a
-# line for each. Needs the Rattle kit, gcc, g++, clang, libclang-rt-dev, valgrind, pkg-config, cmake and cargo. Everything is written below target/, but what is
-# built outside the tree, which is removed. None of it is part of the proof.
+# line for each. Needs the Rattle kit, gcc, g++, clang, libclang-rt-dev, valgrind, pkg-config, cmake and cargo. Everything is written below target/, but for
+# the folders crates/*/out, of which crates/finder/out has the archive, and what is built outside the tree, which is removed. None of it is part of the proof.
 set -eu
 cd "$(dirname "$0")/.."
 out=$PWD/target/examples
@@ -21,13 +21,13 @@ step() {
     fi
 }
 
-step archive rt staticlib finder
-step only-memset sh -c "nm -u target/staticlib/libfinder.a | awk '/ U / && \$2 != \"memset\" { print; bad = 1 } END { exit bad }'"
+step archive sh -c "cd crates/finder && rt lib"
+step only-memset sh -c "nm -u crates/finder/out/libfinder.a | awk '/ U / && \$2 != \"memset\" { print; bad = 1 } END { exit bad }'"
 step headers examples/headers.sh
 sed 's/^/  /' "$out/headers.log"
 
 # example NAME COMPILER CLANG FILE: built and run under valgrind, then with the sanitizers of both compilers
-lib=target/staticlib/libfinder.a
+lib=crates/finder/out/libfinder.a
 strict="-Wall -Wextra -pedantic -Werror -Iinclude -g -pthread"
 sanitize="-fsanitize=address,undefined -fno-sanitize-recover=all"
 example() {

@@ -3,7 +3,7 @@
 # pairs them, and counts against the truth; then writes the report, and runs a small set under valgrind. Exit code 1 where a target is missed: the right
 # original for 99 of 100 of the placeholders that have one, no pairing called sure that is wrong, at most 1.2 times the time that reading the pictures takes.
 # Needs the Rattle kit, cargo, valgrind and Debian's librust-image-dev and librust-indicatif-dev;
-# everything is written below target/.
+# everything is written below target/, but for the folders crates/*/out, of which crates/finder/out has the archive.
 set -eu
 cd "$(dirname "$0")/.."
 count=${1:-400}
@@ -12,7 +12,7 @@ out=$PWD/target/pair
 bin=$out/release
 mkdir -p "$out"
 
-rt staticlib finder >"$out/archive.log" 2>&1 || { cat "$out/archive.log"; exit 1; }
+(cd crates/finder && rt lib) >"$out/archive.log" 2>&1 || { cat "$out/archive.log"; exit 1; }
 (cd pair && cargo build --release --offline --quiet)
 (cd pair && cargo test --release --offline) >"$out/tests.log" 2>&1 || { cat "$out/tests.log"; exit 1; }
 awk '/^test result: ok/ { passed += $4 } END { print "tests: " passed " passed" }' "$out/tests.log"

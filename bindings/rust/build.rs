@@ -1,4 +1,4 @@
-// Links libfinder.a, the archive that `rt staticlib finder` writes, or says how to make it.
+// Links libfinder.a, the archive that `rt lib` writes in crates/finder, or says how to make it.
 use std::path::PathBuf;
 
 fn main() {
@@ -6,13 +6,13 @@ fn main() {
     let manifest = PathBuf::from(env!("CARGO_MANIFEST_DIR"));
     let folder = match std::env::var_os("FINDER_LIB_DIR") {
         Some(named) => PathBuf::from(named),
-        None => manifest.join("../../target/staticlib"),
+        None => manifest.join("../../crates/finder/out"),
     };
     let archive = folder.join("libfinder.a");
     if !archive.is_file() {
         eprintln!("{} is not there. It is made with the Rattle kit, in the top folder of the picture finder:", archive.display());
         eprintln!();
-        eprintln!("    rt staticlib finder        # writes target/staticlib/libfinder.a");
+        eprintln!("    (cd crates/finder && rt lib)        # writes crates/finder/out/libfinder.a");
         eprintln!();
         eprintln!("Where the archive lies elsewhere, name its folder in FINDER_LIB_DIR.");
         std::process::exit(1);

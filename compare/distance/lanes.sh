@@ -3,8 +3,8 @@
 # many as one copy of `distance` has: 8 for 64 bytes, 2 for 16, 1 for the first 8 of a short vector. A relative path is taken from the repository's root; where no
 # archive is named, the library's is built. Needs the Rattle kit and objdump.
 cd "$(dirname "$0")/../.." || exit 2
-archive=${1:-target/staticlib/libfinder.a}
-[ $# -gt 0 ] || rt staticlib finder > /dev/null 2>&1 || { echo "rt staticlib finder fails"; exit 2; }
+archive=${1:-crates/finder/out/libfinder.a}
+[ $# -gt 0 ] || (cd crates/finder && rt lib) > /dev/null 2>&1 || { echo "rt lib fails in crates/finder"; exit 2; }
 [ -r "$archive" ] || { echo "$archive: not there"; exit 2; }
 count=$(objdump -d "$archive" | grep -cw pmaddwd)
 echo "$archive: pmaddwd $count times"

@@ -1,17 +1,16 @@
 #!/usr/bin/env python3
 """compare/replay/faults.py
 
-Puts one fault at a time into the comparing code of `replay`, in a copy below target/ that is compiled unproved (`rt try`), and says whether what it prints
-is then another text than crates/replay/stdout. Exit code 1 if one is not seen.
+Puts one fault at a time into the comparing code of `replay`, in a copy outside the tree that is compiled unproved (`rt try`) and removed at the end, and says
+whether what it prints is then another text than crates/replay/stdout. Exit code 1 if one is not seen.
 """
 import os
 import shutil
 import subprocess
 import sys
+import tempfile
 
 ROOT = os.path.dirname(os.path.dirname(os.path.dirname(os.path.abspath(__file__))))
-COPY = os.path.join(ROOT, "target", "replay-faults")
-CRATES = os.path.join(COPY, "crates")
 LOOKS, TEXT, PREPARE = "looks/src/lib.rt", "text/src/lib.rt", "lines/src/prepare.rt"
 MAKING, INSERTING, DELETING = ("changes/src/%s.rt" % f for f in ("making", "inserting", "deleting"))
 STATUSES, ENABLING, REPORTS, ASSESSING, GUARDED = ("guards/src/%s.rt" % f for f in ("statuses", "enabling", "reports", "assessing", "deleting"))
@@ -102,30 +101,38 @@ FAULTS = [
 ]
 
 
-def as_expected():
-    run = subprocess.run(["rt", "try", "replay"], cwd=COPY, capture_output=True, text=True)
-    said = [line for line in (run.stdout + run.stderr).splitlines() if "the native program at -O3 ended" in line]
-    if not said:
+def as_expected(crates):
+    folder = os.path.join(crates, "replay")
+    with open(os.path.join(folder, "stdin")) as lines:
+        run = subprocess.run(["rt", "try"], cwd=folder, stdin=lines, capture_output=True, text=True)
+    if run.returncode:
         sys.exit("replay is not compiled, or does not end")
-    return said[0].startswith("ok: ")
+    with open(os.path.join(folder, "stdout")) as expected:
+        return run.stdout == expected.read()
 
 
-def main():
-    shutil.rmtree(COPY, ignore_errors=True)
-    shutil.copytree(os.path.join(ROOT, "crates"), os.path.join(COPY, "crates"))
-    shutil.copy(os.path.join(ROOT, "crates.txt"), COPY)
-    code = {file: open(os.path.join(CRATES, file)).read() for file in {file for _, file, _, _ in FAULTS}}
-    if not as_expected():
+def unseen_in(crates):
+    code = {file: open(os.path.join(crates, file)).read() for file in {file for _, file, _, _ in FAULTS}}
+    if not as_expected(crates):
         sys.exit("without a fault replay prints something else")
     unseen = 0
     for name, file, old, new in FAULTS:
         if code[file].count(old) != 1:
             sys.exit(f"{name}: its text is not there once")
-        open(os.path.join(CRATES, file), "w").write(code[file].replace(old, new))
-        seen = not as_expected()
-        open(os.path.join(CRATES, file), "w").write(code[file])
+        open(os.path.join(crates, file), "w").write(code[file].replace(old, new))
+        seen = not as_expected(crates)
+        open(os.path.join(crates, file), "w").write(code[file])
         unseen += not seen
         print(f"{name}: {'seen' if seen else 'NOT SEEN'}", flush=True)
+    return unseen
+
+
+def main():
+    with tempfile.TemporaryDirectory() as copy:
+        crates = os.path.join(copy, "crates")
+        shutil.copytree(os.path.join(ROOT, "crates"), crates, ignore=shutil.ignore_patterns("out"))
+        shutil.copy(os.path.join(ROOT, "crates.txt"), copy)
+        unseen = unseen_in(crates)
     print(f"{len(FAULTS)} faults, {unseen} not seen")
     sys.exit(unseen != 0)
 

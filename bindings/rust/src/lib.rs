@@ -33,7 +33,7 @@
 //!
 //! # The archive
 //!
-//! The crate links `libfinder.a`, which `rt staticlib finder` writes to `target/staticlib`; where it lies elsewhere, the environment variable
+//! The crate links `libfinder.a`, which `rt lib` in `crates/finder` writes to `crates/finder/out`; where it lies elsewhere, the environment variable
 //! `FINDER_LIB_DIR` names its folder. What is proved is the archive's code, not this crate.
 
 #![deny(missing_docs)]

@@ -4,7 +4,7 @@
 // that a comparison that does not compare is seen.
 #![tactic(auto)]
 
-ghost use Rattle.std.specs.Prelude.{◌≤◌, length};
+ghost use Rattle.std.specs.Prelude.{◌≤◌, length, IfOk};
 
 use index::{Guard, Index};
 use lines::kinds::{
@@ -13,6 +13,8 @@ use lines::kinds::{
 };
 use lines::prepare::{Lent, Step};
 use lines::words::Word;
+use std::io;
+use std::io::Read;
 
 // How many lines there were of each kind.
 #[derive(Clone, Copy)]
@@ -21,36 +23,47 @@ struct Counts {
 }
 
 // Prints one count with its name.
-fn print_count(name: &[u8], n: u64) {
-    io::write_all(1, name);
-    io::print_decimal(1, n);
-    io::write_all(1, b"\n");
+fn print_count(rt: &impl Print, name: &[u8], n: u64) -> io::Result<()> {
+    rt.write_all(name)?;
+    rt.println(n)
 }
 
 // Counts a line that differs: its number is printed, notes not counted, and the line is written to standard error.
-fn differing(counts: Counts, line: &[u8]) -> Counts {
+fn differing(
+    rt: &impl Print,
+    errors: &impl Print,
+    counts: Counts,
+    line: &[u8],
+) -> io::Result<Counts> {
     let mut new = counts;
     new.of[DIFFERENCES] = std::num::wrapping_add_u64(new.of[DIFFERENCES], 1);
-    print_count(b"differs ", new.of[LINES]);
-    io::write_all(2, line);
-    io::write_all(2, b"\n");
-    new
+    print_count(rt, b"differs ", new.of[LINES])?;
+    errors.write_all(line)?;
+    errors.println("")?;
+    Ok(new)
 }
 
 // Counts a line that was performed.
-fn counted(counts: Counts, line: &[u8], kind: usize, good: bool) -> Counts {
+fn counted(
+    rt: &impl Print,
+    errors: &impl Print,
+    counts: Counts,
+    line: &[u8],
+    kind: usize,
+    good: bool,
+) -> io::Result<Counts> {
     let mut new = counts;
     if kind == NOTE {
-        return new;
+        return Ok(new);
     }
     new.of[LINES] = std::num::wrapping_add_u64(new.of[LINES], 1);
     if good {
         if kind < KINDS {
             new.of[kind] = std::num::wrapping_add_u64(new.of[kind], 1);
-            return new;
+            return Ok(new);
         }
     }
-    differing(new, line)
+    differing(rt, errors, new, line)
 }
 
 // The state before any line: no index is made, and nothing is lent.
@@ -164,6 +177,8 @@ fn perform(
 
 // Performs every line of the first n bytes.
 fn replay(
+    rt: &impl Print,
+    errors: &impl Print,
     list: &[u8],
     n: usize,
     given: &mut [u8; 262144],
@@ -178,7 +193,7 @@ fn replay(
     numbers: &mut [u32; 65536],
     summary: &mut [u32; 65536],
     scratch: &mut [u32; 235520],
-) -> Counts
+) -> io::Result<Counts>
     requires { n ≤ length list.now }
 {
     let mut counts = Counts { of: [0; 21] };
@@ -193,30 +208,30 @@ fn replay(
             line, word, step, given, rows, figures, vectors, targets, edges, versions, marks, pool,
             numbers, summary, scratch,
         );
-        counts = counted(counts, line, word.kind, step.good);
+        counts = counted(rt, errors, counts, line, word.kind, step.good)?;
     }
-    counts
+    Ok(counts)
 }
 
 // Prints the counts.
-fn report(counts: Counts) {
-    print_count(b"make ", counts.of[MAKE]);
-    print_count(b"read ", counts.of[READ]);
-    print_count(b"vector ", counts.of[VECTOR]);
-    print_count(b"search ", counts.of[SEARCH]);
-    print_count(b"words ", counts.of[WORDS]);
-    print_count(b"insert ", counts.of[INSERT]);
-    print_count(b"delete ", counts.of[DELETE]);
-    print_count(b"enable ", counts.of[ENABLE]);
-    print_count(b"status ", counts.of[STATUS]);
-    print_count(b"assess ", counts.of[ASSESS]);
-    print_count(b"guarded ", counts.of[GUARDED]);
-    print_count(b"lines ", counts.of[LINES]);
-    print_count(b"differences ", counts.of[DIFFERENCES]);
+fn report(rt: &impl Print, counts: Counts) -> io::Result<()> {
+    print_count(rt, b"make ", counts.of[MAKE])?;
+    print_count(rt, b"read ", counts.of[READ])?;
+    print_count(rt, b"vector ", counts.of[VECTOR])?;
+    print_count(rt, b"search ", counts.of[SEARCH])?;
+    print_count(rt, b"words ", counts.of[WORDS])?;
+    print_count(rt, b"insert ", counts.of[INSERT])?;
+    print_count(rt, b"delete ", counts.of[DELETE])?;
+    print_count(rt, b"enable ", counts.of[ENABLE])?;
+    print_count(rt, b"status ", counts.of[STATUS])?;
+    print_count(rt, b"assess ", counts.of[ASSESS])?;
+    print_count(rt, b"guarded ", counts.of[GUARDED])?;
+    print_count(rt, b"lines ", counts.of[LINES])?;
+    print_count(rt, b"differences ", counts.of[DIFFERENCES])
 }
 
 // Performs a list of n bytes, with memory for its calls.
-fn replay_list(list: &[u8], n: usize)
+fn replay_list(rt: &impl Print, errors: &impl Print, list: &[u8], n: usize) -> io::Result<()>
     requires { n ≤ length list.now }
 {
     let mut given = [0u8; 262144];
@@ -231,7 +246,9 @@ fn replay_list(list: &[u8], n: usize)
     let mut numbers = [0u32; 65536];
     let mut summary = [0u32; 65536];
     let mut scratch = [0u32; 235520];
-    report(replay(
+    let counts = replay(
+        rt,
+        errors,
         list,
         n,
         &mut given,
@@ -246,16 +263,39 @@ fn replay_list(list: &[u8], n: usize)
         &mut numbers,
         &mut summary,
         &mut scratch,
-    ));
+    )?;
+    report(rt, counts)
+}
+
+// Reads from the input until it ends or the list is full, and returns how many bytes it put at the list's start.
+fn read_full(input: &mut impl Read, list: &mut [u8]) -> io::Result<usize>
+    ensures { IfOk result (λ n. n ≤ length list.new) }
+{
+    let mut done: usize = 0;
+    for _ in 0..u64::MAX {
+        if done >= list.len() {
+            break;
+        }
+        let n = input.read(&mut list[done..])?;
+        if n == 0 {
+            break;
+        }
+        done += n;
+    }
+    Ok(done)
 }
 
 // Reads the list, as far as the lent memory holds it, and performs it.
-fn replay_input(list: &mut [u8; 524288]) {
-    let n = io::read_full(0, list);
-    replay_list(list, n);
+fn replay_input(
+    rt: &(impl Input + Print),
+    errors: &impl Print,
+    list: &mut [u8; 524288],
+) -> io::Result<()> {
+    let n = read_full(&mut rt.reader(), list)?;
+    replay_list(rt, errors, list, n)
 }
 
-fn main() {
+fn main(rt: HostRuntime) -> io::Result<()> {
     let mut list = [0u8; 524288];
-    replay_input(&mut list);
+    replay_input(&rt, &rt.stderr(), &mut list)
 }

@@ -3,6 +3,7 @@
 
 use index::{Created, Index};
 use reading::{Reading, Value};
+use std::io;
 use updating::{Deleted, Inserted, Naming};
 
 const BLANK: u32 = 4294967295;
@@ -19,6 +20,7 @@ fn number(value: Value) -> u32 {
 
 // Prints a word and what is read.
 fn print_reading(
+    rt: &impl Print,
     word: &[u8],
     index: Index,
     vectors: &[u8],
@@ -30,16 +32,17 @@ fn print_reading(
     numbers: &[u32],
     summary: &[u32],
     what: Reading,
-) {
+) -> io::Result<()> {
     let value = reading::read(
         index, vectors, targets, edges, versions, marks, pool, numbers, summary, what,
     );
-    io::write_all(1, word);
-    io::print_decimal(1, number(value) as u64);
+    rt.write_all(word)?;
+    rt.print(number(value))
 }
 
 // Prints the live target at a place of a slot's row, if there is one.
 fn print_target(
+    rt: &impl Print,
     index: Index,
     vectors: &[u8],
     targets: &[u32],
@@ -51,19 +54,20 @@ fn print_target(
     summary: &[u32],
     slot: u32,
     place: u32,
-) {
+) -> io::Result<()> {
     let what = Reading::Target(slot, place);
     let target = number(reading::read(
         index, vectors, targets, edges, versions, marks, pool, numbers, summary, what,
     ));
     if target != BLANK {
-        io::write_all(1, b" ");
-        io::print_decimal(1, target as u64);
+        print!(rt; " {target}")?;
     }
+    Ok(())
 }
 
 // Prints a slot: its mark, version and live targets, at most two.
 fn print_slot(
+    rt: &impl Print,
     index: Index,
     vectors: &[u8],
     targets: &[u32],
@@ -74,9 +78,10 @@ fn print_slot(
     numbers: &[u32],
     summary: &[u32],
     slot: u32,
-) {
-    io::print_decimal(1, slot as u64);
+) -> io::Result<()> {
+    rt.print(slot)?;
     print_reading(
+        rt,
         b" ",
         index,
         vectors,
@@ -88,8 +93,9 @@ fn print_slot(
         numbers,
         summary,
         Reading::Mark(slot),
-    );
+    )?;
     print_reading(
+        rt,
         b" ",
         index,
         vectors,
@@ -101,18 +107,19 @@ fn print_slot(
         numbers,
         summary,
         Reading::Version(slot),
-    );
+    )?;
     print_target(
-        index, vectors, targets, edges, versions, marks, pool, numbers, summary, slot, 0,
-    );
+        rt, index, vectors, targets, edges, versions, marks, pool, numbers, summary, slot, 0,
+    )?;
     print_target(
-        index, vectors, targets, edges, versions, marks, pool, numbers, summary, slot, 1,
-    );
-    io::write_all(1, b"\n");
+        rt, index, vectors, targets, edges, versions, marks, pool, numbers, summary, slot, 1,
+    )?;
+    rt.println("")
 }
 
 // Prints the shelf: entry and live count, then each slot.
 fn print_shelf(
+    rt: &impl Print,
     index: Index,
     vectors: &[u8],
     targets: &[u32],
@@ -122,8 +129,9 @@ fn print_shelf(
     pool: &[u32],
     numbers: &[u32],
     summary: &[u32],
-) {
+) -> io::Result<()> {
     print_reading(
+        rt,
         b"entry ",
         index,
         vectors,
@@ -135,8 +143,9 @@ fn print_shelf(
         numbers,
         summary,
         Reading::Entry,
-    );
+    )?;
     print_reading(
+        rt,
         b" live ",
         index,
         vectors,
@@ -148,24 +157,25 @@ fn print_shelf(
         numbers,
         summary,
         Reading::Live,
-    );
-    io::write_all(1, b"\n");
+    )?;
+    rt.println("")?;
     print_slot(
-        index, vectors, targets, edges, versions, marks, pool, numbers, summary, 0,
-    );
+        rt, index, vectors, targets, edges, versions, marks, pool, numbers, summary, 0,
+    )?;
     print_slot(
-        index, vectors, targets, edges, versions, marks, pool, numbers, summary, 1,
-    );
+        rt, index, vectors, targets, edges, versions, marks, pool, numbers, summary, 1,
+    )?;
     print_slot(
-        index, vectors, targets, edges, versions, marks, pool, numbers, summary, 2,
-    );
+        rt, index, vectors, targets, edges, versions, marks, pool, numbers, summary, 2,
+    )?;
     print_slot(
-        index, vectors, targets, edges, versions, marks, pool, numbers, summary, 3,
-    );
+        rt, index, vectors, targets, edges, versions, marks, pool, numbers, summary, 3,
+    )
 }
 
 // Inserts 6, deletes slot 1 and prints what is left.
 fn change(
+    rt: &impl Print,
     index: Index,
     vectors: &mut [u8; 4],
     targets: &mut [u32; 8],
@@ -175,7 +185,7 @@ fn change(
     pool: &[u32; 1024],
     numbers: &mut [u32; 4],
     summary: &mut [u32; 4],
-) {
+) -> io::Result<()> {
     let mut scratch = [0u32; 169988];
     let mut slots = [0u32; 1];
     let bytes = [6u8];
@@ -198,7 +208,7 @@ fn change(
         &mut scratch,
     );
     let Inserted::Done(fuller, _) = inserted else {
-        return;
+        return Ok(());
     };
     let deleted = updating::delete(
         fuller,
@@ -218,14 +228,14 @@ fn change(
         &mut scratch,
     );
     let Deleted::Done(left, _) = deleted else {
-        return;
+        return Ok(());
     };
     print_shelf(
-        left, vectors, targets, edges, versions, marks, pool, numbers, summary,
-    );
+        rt, left, vectors, targets, edges, versions, marks, pool, numbers, summary,
+    )
 }
 
-fn main() {
+fn main(rt: HostRuntime) -> io::Result<()> {
     let mut vectors = [0u8; 4];
     let mut targets = [0u32; 8];
     let mut edges = [0u16; 8];
@@ -257,9 +267,10 @@ fn main() {
         &mut summary,
     );
     let Created::Done(shelf) = made else {
-        return;
+        return Ok(());
     };
     change(
+        &rt,
         shelf,
         &mut vectors,
         &mut targets,
@@ -269,5 +280,5 @@ fn main() {
         &pool,
         &mut numbers,
         &mut summary,
-    );
+    )
 }
