@@ -14,7 +14,7 @@ use Rattle.lists.specs.Lists.{filter, range, part, times, least_of}
 use Rattle.lists.proofs.Parts.{before_next}
 use Rattle.lists.proofs.Counts.{times_append}
 use Rattle.vectors.specs.Space.{slot_distance}
-use Rattle.slots.specs.Sizes.{Sizes, Lengths, limits, sizes_ok, alpha_ok, lengths_ok}
+use Rattle.slots.specs.Sizes.{Sizes, Lengths, limits}
 use Rattle.slots.specs.View.{View, live_neighbors, live_slots, free_slots, emptied}
 use Rattle.slots.specs.Store.{Store, blank, store_view, store_ops}
 use Rattle.slots.specs.Plain.{plain_ops}
@@ -22,7 +22,7 @@ use Rattle.slots.proofs.Agree.{Agree, recount}
 use Rattle.slots.proofs.New.{agree_new}
 use Rattle.slots.proofs.Live.{MarksFit, store_marking}
 use Rattle.candidates.specs.Candidates.{ids}
-use Rattle.numbers.specs.Numbers.{number_of, write_numbers, live_numbers, summary_of, labels_ok}
+use Rattle.numbers.specs.Numbers.{number_of, write_numbers, live_numbers, summary_of}
 use Rattle.numbers.proofs.Kept.{summary_long, write_numbers_long}
 use Rattle.numbers.proofs.Writes.{live_numbers_long}
 use Rattle.walk.specs.Walk.{search_pool}
@@ -33,7 +33,7 @@ use Rattle.repair.specs.Delete.{Stats, delete_batch}
 use Rattle.repair.proofs.Agree.{agree_delete}
 use Rattle.guard.specs.Guard.{Config, on, Report, normalized, pool_of, guard_status, landmark_pool, select_landmarks, greatest_from, farthest}
 use Rattle.calls.specs.Calls.{Making, Reading, read_dim, read_capacity, read_degree, read_alpha, read_entry, read_live, read_mark, read_version, read_number, read_target, Insert, Delete, Operation, create, read, read_vector, search, insert, delete, enable, status, assess, guarded_delete, Lent, Call, Answer, number, alpha, vector, found, inserted, deleted, standing, assessed, applied, created}
-use Rattle.calls.specs.Refusals.{Test, first_of, making_tests, config_over, new_pool, index_tests, scratch_short, tests, guard_fault}
+use Rattle.calls.specs.Refusals.{Test, first_of, making_tests, config_over, new_pool, scratch_short, tests}
 use Rattle.calls.specs.State.{State, Kind, stored, plain, shown, made, with_graph, with_guard}
 use Rattle.calls.specs.Step.{vectors_of, report_of, slots_of, named, reading, deletion, guarded, perform, refusal, settle, step}
 use Rattle.calls.specs.History.{hide, look, seen, compared, log_performed, log_settled, Few, log_after, Within, trace, History}

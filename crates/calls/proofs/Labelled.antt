@@ -1,6 +1,6 @@
 -- Figure numbers over the calls: the proof of `FigureNumbers`. Assumes nothing.
 use Prim.Native.Nat.{ℕ, zero, suc, ◌/◌, ◌≤◌, ◌<◌}
-use mathlib.Core.Bool.{Bool, true, false, not, ◌||◌, cond, true≢false}
+use mathlib.Core.Bool.{Bool, true, false, not, ◌||◌, true≢false}
 use mathlib.Core.Option.{Option, none, some}
 use mathlib.Core.Path.{◌≡◌, refl, sym, ap, ap₂, ◌∙◌, subst}
 use mathlib.Core.List.{List, [], ◌∷◌, map}
@@ -16,7 +16,7 @@ use Rattle.lists.proofs.Filtered.{elem_filtered}
 use Rattle.lists.proofs.All.{all_map, all_take, filter_test}
 use Rattle.lists.proofs.Unique.{Unique, or_false_r}
 use Rattle.slots.specs.Sizes.{Sizes, Lengths, lengths_of, exact, limits}
-use Rattle.slots.specs.View.{View, live_slots, free_slots}
+use Rattle.slots.specs.View.{View, free_slots}
 use Rattle.slots.specs.Store.{Store, blank, store_view, store_ops}
 use Rattle.slots.specs.Plain.{new_plain}
 use Rattle.slots.proofs.Live.{MarksFit, store_marking}

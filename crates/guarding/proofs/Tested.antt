@@ -25,7 +25,6 @@ use Rattle.calls.proofs.Tests.{first_none}
 use Rattle.index.specs.Index.{guard_of, state_of}
 use Rattle.index.specs.Inner.Deciding.{Labels, labels_of, Decided, Passed}
 use Rattle.index.proofs.Decide.{Numbered, decided_before, decided_after, turned_back, let_through, own_none, not_wrong, passed}
-use Rattle.guarding.specs.declared.Assessed.{Assessed}
 use Rattle.guarding.specs.declared.Assessed.TheVariants.{Refused as not_assessed, Assessed as AssessedSo}
 use Rattle.guarding.specs.Inner.Testing.{report_tests, Testable, refusal_of, Tested}
 use Rattle.guarding.proofs.Shared.{assessable, reported}

@@ -1,8 +1,7 @@
 -- Runs of `create` meet the contract of every public function (`Meets`), whatever index the app had before. Assumes nothing.
 use Prim.Native.Nat.{ℕ}
-use mathlib.Core.List.{[]}
 use mathlib.Core.Path.{◌≡◌, refl, sym, ap, ◌∙◌}
-use Rattle.slots.specs.Sizes.{Slices, lengths_of}
+use Rattle.slots.specs.Sizes.{Slices}
 use Rattle.slots.specs.Store.{Store}
 use Rattle.index.specs.declared.Index.{Index}
 use Rattle.index.specs.declared.Created.{Created}

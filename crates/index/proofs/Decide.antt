@@ -20,7 +20,7 @@ use Rattle.slots.specs.Sizes.{Sizes, Slices, slices, Lengths, lengths_of, limits
 use Rattle.slots.specs.Scratch.{size_answer}
 use Rattle.vectors.specs.Vector.{Bytes}
 use Rattle.slots.specs.View.{View, live_slots}
-use Rattle.slots.specs.Store.{Store, is_valid, store_view, store_ops, arrays}
+use Rattle.slots.specs.Store.{Store, is_valid, store_view, store_ops}
 use Rattle.slots.specs.Inner.Rows.{RowShape}
 use Rattle.slots.proofs.Places.{rows_shaped}
 use Rattle.numbers.specs.Numbers.{labels_ok}

@@ -2,7 +2,7 @@
 use Prim.Native.Nat.{ℕ, zero, suc, ◌+◌, ◌-◌, ◌*◌, ◌≤◌, ◌<◌}
 use mathlib.Core.Bool.{Bool, true, false, not, cond}
 use mathlib.Core.Path.{◌≡◌, refl, ap, sym, ◌∙◌}
-use mathlib.Core.List.{List, [], ◌∷◌, ◌++◌, map, map-map}
+use mathlib.Core.List.{List, ◌∷◌, ◌++◌, map, map-map}
 use native.Mathlib.Nat.{mul-le-mul_right}
 use native.Mathlib.Omega.{arith}
 use lib.Dec.{ltb}
@@ -20,7 +20,7 @@ use Rattle.prune.proofs.Chosen.{chosen_few}
 use Rattle.row.specs.Row.{Together, index_of}
 use Rattle.row.proofs.Kept.{together_shaped}
 use Rattle.insertion.specs.declared.layout.Layout.{Layout}
-use Rattle.insert.specs.Insert.{Plan, Filling, plan, outgoing_row, target_row, chunk_rows, insert_chunk}
+use Rattle.insert.specs.Insert.{Plan, plan, outgoing_row, target_row, chunk_rows, insert_chunk}
 use Rattle.insertion.specs.Inner.Layout.{Spread, Parts}
 use Rattle.insertion.specs.Inner.Chains.{head, Chainable, Chained}
 use Rattle.insertion.specs.Inner.Filling.{filling_at, fillings_from, chunk_of, Fillable, ChunkFilled}

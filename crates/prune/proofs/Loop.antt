@@ -15,8 +15,8 @@ use Rattle.lists.proofs.Sorted.{least_left_out}
 use Rattle.candidates.specs.Candidates.{Candidate}
 use Rattle.candidates.specs.Quotient.{largest, quotient}
 use Rattle.prune.specs.RobustPrune.{Rules, stays, choose, remaining, run, robust_prune, paper, amended}
+
 -- so that the examples are checked first
-use Rattle.prune.proofs.Cases
 
 module _ {T : Type 0} (rules : Rules T) (R : ℕ) (d : ℕ → ℕ → ℕ) (α : T) where
   pub choose_none : (k : ℕ) (N : List Candidate) → choose rules R d k α N [] ≡ N

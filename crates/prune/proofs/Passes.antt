@@ -15,8 +15,8 @@ use Rattle.candidates.specs.Candidates.{Candidate, ids}
 use Rattle.vectors.specs.Distance.{f32}
 use Rattle.candidates.specs.Quotient.{largest, fmax, quotient}
 use Rattle.prune.specs.Prune.{no_candidate, Selection, raise, select, consider, pass, passes, thresholds}
+
 -- so that the examples are checked first
-use Rattle.prune.proofs.Cases
 
 -- a loop over a range that starts one later
 fold_shift : {S R : Type 0} (f : S → ℕ → S) (g : R → ℕ → R) (wrap : R → S) → ((h : R) (j : ℕ) → f (wrap h) (suc j) ≡ wrap (g h j))

@@ -16,8 +16,8 @@ use Rattle.candidates.specs.Inner.Words.{cand, cands}
 use Rattle.candidates.proofs.Words.{cands_at, cands_length, cands_each}
 use Rattle.prune.specs.Prune.{raise}
 use Rattle.prune.specs.Inner.Selecting.{raised_factor, settled, Given}
+
 -- so that the examples are checked first
-use Rattle.prune.proofs.Cases
 
 -- ---- one factor
 pub raised_over : (alpha : Float) (own pair : ℕ) (f : Float) → lt alpha f ≡ true → f ≡ raised_factor alpha own pair f

@@ -25,7 +25,6 @@ use Rattle.candidates.proofs.Plain.{plain, plain_of_positive, largest_plain, lt_
 use Rattle.slots.specs.Sizes.{alpha_ok}
 use Rattle.prune.specs.Prune.{growth, thresholds, thresholds_from}
 -- so that the examples are checked first
-use Rattle.prune.proofs.Cases
 use Rattle.lists.specs.Lists.{All}
 
 -- ---- a value that fits is rounded to itself

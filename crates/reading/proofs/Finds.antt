@@ -1,5 +1,5 @@
 -- Search: what the code finds and writes is what the definitions say. Assumes nothing.
-use Prim.Native.Nat.{ℕ, ◌+◌, ◌*◌, min, max, ◌≤◌, ◌<◌}
+use Prim.Native.Nat.{ℕ, ◌+◌, ◌*◌, min, ◌≤◌, ◌<◌}
 use mathlib.Core.Bool.{Bool, true, false, not, ◌||◌}
 use mathlib.Core.Path.{◌≡◌, refl, sym, ap, ◌∙◌, subst}
 use mathlib.Core.List.{List, [], ◌∷◌, map}
@@ -19,7 +19,7 @@ use Rattle.candidates.specs.Candidates.{Candidate, ids}
 use Rattle.vectors.specs.Distance.{f32}
 use Rattle.candidates.specs.Inner.Words.{cand, cands, Small}
 use Rattle.candidates.proofs.Words.{cands_none, cands_length, cands_snoc, cands_each, cands_take}
-use Rattle.slots.specs.Store.{Store, store_view, store_ops, arrays}
+use Rattle.slots.specs.Store.{store_view, store_ops, arrays}
 use Rattle.numbers.specs.Numbers.{number_of}
 use Rattle.walk.specs.Walk.{search_pool}
 use Rattle.walk.specs.Inner.Scratch.{Ready, Pool}
@@ -34,7 +34,7 @@ use Rattle.calls.specs.Runs.{lent_of, slices_of, call_of, run_refusal}
 use Rattle.index.specs.Index.{state_of}
 use Rattle.index.specs.Inner.Deciding.{Labels, labels_of, Decided, Passed}
 use Rattle.reading.specs.Inner.Finding.{search_tests, Fits, Shown}
-use Rattle.reading.specs.Search.{found_as, searching, search_outputs, Searches}
+use Rattle.reading.specs.Search.{found_as, search_outputs, Searches}
 use Rattle.calls.proofs.Tests.{first_none, or_neither}
 use Rattle.index.proofs.Decide.{Numbered, decided_before, decided_after, turned_back, let_through, own_none, not_wrong, passed, passed_rows, passed_marks, passed_bytes, step_back, step_on}
 

@@ -21,14 +21,13 @@ use Rattle.reading.specs.declared.Reading.TheVariants.{Dim, Capacity, Degree, Al
 use Rattle.reading.specs.declared.Value.{Value}
 use Rattle.reading.specs.declared.Value.TheVariants.{Refused, Number, Alpha as Factor, Version as Stamp}
 use Rattle.slots.specs.Sizes.{Slices, lengths_of}
-use Rattle.calls.specs.Calls.{read_vector, read, Operation, Call, Answer, refused, number, version, vector, refused_as}
+use Rattle.calls.specs.Calls.{read_vector, read, Operation, Call, number, version, vector, refused_as}
 use Rattle.calls.specs.Outputs.{no_outputs, written}
 use Rattle.calls.specs.Refusals.{tests}
 use Rattle.calls.specs.State.{stored}
-use Rattle.calls.specs.Step.{reading, perform, step}
-use Rattle.calls.specs.Runs.{lent_of, slices_of, call_of, Meets}
+use Rattle.calls.specs.Step.{reading, perform}
+use Rattle.calls.specs.Runs.{lent_of, slices_of, call_of}
 use Rattle.index.specs.Index.{state_of}
-use Rattle.index.specs.Run as Run
 use Rattle.index.specs.Inner.Deciding.{labels_of, Decided}
 use Rattle.reading.specs.Inner.Answering.{Answers}
 use Rattle.reading.specs.Read.{reading_of, answer_of, Reads, ReadsVector, GivesVector}

@@ -10,7 +10,6 @@ use Rattle.reading.specs.declared.Value.{Value}
 use Rattle.reading.specs.declared.Value.TheVariants.{Refused, Number, Alpha as Factor, Version as Stamp}
 use Rattle.calls.specs.Calls.{read_dim, read_capacity, read_degree, read_alpha, read_entry, read_live, read_mark, read_version, read_number, read_target, read, read_vector, Answer, refused, number, alpha, version, vector}
 use Rattle.calls.specs.Calls as Calls
-use Rattle.calls.specs.Step.{reading}
 use Rattle.calls.specs.Runs.{Run, Meets}
 use Rattle.index.specs.Run as Run
 

@@ -18,7 +18,6 @@ use Rattle.lists.proofs.Bools.{and_both}
 use Rattle.slots.specs.Sizes.{Sizes}
 use Rattle.slots.specs.View.{live_slots, emptied}
 use Rattle.slots.specs.Ops.{Ops, Row, write_rows}
-use Rattle.slots.specs.Plain.{at}
 use Rattle.slots.proofs.Live.{Marked, Marking}
 use Rattle.repair.specs.Repair.{repaired_rows}
 use Rattle.repair.specs.Delete.{snapshot, new_entry, plan, delete_slots, delete_batch}

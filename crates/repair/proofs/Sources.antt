@@ -9,8 +9,8 @@ use Rattle.lists.proofs.All.{all_append, all_take, all_init, all_filter, all_sor
 use Rattle.candidates.specs.Candidates.{nearer, scored, ids}
 use Rattle.candidates.proofs.Scored.{all_scored, all_ids}
 use Rattle.repair.specs.Repair.{Link, swap_remove, links, span, repair_links}
+
 -- the examples are checked first, so that a wrong definition shows in one of them
-use Rattle.repair.proofs.Cases
 
 -- links both ways
 abbrev pub both_ways : ℕ → ℕ → List Link

@@ -10,8 +10,8 @@ use lib.ListN.{length, length-map}
 use lib.Dec.{eqb, ltb}
 use Rattle.lists.specs.Lists.{filter, init, last, least_from, least_of}
 use Rattle.repair.specs.Repair.{Link, swap_remove, links, span, repair_links}
+
 -- the examples are checked first, so that a wrong definition shows in one of them
-use Rattle.repair.proofs.Cases
 
 length_init : (x : ℕ) (xs : List ℕ) → length (init (x ∷ xs)) ≡ length xs
 length_init x [] = refl

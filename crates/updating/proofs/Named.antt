@@ -1,6 +1,6 @@
 -- The names of a delete: a call on numbers is the call on the slots that carry them. Assumes nothing.
 use Prim.Native.Nat.{ℕ, ◌-◌, ◌≤◌}
-use mathlib.Core.Bool.{Bool, true, false, not, ◌&&◌, ◌||◌}
+use mathlib.Core.Bool.{Bool, true, false, ◌&&◌, ◌||◌}
 use mathlib.Core.Path.{◌≡◌, refl, sym, ap, ◌∙◌, subst}
 use mathlib.Core.List.{List, [], ◌∷◌, map}
 use mathlib.Core.Option.{none}
@@ -12,11 +12,10 @@ use lib.Seq.{length-take-le, take-append-le, take-length}
 use Rattle.lists.specs.Lists.{put_front}
 use Rattle.lists.proofs.Bools.{and_both}
 use Rattle.slots.specs.Sizes.{Slices, Lengths, lengths_of, limits}
-use Rattle.slots.specs.Store.{Store, store_ops, store_view}
+use Rattle.slots.specs.Store.{Store}
 use Rattle.numbers.specs.Numbers.{slot_of}
 use Rattle.numbers.specs.Inner.Listed.{Listed}
-use Rattle.calls.specs.Calls.{Delete, delete, Lent, Call}
-use Rattle.calls.specs.Outputs.{room_of}
+use Rattle.calls.specs.Calls.{Delete, delete, Lent}
 use Rattle.calls.specs.Refusals.{Test, first_of, or_zero, delete_over, scratch_short, index_tests, tests}
 use Rattle.calls.specs.State.{State, stored, shown}
 use Rattle.calls.specs.Step.{slots_of, named, refusal}
@@ -30,7 +29,7 @@ use Rattle.index.proofs.Decide.{shared_none, decided_listed}
 use Rattle.updating.specs.declared.Naming.{Naming}
 use Rattle.updating.specs.declared.Naming.TheVariants.{Slots, Numbers}
 use Rattle.updating.specs.declared.Deleted.{Deleted}
-use Rattle.updating.specs.Delete.{naming_of, deleting, deleted_as, index_left, Deletes}
+use Rattle.updating.specs.Delete.{naming_of, deleting, Deletes}
 use Rattle.updating.specs.Inner.Emptying.{slot_delete, are_numbers, Translated}
 
 -- as many names as there is room for

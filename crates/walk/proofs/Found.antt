@@ -1,5 +1,5 @@
 -- What a whole walk leaves in the words. Assumes nothing.
-use Prim.Native.Nat.{ℕ, ◌+◌, max, ◌<◌}
+use Prim.Native.Nat.{ℕ, max, ◌<◌}
 use mathlib.Core.Bool.{Bool, true, false}
 use mathlib.Core.Path.{◌≡◌, refl, ap, sym, ◌∙◌}
 use mathlib.Core.List.{List, []}

@@ -17,8 +17,8 @@ use Rattle.candidates.specs.Candidates.{Candidate, scored}
 use Rattle.candidates.specs.Inner.Words.{pair, cands, Outside}
 use Rattle.candidates.proofs.Words.{outside_none, outside_wide, outside_then}
 use Rattle.slots.specs.Scratch.{marks_at, work_at}
-use Rattle.slots.specs.Store.{Arrays, is_valid}
-use Rattle.slots.specs.Inner.Rows.{RowShape, ref_of, ref_at, live_from}
+use Rattle.slots.specs.Store.{Arrays}
+use Rattle.slots.specs.Inner.Rows.{RowShape, ref_at, live_from}
 use Rattle.slots.specs.declared.rows.Ref.{Ref}
 use Rattle.slots.specs.declared.rows.Ref.TheVariants.{At, Dead}
 use Rattle.slots.proofs.Places.{live_from_at, live_from_dead, ref_inside}

@@ -17,7 +17,6 @@ use Rattle.slots.specs.View.{View, live_neighbors}
 use Rattle.vectors.specs.Space.{query_distance}
 use Rattle.walk.specs.Walk.{State, unexpanded, worst, enter, ends, meet, expand, turn, turns, graph_search, search_pool}
 -- no name of it is used: the examples are checked first, so that they are the first to refuse a wrong definition
-use Rattle.walk.proofs.Cases
 use Rattle.candidates.proofs.Before.{before_before, before_other, before_apart}
 
 -- what holds of a candidate holds of those that are in the list after it enters

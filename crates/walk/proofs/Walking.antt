@@ -9,12 +9,12 @@ use borrow.Author.Tests.{eq-eqb, ne_eqb}
 use lib.ListN.{length, get_or, set}
 use Rattle.lists.specs.Lists.{All, foldl}
 use Rattle.lists.proofs.All.{all_map, all_both, all_take}
-use Rattle.candidates.specs.Candidates.{Candidate, before}
+use Rattle.candidates.specs.Candidates.{Candidate}
 use Rattle.candidates.specs.Inner.Words.{pair, cand, cands, Outside}
 use Rattle.candidates.proofs.Words.{cands_none, cands_length, cands_take, cands_split, cands_cons, cands_each, outside_none, outside_wide, outside_then}
 use Rattle.walk.specs.Walk.{State, unexpanded, enter, ends, meet, expand, turn, turns}
 use Rattle.walk.specs.Inner.Scratch.{mark_word, mark, put_mark, marks_of, state_of, Walkable, Scannable, Entered, Unexpanded, Next, Stepped}
-use Rattle.walk.proofs.Ordered.{all_enter, enter_ordered, enter_short, expanded}
+use Rattle.walk.proofs.Ordered.{all_enter, enter_ordered, enter_short}
 use Rattle.slots.specs.Scratch.{marks_at, work_at}
 use Rattle.walk.proofs.Marks.{put_mark_length, mark_cases, mark_kept, mark_at, marks_set, list_kept, outside_mark}
 

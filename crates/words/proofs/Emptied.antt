@@ -1,6 +1,6 @@
 -- Delete: what is written is what was answered, the words left hold the index, and the records are the stats. Assumes nothing.
 use Prim.Native.Nat.{ℕ, suc, ◌+◌, ◌*◌, ◌≤◌}
-use mathlib.Core.Bool.{Bool, true, not, ◌||◌}
+use mathlib.Core.Bool.{true, not, ◌||◌}
 use mathlib.Core.List.{List, [], ◌∷◌, map, map-append}
 use mathlib.Core.Option.{Option, none, some}
 use mathlib.Core.Path.{◌≡◌, refl, sym, ap, ◌∙◌, subst}
@@ -13,9 +13,9 @@ use Rattle.lists.specs.Lists.{filter, range, distinct_by, put_front}
 use Rattle.lists.proofs.Filter.{filter_length}
 use Rattle.lists.proofs.Alike.{self, sorted_many}
 use Rattle.lists.proofs.Ranges.{length_range}
-use Rattle.slots.specs.Sizes.{Slices, Lengths, lengths_of, limits, sizes_ok, alpha_ok, lengths_ok}
+use Rattle.slots.specs.Sizes.{Slices, lengths_of, limits, alpha_ok}
 use Rattle.slots.specs.Scratch.{size_answer}
-use Rattle.slots.specs.View.{View, live_slots, emptied}
+use Rattle.slots.specs.View.{View, emptied}
 use Rattle.slots.specs.Store.{Store, store_view, store_ops}
 use Rattle.slots.proofs.Live.{MarksFit, store_marking}
 use Rattle.repair.specs.Delete.{Stats, snapshot, delete_slots, delete_batch}
@@ -25,7 +25,7 @@ use Rattle.deletion.specs.Batch.{stats_at, stats_of, records_of, stats_in}
 use Rattle.deletion.proofs.Records.{records_are}
 use Rattle.calls.specs.Calls.{Delete, delete, Call, deleted, refused_as}
 use Rattle.calls.specs.Outputs.{room_of, written}
-use Rattle.calls.specs.Refusals.{Test, first_of, guard_fault, index_tests, tests}
+use Rattle.calls.specs.Refusals.{first_of, tests}
 use Rattle.calls.specs.State.{State, stored, shown, with_graph}
 use Rattle.calls.specs.Step.{named, deletion, perform}
 use Rattle.calls.specs.Runs.{lent_of, slices_of, call_of}

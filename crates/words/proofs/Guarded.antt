@@ -1,24 +1,21 @@
 -- The guard's calls: what is written is what was answered, and the words left hold the index. Assumes nothing.
 use Prim.Native.Nat.{ℕ}
-use mathlib.Core.Bool.{Bool, true, false, not, ◌||◌, cond}
+use mathlib.Core.Bool.{Bool, true, false, not, cond}
 use mathlib.Core.List.{List, [], ◌∷◌}
 use mathlib.Core.Option.{Option, none, some}
 use mathlib.Core.Path.{◌≡◌, refl, sym, ap, ◌∙◌, subst}
 use native.Mathlib.Omega.{arith}
-use borrow.Author.Tests.{not-false}
-use lib.Dec.{T, eqb, ltb}
-use lib.ListN.{length}
+use lib.Dec.{T}
 use lib.Ieee.{binary32, of_bits, nan_bits, is_nan, fits}
 use lib.Ieee.Bits.{of_bits-fits}
-use Rattle.slots.specs.Sizes.{Slices, Lengths, lengths_of, limits, sizes_ok, alpha_ok, lengths_ok}
-use Rattle.slots.specs.View.{View, live_slots}
+use Rattle.slots.specs.Sizes.{Slices, lengths_of, limits, alpha_ok}
 use Rattle.slots.specs.Store.{store_view, store_ops}
 use Rattle.guard.specs.Guard.{Config}
 use Rattle.admission.specs.declared.report.Report.{Report}
 use Rattle.calls.specs.Calls.{Assess, enable, Call, refused, standing, refused_as}
 use Rattle.calls.specs.Outputs.{Outputs, no_outputs}
-use Rattle.calls.specs.Refusals.{Test, first_of, guard_fault, index_tests, tests}
-use Rattle.calls.specs.State.{State, stored, shown, with_guard}
+use Rattle.calls.specs.Refusals.{first_of, tests}
+use Rattle.calls.specs.State.{stored, shown, with_guard}
 use Rattle.calls.specs.Step.{perform}
 use Rattle.calls.specs.Runs.{lent_of, slices_of, call_of}
 use Rattle.calls.proofs.Tests.{index_finds}

@@ -14,7 +14,6 @@ use Rattle.slots.specs.Sizes.{Slices, Lengths, limits, sizes_ok, alpha_ok}
 use Rattle.slots.specs.Scratch.{size_answer}
 use Rattle.slots.specs.Store.{Store, is_valid, vector_of, store_view, store_ops}
 use Rattle.calls.specs.Calls.{Making, Search, read, read_vector, search, Lent, Call, Answer, refused, created, number, alpha, version, vector, found, inserted, deleted, standing, assessed, applied, deferred, refused_as}
-use Rattle.calls.specs.Calls as Calls
 use Rattle.calls.specs.Outputs.{Outputs, no_outputs}
 use Rattle.calls.specs.Refusals.{Test, first_of, making_tests, index_tests, tests}
 use Rattle.calls.specs.State.{State, stored, view_of, shown, made}

@@ -1,4 +1,4 @@
-use Rattle.std.proofs.Common.{◌-◌, arith}
+use Rattle.std.proofs.Common.{arith}
 use Rattle.looks.proofs.same_bytes.Goals as goal
 
 pub overflow_cast-got : goal.overflow_cast-got

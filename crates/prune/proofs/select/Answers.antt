@@ -1,4 +1,3 @@
-use Prim.Native.Nat.{◌-◌}
 use mathlib.Core.Path.{refl}
 use Rattle.distances.proofs.Kept.{since_start, since_then}
 use Rattle.prune.proofs.Selecting.{first_threshold, scanning_none, scanning_more, passing_none, passing_more, passing_full, passing_last, passing_done, passing_given}

@@ -1,5 +1,4 @@
 use Rattle.candidates.specs.Quotient.{largest}
-use Prim.Native.Nat.{◌-◌}
 use native.Mathlib.Omega.{arith}
 use lib.ListN.{length-set}
 use Rattle.distances.proofs.Kept.{since_start, since_then}

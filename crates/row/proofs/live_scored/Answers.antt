@@ -15,9 +15,10 @@ slot_distance-dist-requires c = scoring_near c.loop-place.invariant c.requires.t
 pub loop-place-preserved : goal.loop-place-preserved
 loop-place-preserved c =
     elim c.match-r.branch [
-      in-At w ↦ rw (w.scratch-is, w.n-is, w.put.ensures)
-        (scoring_live c.loop-place.invariant c.requires.together c.requires.s_in_bounds.0 c.loop-place-test.true c.wide-slot.ensures (c.live_at-r.ensures _ _) w.in-At.is w.wide.ensures w.slot_distance-dist.ensures c.requires.s_in_bounds.1)
-    | in-Dead w ↦ rw (w.scratch-is, w.n-is) (scoring_dead c.loop-place.invariant c.requires.together c.requires.s_in_bounds.0 c.loop-place-test.true c.wide-slot.ensures (c.live_at-r.ensures _ _) w.in-Dead.is) ]
+      | in-At w ↦ rw (w.scratch-is, w.n-is, w.put.ensures)
+          (scoring_live c.loop-place.invariant c.requires.together c.requires.s_in_bounds.0 c.loop-place-test.true c.wide-slot.ensures (c.live_at-r.ensures _ _) w.in-At.is w.wide.ensures w.slot_distance-dist.ensures c.requires.s_in_bounds.1)
+      | in-Dead w ↦ rw (w.scratch-is, w.n-is) (scoring_dead c.loop-place.invariant c.requires.together c.requires.s_in_bounds.0 c.loop-place-test.true c.wide-slot.ensures (c.live_at-r.ensures _ _) w.in-Dead.is)
+    ]
 
 pub returns : goal.returns
 returns c = scoring_done c.loop-place.invariant c.loop-place-test.false

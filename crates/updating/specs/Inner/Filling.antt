@@ -1,5 +1,5 @@
 -- An insert's own tests, the index that it leaves by value, and its numbers. Assumes nothing.
-use Rattle.std.specs.Prelude.{ℕ, ◌+◌, ◌*◌, ◌/◌, ◌≤◌, ◌<◌, Bool, false, not, ◌||◌, List, [], ◌∷◌, ◌≡◌, eqb, ltb, length, take}
+use Rattle.std.specs.Prelude.{ℕ, ◌*◌, ◌/◌, ◌≤◌, ◌<◌, Bool, not, ◌||◌, List, [], ◌∷◌, ◌≡◌, eqb, ltb, length, take}
 use Rattle.lists.specs.Lists.{filter, range, elem}
 use Rattle.slots.specs.Sizes.{limits}
 use Rattle.slots.specs.Scratch.{size_answer}

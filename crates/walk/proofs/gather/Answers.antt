@@ -1,4 +1,3 @@
-use Prim.Native.Nat.{◌-◌}
 use mathlib.Core.Path.{◌≡◌, refl, ◌∙◌}
 use native.Mathlib.Omega.{arith}
 use Rattle.lists.proofs.Parts.{fits_in}
@@ -39,9 +38,14 @@ loop-place-preserved c =
     let h = c.loop-place-test.true in
     let s = c.requires.s_in_bounds in
     elim c.match-r.branch [
-      in-At w ↦ (omega (arith, h), rw w.fresh-is (added_length w.add-touched.ensures.0 ∙ v.1), rw (w.n-is, w.touched-is) (omega (arith, v.2, w.add-touched.ensures.1)),
-        rw (w.scratch-is, w.fresh-is, w.n-is) (gathers_new c.requires.row_shape.0 s.0 (omega (arith, h, s.2)) v.3 u w.in-At.is (omega (arith, v.1, v.3.few, h, s.3)) w.add-touched.ensures.0))
-    | in-Dead w ↦ (omega (arith, h), rw w.fresh-is v.1, rw (w.n-is, w.touched-is) v.2, rw (w.scratch-is, w.fresh-is, w.n-is) (gathers_pass c.requires.row_shape.0 s.0 (omega (arith, h, s.2)) v.3 u w.in-Dead.is)) ]
+      | in-At w ↦ (
+        omega (arith, h),
+        rw w.fresh-is (added_length w.add-touched.ensures.0 ∙ v.1),
+        rw (w.n-is, w.touched-is) (omega (arith, v.2, w.add-touched.ensures.1)),
+        rw (w.scratch-is, w.fresh-is, w.n-is) (gathers_new c.requires.row_shape.0 s.0 (omega (arith, h, s.2)) v.3 u w.in-At.is (omega (arith, v.1, v.3.few, h, s.3)) w.add-touched.ensures.0),
+      )
+      | in-Dead w ↦ (omega (arith, h), rw w.fresh-is v.1, rw (w.n-is, w.touched-is) v.2, rw (w.scratch-is, w.fresh-is, w.n-is) (gathers_pass c.requires.row_shape.0 s.0 (omega (arith, h, s.2)) v.3 u w.in-Dead.is))
+    ]
 
 pub overflow_add-result : goal.overflow_add-result
 overflow_add-result c = omega (arith, touched_none _ _ c.loop-place.invariant.2 (omega (arith, c.loop-place.invariant.0, c.loop-place.invariant.3.few, c.requires.s_in_bounds.3)), c.loop-place.invariant.0, c.loop-place.invariant.3.few)

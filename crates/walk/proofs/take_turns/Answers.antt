@@ -1,4 +1,3 @@
-use Prim.Native.Nat.{◌-◌}
 use mathlib.Core.Path.{◌∙◌}
 use native.Mathlib.Omega.{arith}
 use Rattle.walk.proofs.Walking.{walking_none, walking_out, walking_over, walking_more, below, moved_up, next_ready}

@@ -16,8 +16,9 @@ bounds-list-m c = omega (arith, c.if-m-count.false, c.loop-i.invariant.most, c.l
 pub loop-i-preserved : goal.loop-i-preserved
 loop-i-preserved c =
     elim c.if-stays.branch [
-      then-stays w ↦ rw (w.list-is, w.m-is) (keeping_take c.loop-i.invariant c.requires.0 c.requires.1 c.loop-i-test.true c.if-m-count.false refl c.stays.ensures w.if-stays.true)
-    | else-stays w ↦ rw (w.list-is, w.m-is) (keeping_skip c.loop-i.invariant c.requires.0 c.loop-i-test.true refl c.stays.ensures w.if-stays.false) ]
+      | then-stays w ↦ rw (w.list-is, w.m-is) (keeping_take c.loop-i.invariant c.requires.0 c.requires.1 c.loop-i-test.true c.if-m-count.false refl c.stays.ensures w.if-stays.true)
+      | else-stays w ↦ rw (w.list-is, w.m-is) (keeping_skip c.loop-i.invariant c.requires.0 c.loop-i-test.true refl c.stays.ensures w.if-stays.false)
+    ]
 
 pub returns : goal.returns
 returns c = keeping_done c.loop-i.invariant c.loop-i-test.false

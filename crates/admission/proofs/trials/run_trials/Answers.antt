@@ -33,11 +33,11 @@ loop-i-smaller c = omega (arith, c.loop-i-test.true)
 
 pub loop-i-preserved : goal.loop-i-preserved
 loop-i-preserved c = (
-      counting_next c.loop-i.invariant.0 c.requires.ids_value.1 c.loop-i-test.true c.reaches-before.ensures c.plus.ensures,
-      counting_next c.loop-i.invariant.1 c.requires.ids_value.1 c.loop-i-test.true c.reaches-after.ensures c.plus-in-loop-i.ensures,
-      losing_next c.loop-i.invariant.2 c.requires.ids_value.1 c.requires.ids_value.2 c.loop-i-test.true refl c.reaches-before.ensures c.reaches-after.ensures c.note_lost.ensures,
-      c.reaches-after.auto.scratch ∙ c.reaches-before.auto.scratch ∙ c.loop-i.invariant.3,
-    )
+  counting_next c.loop-i.invariant.0 c.requires.ids_value.1 c.loop-i-test.true c.reaches-before.ensures c.plus.ensures,
+  counting_next c.loop-i.invariant.1 c.requires.ids_value.1 c.loop-i-test.true c.reaches-after.ensures c.plus-in-loop-i.ensures,
+  losing_next c.loop-i.invariant.2 c.requires.ids_value.1 c.requires.ids_value.2 c.loop-i-test.true refl c.reaches-before.ensures c.reaches-after.ensures c.note_lost.ensures,
+  c.reaches-after.auto.scratch ∙ c.reaches-before.auto.scratch ∙ c.loop-i.invariant.3,
+)
 
 pub returns : goal.returns
 returns c = tried c.loop-i.invariant.2 c.loop-i.invariant.0 c.loop-i.invariant.1 c.loop-i-test.false

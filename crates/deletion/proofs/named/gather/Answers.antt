@@ -27,8 +27,9 @@ loop-k-smaller c = omega (arith, c.loop-k-test.true, c.requires)
 pub loop-k-preserved : goal.loop-k-preserved
 loop-k-preserved c =
     elim c.if-is_valid.branch [
-      then-is_valid w ↦ rw (w.scratch-is, w.n-is, w.put.ensures) (gathering_more c.loop-k.invariant c.loop-k-test.true c.wide.ensures c.is_valid.ensures w.if-is_valid.true c.requires)
-    | else-is_valid w ↦ rw (w.scratch-is, w.n-is) (gathering_skip c.loop-k.invariant c.loop-k-test.true c.wide.ensures c.is_valid.ensures w.if-is_valid.false) ]
+      | then-is_valid w ↦ rw (w.scratch-is, w.n-is, w.put.ensures) (gathering_more c.loop-k.invariant c.loop-k-test.true c.wide.ensures c.is_valid.ensures w.if-is_valid.true c.requires)
+      | else-is_valid w ↦ rw (w.scratch-is, w.n-is) (gathering_skip c.loop-k.invariant c.loop-k-test.true c.wide.ensures c.is_valid.ensures w.if-is_valid.false)
+    ]
 
 pub returns : goal.returns
 returns c = gathering_done c.loop-k.invariant c.loop-k-test.false

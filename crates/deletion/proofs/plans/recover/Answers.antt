@@ -34,8 +34,9 @@ loop-k-smaller c = omega (arith, c.loop-k-test.true)
 pub loop-k-preserved : goal.loop-k-preserved
 loop-k-preserved c =
     elim c.if-holds.branch [
-      then-holds w ↦ rw (w.scratch-is, w.m-is, w.put.ensures) (passing_more c.loop-k.invariant c.requires.apart c.requires.inside c.loop-k-test.true c.id_at-s.ensures (refers_by c.args.id c.args.degree c.args.targets.now c.args.edges.now c.args.versions.now c.wide.ensures (c.holds.ensures 0 [] []) w.if-holds.true))
-    | else-holds w ↦ rw (w.scratch-is, w.m-is) (passing_skip c.loop-k.invariant c.requires.apart c.loop-k-test.true c.id_at-s.ensures (refers_by c.args.id c.args.degree c.args.targets.now c.args.edges.now c.args.versions.now c.wide.ensures (c.holds.ensures 0 [] []) w.if-holds.false)) ]
+      | then-holds w ↦ rw (w.scratch-is, w.m-is, w.put.ensures) (passing_more c.loop-k.invariant c.requires.apart c.requires.inside c.loop-k-test.true c.id_at-s.ensures (refers_by c.args.id c.args.degree c.args.targets.now c.args.edges.now c.args.versions.now c.wide.ensures (c.holds.ensures 0 [] []) w.if-holds.true))
+      | else-holds w ↦ rw (w.scratch-is, w.m-is) (passing_skip c.loop-k.invariant c.requires.apart c.loop-k-test.true c.id_at-s.ensures (refers_by c.args.id c.args.degree c.args.targets.now c.args.edges.now c.args.versions.now c.wide.ensures (c.holds.ensures 0 [] []) w.if-holds.false))
+    ]
 
 pub returns : goal.returns
 returns c = passing_done c.loop-k.invariant c.requires.apart c.loop-k-test.false

@@ -11,8 +11,9 @@ returns-then-count-t c = naming_bad c.loop-i-test.true c.loop-i.invariant c.if-t
 pub loop-i-preserved : goal.loop-i-preserved
 loop-i-preserved c =
     elim c.if-t.branch [
-      then-t+else-count-t w ↦ naming_given c.loop-i-test.true c.loop-i.invariant w.if-t.true w.if-count-t.false
-    | else-t w ↦ naming_blank c.loop-i-test.true c.loop-i.invariant w.if-t.false ]
+      | then-t+else-count-t w ↦ naming_given c.loop-i-test.true c.loop-i.invariant w.if-t.true w.if-count-t.false
+      | else-t w ↦ naming_blank c.loop-i-test.true c.loop-i.invariant w.if-t.false
+    ]
 
 pub returns : goal.returns
 returns c = naming_done c.loop-i-test.false c.loop-i.invariant

@@ -3,7 +3,6 @@ use Rattle.insertion.proofs.Batching.{chunking_none, chunk_provided, chunk_assig
 use Rattle.insertion.proofs.ChunkRows.{provided_words}
 use native.Mathlib.Omega.{arith}
 use mathlib.Core.Path.{refl, ◌∙◌}
-use Prim.Native.Nat.{◌-◌}
 use Rattle.insertion.proofs.batch.insert_chunks.Goals as goal
 
 pub loop-from-init : goal.loop-from-init

@@ -1,5 +1,4 @@
 use Rattle.insertion.proofs.Chaining.{repeating_none, repeating_more, repeating_done}
-use Prim.Native.Nat.{◌-◌}
 use Rattle.insertion.proofs.chains.repeat.Goals as goal
 
 pub loop-i-init : goal.loop-i-init

@@ -1,5 +1,4 @@
 use Rattle.insertion.proofs.Chaining.{taking_none, taking_in, room_for, taking_more, taking_less, taking_done}
-use Prim.Native.Nat.{◌-◌}
 use native.Mathlib.Omega.{arith}
 use Rattle.insertion.proofs.chains.take_incoming.Goals as goal
 

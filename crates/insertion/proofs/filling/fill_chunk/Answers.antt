@@ -1,6 +1,5 @@
 use Rattle.insertion.proofs.Filled.{filled_none, fill_vector, fill_slot, filled_more, filled_done}
 use native.Mathlib.Omega.{arith}
-use Prim.Native.Nat.{◌-◌}
 use Rattle.insertion.proofs.filling.fill_chunk.Goals as goal
 
 pub loop-i-init : goal.loop-i-init

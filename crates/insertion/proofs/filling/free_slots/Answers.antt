@@ -1,6 +1,5 @@
 use Rattle.insertion.proofs.Filled.{gathering_none, gathering_room, gathering_more, gathering_full, gathering_done}
 use native.Mathlib.Omega.{arith}
-use Prim.Native.Nat.{◌-◌}
 use Rattle.insertion.proofs.filling.free_slots.Goals as goal
 
 pub loop-s-init : goal.loop-s-init

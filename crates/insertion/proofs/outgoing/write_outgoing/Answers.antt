@@ -1,6 +1,5 @@
 use Rattle.insertion.proofs.OwnRows.{outgoing_none, outgoing_end, outgoing_after, outgoing_fits, outgoing_more, outgoing_done}
 use native.Mathlib.Omega.{arith}
-use Prim.Native.Nat.{◌-◌}
 use Rattle.insertion.proofs.outgoing.write_outgoing.Goals as goal
 
 pub loop-i-init : goal.loop-i-init

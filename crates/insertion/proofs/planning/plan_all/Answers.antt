@@ -1,7 +1,6 @@
 use Rattle.insertion.proofs.Plans.{laid_none, next_vector, next_ready, next_plannable, laid_more, laid_done}
 use native.Mathlib.Omega.{arith}
 use mathlib.Core.Path.{refl}
-use Prim.Native.Nat.{◌-◌}
 use Rattle.insertion.proofs.planning.plan_all.Goals as goal
 
 pub loop-i-init : goal.loop-i-init

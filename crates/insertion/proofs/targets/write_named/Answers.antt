@@ -1,6 +1,5 @@
 use Rattle.insertion.proofs.Targeting.{sweeping_none, sweep_asks, sweeping_more, sweeping_done}
 use native.Mathlib.Omega.{arith}
-use Prim.Native.Nat.{◌-◌}
 use Rattle.insertion.proofs.targets.write_named.Goals as goal
 
 pub loop-i-init : goal.loop-i-init

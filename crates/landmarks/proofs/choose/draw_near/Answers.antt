@@ -30,8 +30,9 @@ overflow_add-m c = omega (arith, c.requires.0.room, c.loop-k.invariant.within)
 pub loop-k-preserved : goal.loop-k-preserved
 loop-k-preserved c =
     elim c.if-id-next.branch [
-      then-id-next w ↦ rw (w.words-is, w.m-is, w.put.ensures) (drawing_take c.loop-k.invariant c.requires.0.room c.loop-k-test.true c.dist_at-dist.ensures c.id_at-id.ensures w.if-id-next.true w.wide.ensures w.wide-then-id-next.ensures w.slot_distance-d.ensures w.lesser.ensures)
-    | else-id-next w ↦ rw (w.words-is, w.m-is) (drawing_skip c.loop-k.invariant c.loop-k-test.true c.id_at-id.ensures w.if-id-next.false) ]
+      | then-id-next w ↦ rw (w.words-is, w.m-is, w.put.ensures) (drawing_take c.loop-k.invariant c.requires.0.room c.loop-k-test.true c.dist_at-dist.ensures c.id_at-id.ensures w.if-id-next.true w.wide.ensures w.wide-then-id-next.ensures w.slot_distance-d.ensures w.lesser.ensures)
+      | else-id-next w ↦ rw (w.words-is, w.m-is) (drawing_skip c.loop-k.invariant c.loop-k-test.true c.id_at-id.ensures w.if-id-next.false)
+    ]
 
 pub returns : goal.returns
 returns c = drawing_done c.loop-k.invariant c.loop-k-test.false

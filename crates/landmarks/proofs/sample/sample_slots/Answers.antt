@@ -30,8 +30,9 @@ overflow_add-s c = omega (arith, c.requires.0)
 pub loop-s-preserved : goal.loop-s-preserved
 loop-s-preserved c =
     elim c.if-is_sampled.branch [
-      then-is_sampled w ↦ rw (w.words-is, w.m-is, w.put.ensures) (sampling_take c.loop-s.invariant c.requires.3 c.loop-s-test.true c.is_sampled.ensures w.if-is_sampled.true w.narrow.ensures)
-    | else-is_sampled w ↦ rw (w.words-is, w.m-is) (sampling_skip c.loop-s.invariant c.loop-s-test.true c.is_sampled.ensures w.if-is_sampled.false) ]
+      | then-is_sampled w ↦ rw (w.words-is, w.m-is, w.put.ensures) (sampling_take c.loop-s.invariant c.requires.3 c.loop-s-test.true c.is_sampled.ensures w.if-is_sampled.true w.narrow.ensures)
+      | else-is_sampled w ↦ rw (w.words-is, w.m-is) (sampling_skip c.loop-s.invariant c.loop-s-test.true c.is_sampled.ensures w.if-is_sampled.false)
+    ]
 
 pub returns : goal.returns
 returns c = sampling_done c.loop-s.invariant c.loop-s-test.false

@@ -21,8 +21,9 @@ loop-i-smaller c = omega (arith, c.loop-i-test.true)
 pub loop-i-preserved : goal.loop-i-preserved
 loop-i-preserved c =
     elim c.if-dist_at.branch [
-      then-dist_at w ↦ rw w.best-is (nearing_take c.loop-i.invariant c.loop-i-test.true c.dist_at.ensures c.dist_at-in-loop-i.ensures w.if-dist_at.true)
-    | else-dist_at w ↦ rw w.best-is (nearing_keep c.loop-i.invariant c.loop-i-test.true c.dist_at.ensures c.dist_at-in-loop-i.ensures w.if-dist_at.false) ]
+      | then-dist_at w ↦ rw w.best-is (nearing_take c.loop-i.invariant c.loop-i-test.true c.dist_at.ensures c.dist_at-in-loop-i.ensures w.if-dist_at.true)
+      | else-dist_at w ↦ rw w.best-is (nearing_keep c.loop-i.invariant c.loop-i-test.true c.dist_at.ensures c.dist_at-in-loop-i.ensures w.if-dist_at.false)
+    ]
 
 pub returns : goal.returns
 returns c = nearing_done c.loop-i.invariant c.loop-i-test.false

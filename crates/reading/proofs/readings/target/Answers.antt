@@ -24,8 +24,9 @@ loop-at-smaller c = omega (arith, c.loop-at-test.true)
 pub loop-at-preserved : goal.loop-at-preserved
 loop-at-preserved c =
     elim c.match-found.branch [
-      in-At+else-left-eq0 w ↦ rw w.left-is (omega (arith, c.loop-at.invariant.0), finding_more c.requires c.if-marks-s.false c.loop-at-test.true c.live_at-found.ensures c.loop-at.invariant.1 w.in-At.is w.if-left-eq0.false)
-    | in_default w ↦ rw w.left-is (c.loop-at.invariant.0, finding_dead c.requires c.if-marks-s.false c.loop-at-test.true c.live_at-found.ensures c.loop-at.invariant.1 w.in_default.is) ]
+      | in-At+else-left-eq0 w ↦ rw w.left-is (omega (arith, c.loop-at.invariant.0), finding_more c.requires c.if-marks-s.false c.loop-at-test.true c.live_at-found.ensures c.loop-at.invariant.1 w.in-At.is w.if-left-eq0.false)
+      | in_default w ↦ rw w.left-is (c.loop-at.invariant.0, finding_dead c.requires c.if-marks-s.false c.loop-at-test.true c.live_at-found.ensures c.loop-at.invariant.1 w.in_default.is)
+    ]
 
 pub returns : goal.returns
 returns c = finding_end c.loop-at-test.false c.loop-at.invariant.1

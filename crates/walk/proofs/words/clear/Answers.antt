@@ -1,4 +1,3 @@
-use Prim.Native.Nat.{◌-◌}
 use native.Mathlib.Omega.{arith}
 use Rattle.walk.proofs.Marks.{clearing_none, clearing_more, clearing_done}
 use Rattle.walk.proofs.words.clear.Goals as goal

@@ -1,4 +1,3 @@
-use Prim.Native.Nat.{◌-◌}
 use native.Mathlib.Omega.{arith}
 use Rattle.walk.proofs.Marks.{leaving_none, leaving_slot, leaving_other, leaving_done}
 use Rattle.walk.proofs.words.leave_out.Goals as goal
@@ -13,8 +12,9 @@ set_mark-requires c = omega (arith, c.if-s-capacity.true, c.loop-i.invariant.1.s
 pub loop-i-preserved : goal.loop-i-preserved
 loop-i-preserved c =
     elim c.if-s-capacity.branch [
-      then-s-capacity w ↦ (omega arith, rw (w.scratch-is, w.set_mark.ensures) (leaving_slot c.loop-i.invariant.1 c.loop-i-test.true c.wide-s.ensures c.requires w.if-s-capacity.true))
-    | else-s-capacity w ↦ (omega arith, rw w.scratch-is (leaving_other c.loop-i.invariant.1 c.loop-i-test.true c.wide-s.ensures c.requires w.if-s-capacity.false)) ]
+      | then-s-capacity w ↦ (omega arith, rw (w.scratch-is, w.set_mark.ensures) (leaving_slot c.loop-i.invariant.1 c.loop-i-test.true c.wide-s.ensures c.requires w.if-s-capacity.true))
+      | else-s-capacity w ↦ (omega arith, rw w.scratch-is (leaving_other c.loop-i.invariant.1 c.loop-i-test.true c.wide-s.ensures c.requires w.if-s-capacity.false))
+    ]
 
 pub returns : goal.returns
 returns c = leaving_done c.loop-i.invariant.1 c.loop-i-test.false

@@ -1,8 +1,8 @@
-use Prim.Native.Nat.{◌-◌, ◌<◌}
+use Prim.Native.Nat.{◌<◌}
 use lib.ListN.{length}
 use native.Mathlib.Omega.{arith}
 use Rattle.candidates.proofs.Words.{cands_each}
-use Rattle.walk.specs.Inner.Scratch.{mark_word, mark}
+use Rattle.walk.specs.Inner.Scratch.{mark_word}
 use Rattle.walk.proofs.Entering.{scan_more, scan_found, scan_none}
 use Rattle.walk.proofs.words.unexpanded.Goals as goal
 
