@@ -1,3 +1,2 @@
 // The definition of `delete_batch`; its code is in the crates `links` and `deletion`.
 #![tactic(auto)]
-
