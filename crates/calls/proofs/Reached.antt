@@ -22,7 +22,7 @@ use Rattle.guard.specs.Guard.{Report}
 use Rattle.calls.specs.Calls.{Making, Delete, Operation, create, read, read_vector, search, insert, delete, enable, status, assess, guarded_delete, Lent, Call}
 use Rattle.calls.specs.Refusals.{first_of, making_tests, tests, names_given}
 use Rattle.calls.specs.State.{State, stored, plain, shown, made, with_graph, with_guard}
-use Rattle.calls.specs.Step.{vectors_of, report_of, named as NamedBy, deletion, guarded, perform, refusal, settle, step}
+use Rattle.calls.specs.Step.{vectors_of, report_of, named as named_by, deletion, guarded, perform, refusal, settle, step}
 use Rattle.calls.specs.History.{log_after, Within}
 use Rattle.calls.specs.Reached.{views, AlwaysReached}
 use Rattle.calls.proofs.Tests.{accepted, given_named}
@@ -82,7 +82,7 @@ module _ (lent : Lent) (m : Making) (acc : first_of (making_tests limits lent.sl
 
 guarded_reached : (p : State View) (a : Delete) (r : Report) (q : Bool) → Reached p.graph → Reached (guarded plain p a r q).0.graph
 unfolding guarded deletion with_graph plain
-guarded_reached p a r true h = reached_delete a.repair_beam a.repair_degree p.graph (NamedBy p a) h
+guarded_reached p a r true h = reached_delete a.repair_beam a.repair_degree p.graph (named_by p a) h
 guarded_reached p a r false h = h
 
 perform_reached : (p : State View) (lent : Lent) (o : Operation) → refusal plain p (record { lent = lent; operation = o }) ≡ none → Reached p.graph
@@ -93,11 +93,11 @@ perform_reached p lent (read q) acc h = h
 perform_reached p lent (read_vector s) acc h = h
 perform_reached p lent (search a) acc h = h
 perform_reached p lent (insert a) acc h = reached_insert a.beam p.graph (vectors_of p.graph.sizes.dim a.bytes) h
-perform_reached p lent (delete a) acc h = reached_delete a.repair_beam a.repair_degree p.graph (NamedBy p a) h
+perform_reached p lent (delete a) acc h = reached_delete a.repair_beam a.repair_degree p.graph (named_by p a) h
 perform_reached p lent (enable c) acc h = h
 perform_reached p lent status acc h = h
 perform_reached p lent (assess a) acc h = h
-perform_reached p lent (guarded_delete a) acc h = let r = report_of (shown plain p) (NamedBy p a) in guarded_reached p a r r.admitted h
+perform_reached p lent (guarded_delete a) acc h = let r = report_of (shown plain p) (named_by p a) in guarded_reached p a r r.admitted h
 
 step_reached : (p : State View) (c : Call) → Reached p.graph → Reached (step plain p c).0.graph
 unfolding step settle

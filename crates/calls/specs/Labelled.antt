@@ -8,7 +8,7 @@ use Rattle.slots.specs.Store.{Store}
 use Rattle.numbers.specs.Numbers.{number_of, labels_ok, Labelled}
 use Rattle.calls.specs.Calls.{Making, read_number, Insert, of_slots, of_numbers, Delete, Operation, create, read, read_vector, search, insert, delete, enable, status, assess, guarded_delete, Lent, Call, Answer, refused, created, number, alpha, version, vector, found, inserted, deleted, standing, assessed, applied, deferred}
 use Rattle.calls.specs.State.{State, stored, view_of}
-use Rattle.calls.specs.Step.{slots_of, named as NamedBy, perform, refusal, step}
+use Rattle.calls.specs.Step.{slots_of, named as named_by, perform, refusal, step}
 use Rattle.calls.specs.Runs.{slices_of}
 
 -- the rules hold of an index
@@ -18,7 +18,7 @@ Rules w = let v = view_of stored w in Labelled v.live v.sizes.capacity w.numbers
 -- ---- a delete of numbers is the delete of the slots that carry them
 
 abbrev pub by_slots : State Store → Delete → Delete
-by_slots w a = record { names = NamedBy w a; naming = of_slots; repair_beam = a.repair_beam; repair_degree = a.repair_degree }
+by_slots w a = record { names = named_by w a; naming = of_slots; repair_beam = a.repair_beam; repair_degree = a.repair_degree }
 
 -- ---- the base, which knows no numbers
 

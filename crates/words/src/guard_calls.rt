@@ -2,7 +2,7 @@
 ghost use Rattle.std.specs.Prelude.{not, ◌≡◌, T};
 ghost use Rattle.std.specs.Float.Ieee.{is_nan};
 ghost use Rattle.index.specs.declared.Index.{Index};
-ghost use Rattle.guarding.specs.declared.Status as Guard-status;
+ghost use Rattle.guarding.specs.declared.Status as GuardStatus;
 ghost use Rattle.guarding.specs.declared.Enabled.TheVariants.{Enabled as EnabledWith};
 ghost use Rattle.guarding.specs.Guarding.{status_of};
 ghost use Rattle.words.specs.GuardWords.{flag, status_words, report_words};
@@ -63,7 +63,7 @@ pub fn put_status(answer: Standing, status: &mut [u32; 5]) -> u32
 
 // Writes the words of an index whose guard was enabled, and the guard's status.
 pub fn put_enabled(answer: Enabled, words: &mut [u32; 12], status: &mut [u32; 5]) -> u32
-    requires { (i : Index) (s : Guard-status.Status) → answer ≡ EnabledWith i s → T (not (is_nan i.alpha)) }
+    requires { (i : Index) (s : GuardStatus.Status) → answer ≡ EnabledWith i s → T (not (is_nan i.alpha)) }
     ensures { (result, words.new, status.new) ≡ enabled_put answer words.old status.old }
 {
     match answer {
