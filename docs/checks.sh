@@ -1,7 +1,6 @@
 #!/bin/sh
-# Prints the table of docs/CHECKS.md: for each crate its lines of definitions, inner contracts, code and proof, its must-fail edits, the seconds of its
-# proof in a run from nothing, and what its edits cost at that, each edit being a check of the whole crate. A line that is blank or only a comment is not
-# counted. docs/checks.sh LOG takes the seconds from what an earlier run left in target/checks.log; without it, all is proved first, one crate after the other
+# Prints the table of docs/CHECKS.md: for each crate its lines of definitions, inner contracts, code and proof, its must-fail edits, and the seconds of its
+# proof in a run from nothing. A line that is blank or only a comment is not counted. docs/checks.sh LOG takes the seconds from what an earlier run left in target/checks.log; without it, all is proved first, one crate after the other
 # (needs the Rattle kit).
 set -eu
 if [ $# -gt 0 ]; then out=$(realpath "$1"); fi
@@ -31,14 +30,14 @@ seconds() {
 }
 
 {
-    sed 's/#.*//' crates.txt | awk -F: 'NF > 1 { gsub(/[ \t]/, "", $1); print $1 }' | while read -r name; do
+    sed 's/#.*//' crates.txt | awk -F: 'NF > 1 { split($1, word, " "); print word[1] }' | while read -r name; do
         crate=crates/$name
         echo "$name $(lines "$crate/specs" antt -- -maxdepth 1) $(lines "$crate/specs/Inner" antt --) $(lines "$crate/src" rt //) $(lines "$crate/proofs" antt --) $(edits "$crate/must-fail") $(seconds "$name")"
     done
 } | awk '
     BEGIN {
-        print "| crate | definitions (lines) | inner contracts (lines) | code (lines) | proofs (lines) | must-fail edits | proof (s) | edits (s) |"
-        print "|-|-:|-:|-:|-:|-:|-:|-:|"
+        print "| crate | definitions (lines) | inner contracts (lines) | code (lines) | proofs (lines) | must-fail edits | proof (s) |"
+        print "|-|-:|-:|-:|-:|-:|-:|"
     }
-    { cost = $6 * $7; print "| `" $1 "` | " $2 " | " $3 " | " $4 " | " $5 " | " $6 " | " $7 " | " cost " |"; for (i = 2; i <= 7; i++) sum[i] += $i; all += cost }
-    END { print "| all | " sum[2] + 0 " | " sum[3] + 0 " | " sum[4] + 0 " | " sum[5] + 0 " | " sum[6] + 0 " | " sum[7] + 0 " | " all + 0 " |" }'
+    { print "| `" $1 "` | " $2 " | " $3 " | " $4 " | " $5 " | " $6 " | " $7 " |"; for (i = 2; i <= 7; i++) sum[i] += $i }
+    END { print "| all | " sum[2] + 0 " | " sum[3] + 0 " | " sum[4] + 0 " | " sum[5] + 0 " | " sum[6] + 0 " | " sum[7] + 0 " |" }'
