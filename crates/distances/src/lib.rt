@@ -13,12 +13,9 @@ use vectors::vector;
 fn squared_difference(x: u8, y: u8) -> u32
     ensures { (result ≡ squared_difference x y) × (result ≤ 65025) }
 {
-    if x < y {
-        let d = (y - x) as u32;
-        return d * d;
-    }
-    let d = (x - y) as u32;
-    d * d
+    let d = if x < y { y - x } else { x - y };
+    let wide = d as u32;
+    wide * wide
 }
 
 // The sum of four squared differences, from place `i` on.
