@@ -34,16 +34,15 @@ entered marks ids entry {r} e f = record { does = λ b x y z. e ∙ ap (λ (n : 
 
 -- ---- no slot before s stays
 pub record Passing (p : ℕ → Bool) (n s : ℕ) : Type 0 where
-  pub bound : s ≤ n
   pub goes : filter p (range s (n - s)) ≡ filter p (range 0 n)
 
 pub passing_none : (p : ℕ → Bool) (n : ℕ) → Passing p n 0
-passing_none p n = let e : n - 0 ≡ n = omega arith in record { bound = omega arith; goes = rw e }
+passing_none p n = let e : n - 0 ≡ n = omega arith in record { goes = rw e }
 
-pub passing_more : {p : ℕ → Bool} {n s : ℕ} → Passing p n s → {id : ℕ} {t : Bool} → s < n → id ≡ s → t ≡ p id → t ≡ false → Passing p n (s + 1)
-passing_more {p} {n} {s} f {id} {t} h i v e =
-    let g : p s ≡ false = rw (← i) (sym v ∙ e) in
-    record { bound = omega arith; goes = rw (range_cons n s h, g) at f.goes }
+pub passing_more : {p : ℕ → Bool} {n s : ℕ} → Passing p n s → {t : Bool} → s < n → t ≡ p s → t ≡ false → Passing p n (s + 1)
+passing_more {p} {n} {s} f h v e =
+    let g : p s ≡ false = sym v ∙ e in
+    record { goes = rw (range_cons n s h, g) at f.goes }
 
 -- ---- what is found
 module _ (marks ids : List ℕ) (entry : ℕ) {u : Bool} (v : u ≡ remains marks ids entry) where
@@ -55,12 +54,11 @@ module _ (marks ids : List ℕ) (entry : ℕ) {u : Bool} (v : u ≡ remains mark
     not_kept : remains marks ids entry ≡ false
     not_kept = sym v ∙ gone
 
-    pub passing_found : {id : ℕ} {t : Bool} → s < length marks → id ≡ s → t ≡ remains marks ids id → t ≡ true → Entered marks ids entry id
+    pub passing_found : {t : Bool} → s < length marks → t ≡ remains marks ids s → t ≡ true → Entered marks ids entry s
     unfolding entry_by
-    passing_found {id} {t} h i x e =
-        let g : remains marks ids id ≡ true = sym x ∙ e in
-        let k : remains marks ids s ≡ true = rw (← i) g in
-        entered marks ids entry (i ∙ rw (not_kept, ← f.goes, range_cons (length marks) s h, k)) (λ _. g)
+    passing_found h x e =
+        let k : remains marks ids s ≡ true = sym x ∙ e in
+        entered marks ids entry (rw (not_kept, ← f.goes, range_cons (length marks) s h, k)) (λ _. k)
 
     pub passing_done : length marks ≤ s → Entered marks ids entry 4294967295
     unfolding entry_by

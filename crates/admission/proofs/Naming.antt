@@ -1,5 +1,5 @@
 -- How many slots the live ones of some ids are: each is counted where it stands first. Assumes nothing.
-use Prim.Native.Nat.{ℕ, ◌+◌, ◌-◌, ◌≤◌, ◌<◌}
+use Prim.Native.Nat.{ℕ, ◌+◌, ◌≤◌, ◌<◌}
 use mathlib.Core.Bool.{Bool, true, false, not, ◌&&◌, ◌||◌, cond}
 use mathlib.Core.Path.{◌≡◌, refl, ap, ◌∙◌}
 use mathlib.Core.List.{List, [], ◌∷◌, ◌++◌, map, map-id, append-nil}
@@ -9,6 +9,7 @@ use borrow.Author.Tests.{eqb-true}
 use lib.Dec.{eqb}
 use lib.ListN.{length, take, drop, get_or, drop_of_length-le}
 use lib.Seq.{take-suc, drop-cons}
+use Rattle.std.specs.Int.{from_bool}
 use Rattle.lists.specs.Lists.{filter, elem, distinct_by, sorted_set}
 use Rattle.lists.proofs.Alike.{self, sorted_many}
 use Rattle.lists.proofs.Filter.{filter_every}
@@ -16,19 +17,18 @@ use Rattle.lists.proofs.Filtered.{filter_snoc}
 use Rattle.lists.proofs.Firsts.{filter_same, fresh, fresh_first, fresh_again}
 use Rattle.lists.proofs.Members.{elem_filter}
 use Rattle.lists.proofs.Unique.{elem_snoc, or-false}
-use Rattle.admission.proofs.Pooling.{one_few}
+use Rattle.admission.proofs.Pooling.{one_of, one_few}
 
 -- ---- of the ids before place i, those with p are c different ones
 abbrev met : (ℕ → Bool) → List ℕ → ℕ → List ℕ
 met p ids i = filter p (take i ids)
 
 pub record Naming (p : ℕ → Bool) (ids : List ℕ) (c i : ℕ) : Type 0 where
-  pub bound : i ≤ length ids
   pub few : c ≤ i
   pub goes : c + length (fresh self (met p ids i) (distinct_by self (filter p (drop i ids)))) ≡ length (distinct_by self (filter p ids))
 
 pub naming_none : (p : ℕ → Bool) (ids : List ℕ) → Naming p ids 0 0
-naming_none p ids = record { bound = omega arith; few = omega arith; goes = rw (filter_every (distinct_by self (filter p ids))) (omega arith) }
+naming_none p ids = record { few = omega arith; goes = rw (filter_every (distinct_by self (filter p ids))) (omega arith) }
 
 met_more : (p : ℕ → Bool) (ids : List ℕ) (i : ℕ) → i < length ids → met p ids (i + 1) ≡ met p ids i ++ cond (p (get_or ids i 0)) (get_or ids i 0 ∷ []) []
 met_more p ids i h = rw (add-one, take-suc ids i 0 h) (filter_snoc p (take i ids) (get_or ids i 0))
@@ -73,16 +73,13 @@ module _ {p : ℕ → Bool} {ids : List ℕ} {c i : ℕ} (f : Naming p ids c i) 
       go false q =
           rw k (omega (arith, was, ap length (fresh_first self (met p ids i) (get_or ids i 0) (filter p (drop (i + 1) ids)) (among false q))))
 
-  -- the id at place i is tested against the part from 0 up to i
-  pub naming_next : {t : Bool} {c' : ℕ} → i < length ids → t ≡ (p (get_or ids i 0) && not (elem (get_or ids i 0) (take (i - 0) ids))) → c' ≡ c + cond t 1 0 → Naming p ids c' (i + 1)
-  naming_next {t} {c'} h v g =
-      let z : i - 0 ≡ i = omega arith in
-      let e : t ≡ (p (get_or ids i 0) && not (elem (get_or ids i 0) (take i ids))) = rw z at v in
-      record {
-        bound = omega arith;
-        few = one_few t f.few g;
-        goes = rw (g, e) (naming_by h (p (get_or ids i 0)) (elem (get_or ids i 0) (take i ids)) refl refl);
-      }
+  -- the id at place i is tested against those before it
+  pub naming_next : {t : Bool} {k : ℕ} → i < length ids → t ≡ (p (get_or ids i 0) && not (elem (get_or ids i 0) (take i ids))) → k ≡ from_bool t → Naming p ids (c + k) (i + 1)
+  naming_next {t} h e g =
+      rw g (record {
+        few = one_few t f.few;
+        goes = rw (one_of t, e) (naming_by h (p (get_or ids i 0)) (elem (get_or ids i 0) (take i ids)) refl refl);
+      })
 
   pub naming_done : length ids ≤ i → c ≡ length (sorted_set (filter p ids))
   naming_done h =

@@ -5,12 +5,15 @@ use mathlib.Core.Path.{◌≡◌, refl, ap, sym, ◌∙◌}
 use mathlib.Core.List.{List, [], ◌∷◌, ◌++◌, append_assoc, append-nil}
 use native.Mathlib.Omega.{arith}
 use native.Mathlib.Nat.{mul-le-mul, mul-suc}
-use lib.ListN.{length, take, drop, get_or, set, length-append, length-set}
+use native.Mathlib.Numerals.{add-one}
+use lib.ListN.{length, take, drop, get_or, set, length-append, length-set, drop_of_length-le}
+use lib.Seq.{drop-cons, take-nil}
+use Rattle.std.specs.Int.{from_bool}
 use Rattle.lists.specs.Lists.{filter, put_front}
 use Rattle.lists.proofs.Filtered.{count_cons}
 use Rattle.lists.proofs.Front.{front_snoc}
-use Rattle.lists.proofs.Taking.{left_cons, left_none}
 use Rattle.vectors.specs.Space.{slot_distance, space}
+use Rattle.vectors.specs.declared.Space as lent
 use Rattle.slots.specs.Scratch.{size_answer}
 use Rattle.slots.specs.View.{emptied}
 use Rattle.slots.specs.Store.{Store, store_view}
@@ -31,10 +34,10 @@ module _ {dim : ℕ} {vectors marks : List ℕ} {entry count multiplier sample :
   pub wanted_most : count * multiplier ≤ 1024
   wanted_most = mul-le-mul f.count_most f.multiplier_most
 
-  pub pool_selectable : {wanted : ℕ} → wanted ≡ count * multiplier → Selectable dim vectors marks entry wanted sample pool 0 w
-  pool_selectable e =
+  pub pool_selectable : {space : lent.Space} → space.dim ≡ dim → space.vectors.now ≡ vectors → {wanted : ℕ} → wanted ≡ count * multiplier → Selectable space marks entry wanted sample pool 0 w
+  pool_selectable d v e =
       record {
-        bytes = f.bytes;
+        bytes = rw (d, v) f.bytes;
         few = f.few;
         references = record { within = omega arith; inside = tt; entry_inside = f.entry_inside };
         wanted_most = omega (arith, e, wanted_most);
@@ -67,76 +70,74 @@ module _ {dim : ℕ} {vectors marks : List ℕ} {entry count multiplier sample :
         few = omega (arith, k.count, landmarks_few (slot_distance (space dim vectors)) (remains marks []) (length marks) entry (count * multiplier) sample [], wanted_most);
       }
 
--- ---- a test among the first n of a list: c of those before place i pass it
-pub record Counting (p : ℕ → Bool) (l : List ℕ) (n c i : ℕ) : Type 0 where
-  pub bound : i ≤ n
+-- ---- a test among the elements of a list: c of those before place i pass it
+pub record Counting (p : ℕ → Bool) (l : List ℕ) (c i : ℕ) : Type 0 where
   pub few : c ≤ i
-  pub goes : c + length (filter p (drop i (take n l))) ≡ length (filter p (take n l))
+  pub goes : c + length (filter p (drop i l)) ≡ length (filter p l)
 
-pub counting_none : (p : ℕ → Bool) (l : List ℕ) (n : ℕ) → Counting p l n 0 0
-counting_none p l n = record { bound = omega arith; few = omega arith; goes = omega arith }
+pub counting_none : (p : ℕ → Bool) (l : List ℕ) → Counting p l 0 0
+counting_none p l = record { few = omega arith; goes = omega arith }
 
--- one more at most
-pub one_few : (t : Bool) {c c' i : ℕ} → c ≤ i → c' ≡ c + cond t 1 0 → c' ≤ i + 1
-one_few true h g = omega arith
-one_few false h g = omega arith
+-- one more where a test holds
+pub one_of : (t : Bool) → from_bool t ≡ cond t 1 0
+one_of true = refl
+one_of false = refl
 
-module _ {p : ℕ → Bool} {l : List ℕ} {n c i : ℕ} (f : Counting p l n c i) where
-  pub counting_next : {c' : ℕ} {t : Bool} → n ≤ length l → i < n → t ≡ p (get_or l i 0) → c' ≡ c + cond t 1 0 → Counting p l n c' (i + 1)
-  counting_next {c'} {t} h k e g =
-      let a : length (filter p (drop i (take n l))) ≡ cond t 1 0 + length (filter p (drop (i + 1) (take n l))) = rw (left_cons l n i h k, e) (count_cons p (get_or l i 0) (drop (i + 1) (take n l))) in
-      record { bound = omega arith; few = one_few t f.few g; goes = omega (arith, f.goes, a, g) }
+pub one_few : (t : Bool) {c i : ℕ} → c ≤ i → c + from_bool t ≤ i + 1
+one_few true h = omega arith
+one_few false h = omega arith
 
-  pub counting_done : n ≤ i → c ≡ length (filter p (take n l))
-  counting_done h = omega (arith, rw (left_none l n i h) at f.goes)
+pub next_one : (l : List ℕ) (i : ℕ) → i < length l → drop i l ≡ get_or l i 0 ∷ drop (i + 1) l
+next_one l i h = rw (add-one, drop-cons l i 0 h)
 
--- ---- of the first n of a pool those with p, `count` at most: i are looked at, m of them kept
-pub record Keeping (p : ℕ → Bool) (pool : List ℕ) (n count : ℕ) (l₀ l : List ℕ) (m i : ℕ) : Type 0 where
-  pub bound : i ≤ n
+module _ {p : ℕ → Bool} {l : List ℕ} {c i : ℕ} (f : Counting p l c i) where
+  pub counting_next : {t : Bool} {k : ℕ} → i < length l → t ≡ p (get_or l i 0) → k ≡ from_bool t → Counting p l (c + k) (i + 1)
+  counting_next {t} {k} h e g =
+      let a : length (filter p (drop i l)) ≡ from_bool t + length (filter p (drop (i + 1) l)) = rw (next_one l i h, one_of t, e) (count_cons p (get_or l i 0) (drop (i + 1) l)) in
+      rw g (record { few = one_few t f.few; goes = omega (arith, f.goes, a) })
+
+  pub counting_done : length l ≤ i → c ≡ length (filter p l)
+  counting_done h = omega (arith, rw (drop_of_length-le l h) at f.goes)
+
+-- ---- of a pool those with p, `count` at most: i are looked at, m of them kept
+pub record Keeping (p : ℕ → Bool) (pool : List ℕ) (count : ℕ) (l₀ l : List ℕ) (m i : ℕ) : Type 0 where
   pub most : m ≤ count
   pub taken : List ℕ
   pub many : m ≡ length taken
   pub list : l ≡ put_front taken l₀
-  pub goes : taken ++ take (count - m) (filter p (drop i (take n pool))) ≡ take count (filter p (take n pool))
+  pub goes : taken ++ take (count - m) (filter p (drop i pool)) ≡ take count (filter p pool)
   pub size : length l ≡ length l₀
 
-pub keeping_none : (p : ℕ → Bool) (pool : List ℕ) (n count : ℕ) (l : List ℕ) → Keeping p pool n count l l 0 0
-keeping_none p pool n count l =
+pub keeping_none : (p : ℕ → Bool) (pool : List ℕ) (count : ℕ) (l : List ℕ) → Keeping p pool count l l 0 0
+keeping_none p pool count l =
     let e : count - 0 ≡ count = omega arith in
-    record { bound = omega arith; most = omega arith; taken = []; many = refl; list = refl; goes = rw e; size = refl }
+    record { most = omega arith; taken = []; many = refl; list = refl; goes = rw e; size = refl }
 
-module _ {p : ℕ → Bool} {pool : List ℕ} {n count : ℕ} {l₀ l : List ℕ} {m i : ℕ} (f : Keeping p pool n count l₀ l m i) where
-  pub keeping_take : {id : ℕ} {t : Bool} → n ≤ length pool → count ≤ length l₀ → i < n → (m ≡ count → ⊥) → id ≡ get_or pool i 0 → t ≡ p id → t ≡ true
-      → Keeping p pool n count l₀ (set l m id) (m + 1) (i + 1)
-  keeping_take {id} {t} h room k some e v g =
-      let q : p (get_or pool i 0) ≡ true = rw (← e) (sym v ∙ g) in
+module _ {p : ℕ → Bool} {pool : List ℕ} {count : ℕ} {l₀ l : List ℕ} {m i : ℕ} (f : Keeping p pool count l₀ l m i) where
+  pub keeping_take : {t : Bool} → count ≤ length l₀ → i < length pool → (m ≡ count → ⊥) → t ≡ p (get_or pool i 0) → t ≡ true
+      → Keeping p pool count l₀ (set l m (get_or pool i 0)) (m + 1) (i + 1)
+  keeping_take room k some v g =
+      let id = get_or pool i 0 in
       let z : count - m ≡ suc (count - (m + 1)) = omega (arith, f.most, some) in
-      let o : f.taken ++ (get_or pool i 0 ∷ take (count - (m + 1)) (filter p (drop (i + 1) (take n pool)))) ≡ take count (filter p (take n pool)) = rw (left_cons pool n i h k, q, z) at f.goes in
+      let o : f.taken ++ (id ∷ take (count - (m + 1)) (filter p (drop (i + 1) pool))) ≡ take count (filter p pool) = rw (next_one pool i k, sym v ∙ g, z) at f.goes in
       let j : length f.taken < length l₀ = omega (arith, f.many, f.most, some) in
       record {
-        bound = omega arith;
         most = omega (arith, f.most, some);
         taken = f.taken ++ (id ∷ []);
         many = omega (arith, f.many, length-append f.taken (id ∷ []));
         list = rw (f.list, f.many) (front_snoc f.taken id l₀ j);
-        goes = rw (append_assoc, e) o;
+        goes = rw append_assoc o;
         size = length-set l m id ∙ f.size;
       }
 
-  pub keeping_skip : {id : ℕ} {t : Bool} → n ≤ length pool → i < n → id ≡ get_or pool i 0 → t ≡ p id → t ≡ false → Keeping p pool n count l₀ l m (i + 1)
-  keeping_skip {id} {t} h k e v g =
-      let q : p (get_or pool i 0) ≡ false = rw (← e) (sym v ∙ g) in
-      record { bound = omega arith; most = f.most; taken = f.taken; many = f.many; list = f.list; goes = rw (left_cons pool n i h k, q) at f.goes; size = f.size }
+  pub keeping_skip : {t : Bool} → i < length pool → t ≡ p (get_or pool i 0) → t ≡ false → Keeping p pool count l₀ l m (i + 1)
+  keeping_skip k v g = record { most = f.most; taken = f.taken; many = f.many; list = f.list; goes = rw (next_one pool i k, sym v ∙ g) at f.goes; size = f.size }
 
-  done : f.taken ≡ take count (filter p (take n pool)) → Appended (take count (filter p (take n pool))) 0 l₀ l m
+  done : f.taken ≡ take count (filter p pool) → Appended (take count (filter p pool)) 0 l₀ l m
   done e = rw (← e) (record { list = f.list; count = f.many })
 
-  pub keeping_full : m ≡ count → Appended (take count (filter p (take n pool))) 0 l₀ l m
+  pub keeping_full : m ≡ count → Appended (take count (filter p pool)) 0 l₀ l m
   keeping_full e = let z : count - m ≡ 0 = omega arith in done (rw (z, append-nil) at f.goes)
 
-  pub keeping_done : n ≤ i → Appended (take count (filter p (take n pool))) 0 l₀ l m
-  keeping_done h = done (all_in (count - m) (rw (left_none pool n i h) at f.goes))
-    where
-      all_in : (k : ℕ) → f.taken ++ take k [] ≡ take count (filter p (take n pool)) → f.taken ≡ take count (filter p (take n pool))
-      all_in zero e = rw append-nil at e
-      all_in (suc k) e = rw append-nil at e
+  pub keeping_done : length pool ≤ i → Appended (take count (filter p pool)) 0 l₀ l m
+  keeping_done h = done (rw (take-nil (count - m), append-nil) at (rw (drop_of_length-le pool h) at f.goes))

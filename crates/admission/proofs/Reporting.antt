@@ -11,6 +11,7 @@ use lib.Seq.{take-append_seam, drop-append-add, drop-drop}
 use Rattle.lists.specs.Lists.{All, filter, sorted_set, put_front}
 use Rattle.lists.proofs.All.{all_map, all_append, all_take, filter_test}
 use Rattle.vectors.specs.Space.{slot_distance, space}
+use Rattle.vectors.specs.declared.Space as lent
 use Rattle.slots.specs.View.{View, emptied}
 use Rattle.slots.specs.Store.{Arrays, Store, blank, or_blank, is_valid, store_view}
 use Rattle.landmarks.specs.Inner.Samples.{remains, References}
@@ -104,10 +105,10 @@ module _ (d : ℕ → ℕ → ℕ) (marks ids : List ℕ) (start sample count : 
 -- ---- what is asked
 module _ {a : Arrays} {count sample beam : ℕ} {pool : List ℕ} {pooled : ℕ} {ids checked lost w : List ℕ} (f : Assessable a count sample beam pool pooled ids checked lost w) where
   pub assess_selectable : {start wanted kept : ℕ} {list : List ℕ} → References (length a.marks) list kept start → wanted ≤ count - kept → kept ≤ count
-      → length list ≡ length checked → Selectable a.dim a.vectors a.marks start wanted sample list kept w
-  assess_selectable g h k e =
+      → length list ≡ length checked → {space : lent.Space} → space.dim ≡ a.dim → space.vectors.now ≡ a.vectors → Selectable space a.marks start wanted sample list kept w
+  assess_selectable g h k e d v =
       record {
-        bytes = f.bytes;
+        bytes = rw (d, v) f.bytes;
         few = f.rows.few;
         references = g;
         wanted_most = omega (arith, f.count_most);
@@ -117,7 +118,7 @@ module _ {a : Arrays} {count sample beam : ℕ} {pool : List ℕ} {pooled : ℕ}
       }
 
   pub assess_walks : {start : ℕ} {w' : List ℕ} → start < length a.marks → length w' ≡ length w → Walks a start beam w'
-  assess_walks h e = record { bytes = f.bytes; rows = f.rows; entry_inside = h; beam_most = f.beam_most; room = omega (arith, f.room, e) }
+  assess_walks h e = record { entry_inside = h; beam_most = f.beam_most; room = omega (arith, f.room, e) }
 
 -- ---- the report of the view
 none_named : (v : View) (c : Config) (pool deleted : List ℕ) → length deleted ≡ 0 → assess_slots v c pool deleted ≡ no_landmarks true 0

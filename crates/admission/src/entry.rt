@@ -2,7 +2,7 @@
 ghost use Rattle.std.specs.Prelude.{◌≤◌, length};
 ghost use Rattle.admission.specs.Inner.Pools.{Entered};
 
-use landmarks::{narrow, stays};
+use landmarks::stays;
 use slots::rows::BLANK;
 
 // The entry if it stays when `ids` are deleted, else the lowest slot that does; blank where none does.
@@ -13,13 +13,11 @@ pub fn residual_entry(marks: &[u8], ids: &[u32], entry: u32) -> u32
     if stays(marks, ids, entry) {
         return entry;
     }
-    let mut s: usize = 0;
-    while s < marks.len() {
-        let id = narrow(s);
+    for s in 0..marks.len() {
+        let id = s as u32;
         if stays(marks, ids, id) {
             return id;
         }
-        s += 1;
     }
     BLANK
 }

@@ -1,21 +1,23 @@
 // The report on a deletion.
-ghost use Rattle.std.specs.Prelude.{false, ◌&&◌, [], ◌≡◌, ◌<◌, ◌≤◌, eqb, ltb, length, take};
+ghost use Rattle.std.specs.Prelude.{false, ◌&&◌, [], ◌≡◌, ◌<◌, ◌≤◌, eqb, ltb, length};
 ghost use Rattle.lists.specs.Lists.{filter, elem, sorted_set};
 ghost use Rattle.vectors.specs.Space.{slot_distance, space};
-ghost use Rattle.slots.specs.Store.{is_valid, arrays};
+ghost use Rattle.slots.specs.Store.{is_valid};
+ghost use Rattle.slots.specs.Lent.{graph_of};
 ghost use Rattle.landmarks.specs.Inner.Samples.{remains};
 ghost use Rattle.landmarks.specs.Inner.Choices.{landmarks_by};
 ghost use Rattle.admission.specs.Inner.Trials.{meets};
 ghost use Rattle.admission.specs.Inner.Reports.{probe_by, Reports, Assessable, Assessed};
 
 use super::entry::residual_entry;
-use super::pool::{keep_landmarks, plus};
+use super::pool::keep_landmarks;
 use super::trials::run_trials;
-use landmarks::{narrow, select_landmarks, stays};
+use landmarks::{select_landmarks, stays};
+use slots::Graph;
 use slots::rows::BLANK;
 
 // A report without its two lists; `entry` is blank where there is none, `checked` and `lost` are how many the lists hold.
-#[derive(Clone, Copy)]
+#[derive(Clone, Copy, Default)]
 pub struct Report {
     pub admitted: bool,
     pub requested: u32,
@@ -33,10 +35,8 @@ fn count_named(marks: &[u8], ids: &[u32]) -> u32
     ensures { result ≡ length (sorted_set (filter (is_valid marks.now) ids.now)) }
 {
     let mut n: u32 = 0;
-    let mut i: usize = 0;
-    while i < ids.len() {
-        n = plus(n, stays(marks, &ids[0..i], ids[i]));
-        i += 1;
+    for i in 0..ids.len() {
+        n += u32::from(stays(marks, &ids[..i], ids[i]));
     }
     n
 }
@@ -45,10 +45,7 @@ fn count_named(marks: &[u8], ids: &[u32]) -> u32
 fn is_admitted(baseline: u32, lost: u32) -> bool
     ensures { result ≡ (ltb 0 baseline && eqb lost 0) }
 {
-    if baseline == 0 {
-        return false;
-    }
-    lost == 0
+    0 < baseline && lost == 0
 }
 
 // A report that looks at no landmark.
@@ -56,47 +53,36 @@ fn no_landmarks(admitted: bool, requested: u32) -> Report
     ensures { (result.admitted ≡ admitted) × (result.requested ≡ requested) × (result.entry ≡ 4294967295) × (result.checked ≡ 0) × (result.baseline ≡ 0) × (result.residual ≡ 0) × (result.lost ≡ 0) × (result.supplemental ≡ 0) }
 {
     Report {
-        admitted: admitted,
-        requested: requested,
+        admitted,
+        requested,
         entry: BLANK,
-        checked: 0,
-        baseline: 0,
-        residual: 0,
-        lost: 0,
-        supplemental: 0,
+        ..Report::default()
     }
 }
 
 // Checks `count` landmarks at most from `start`, for a deletion that names `requested` slots: those of the pool that stay, and others where these are
 // fewer.
 fn probe(
-    dim: usize,
-    degree: usize,
-    vectors: &[u8],
-    targets: &[u32],
-    edges: &[u16],
-    versions: &[u16],
-    marks: &[u8],
+    graph: &Graph<'_>,
     start: u32,
     count: usize,
     sample: usize,
     beam: usize,
     pool: &[u32],
-    pooled: usize,
     ids: &[u32],
     requested: u32,
     checked: &mut [u32],
     lost: &mut [u32],
     scratch: &mut [u32],
 ) -> Report
-    requires assessable { Assessable (arrays dim degree vectors.now targets.now edges.now versions.now marks.now) count sample beam pool.now pooled ids.now checked.old lost.old scratch.old }
-    requires start_in_bounds { (start < length marks.now) × (elem start ids.now ≡ false) }
-    ensures { Reports (probe_by (remains marks.now ids.now) (meets (arrays dim degree vectors.now targets.now edges.now versions.now marks.now) [] beam start) (meets (arrays dim degree vectors.now targets.now edges.now versions.now marks.now) ids.now beam start) (λ wanted existing. landmarks_by (slot_distance (space dim vectors.now)) (remains marks.now ids.now) (length marks.now) start wanted sample existing) count (take pooled pool.now) requested start) checked.old checked.new lost.old lost.new result }
+    requires assessable { Assessable (graph_of graph.now) count sample beam pool.now (length pool.now) ids.now checked.old lost.old scratch.old }
+    requires start_in_bounds { (start < length graph.now.rows.marks.now) × (elem start ids.now ≡ false) }
+    ensures { Reports (probe_by (remains graph.now.rows.marks.now ids.now) (meets (graph_of graph.now) [] beam start) (meets (graph_of graph.now) ids.now beam start) (λ wanted existing. landmarks_by (slot_distance (space graph.now.space.dim graph.now.space.vectors.now)) (remains graph.now.rows.marks.now ids.now) (length graph.now.rows.marks.now) start wanted sample existing) count pool.now requested start) checked.old checked.new lost.old lost.new result }
 {
-    let kept = keep_landmarks(marks, ids, pool, pooled, count, checked);
+    let marks = graph.rows.marks;
+    let kept = keep_landmarks(marks, ids, pool, count, checked);
     let more = select_landmarks(
-        dim,
-        vectors,
+        &graph.space,
         marks,
         ids,
         start,
@@ -107,45 +93,36 @@ fn probe(
         scratch,
     );
     let n = kept + more;
-    let t = run_trials(
-        dim, degree, vectors, targets, edges, versions, marks, ids, start, beam, checked, n, lost,
-        scratch,
-    );
+    let t = run_trials(graph, ids, start, beam, &checked[..n], lost, scratch);
     Report {
         admitted: is_admitted(t.baseline, t.lost),
-        requested: requested,
+        requested,
         entry: start,
-        checked: narrow(n),
+        checked: n as u32,
         baseline: t.baseline,
         residual: t.residual,
         lost: t.lost,
-        supplemental: narrow(more),
+        supplemental: more as u32,
     }
 }
 
 // The report on deleting `ids`; the landmarks checked and those lost are written to the front of two lists.
 pub fn assess_delete_admission(
-    dim: usize,
-    degree: usize,
-    vectors: &[u8],
-    targets: &[u32],
-    edges: &[u16],
-    versions: &[u16],
-    marks: &[u8],
+    graph: &Graph<'_>,
     entry: u32,
     count: usize,
     sample: usize,
     beam: usize,
     pool: &[u32],
-    pooled: usize,
     ids: &[u32],
     checked: &mut [u32],
     lost: &mut [u32],
     scratch: &mut [u32],
 ) -> Report
-    requires { Assessable (arrays dim degree vectors.now targets.now edges.now versions.now marks.now) count sample beam pool.now pooled ids.now checked.old lost.old scratch.old }
-    ensures { Assessed (arrays dim degree vectors.now targets.now edges.now versions.now marks.now) entry count sample beam (take pooled pool.now) ids.now checked.old checked.new lost.old lost.new result }
+    requires { Assessable (graph_of graph.now) count sample beam pool.now (length pool.now) ids.now checked.old lost.old scratch.old }
+    ensures { Assessed (graph_of graph.now) entry count sample beam pool.now ids.now checked.old checked.new lost.old lost.new result }
 {
+    let marks = graph.rows.marks;
     let requested = count_named(marks, ids);
     if requested == 0 {
         return no_landmarks(true, 0);
@@ -155,7 +132,6 @@ pub fn assess_delete_admission(
         return no_landmarks(false, requested);
     }
     probe(
-        dim, degree, vectors, targets, edges, versions, marks, start, count, sample, beam, pool,
-        pooled, ids, requested, checked, lost, scratch,
+        graph, start, count, sample, beam, pool, ids, requested, checked, lost, scratch,
     )
 }

@@ -1,27 +1,30 @@
 -- What the code finds by f32 numbers is what the definitions say of distances up to 2 ^ 24. Assumes nothing.
 use Prim.Native.Nat.{ℕ, zero, suc, ◌≤◌}
 use mathlib.Core.Path.{◌≡◌, refl}
-use mathlib.Core.Bool.{Bool, true, false}
-use lib.Dec.{ltb}
+use mathlib.Core.Bool.{Bool, true, false, cond, ◌&&◌, ◌||◌}
+use lib.Dec.{eqb, ltb}
 use lib.Ieee.{Float, binary32, div, lt, eq}
+use Rattle.std.specs.Prelude.{Some, None}
+use Rattle.std.specs.Ordering.{is_lt, is_some_and, partial_ordering_then, float_partial_cmp, as_partial_cmp, nat_cmp}
+use Rattle.std.specs.declared.cmp.Ordering.TheVariants.{Less, Equal, Greater}
 use Rattle.candidates.specs.Candidates.{before}
 use Rattle.vectors.specs.Distance.{f32}
 use Rattle.candidates.specs.Quotient.{largest, quotient, before_f32}
 use Rattle.candidates.specs.Inner.Words.{pair}
 use Rattle.candidates.proofs.Floats.{lt_f32, eq_f32}
 
-module _ (x y : Float) (i j : ℕ) where
-  pub before_nearer : lt x y ≡ true → true ≡ before_f32 x i y j
-  unfolding before_f32
-  before_nearer h = rw h
-
-  pub before_as_near : lt x y ≡ false → eq x y ≡ true → ltb i j ≡ before_f32 x i y j
-  unfolding before_f32
-  before_as_near h k = rw (h, k)
-
-  pub before_farther : lt x y ≡ false → eq x y ≡ false → false ≡ before_f32 x i y j
-  unfolding before_f32
-  before_farther h k = rw (h, k)
+-- the derived order: by distance, then by slot
+pub before_derived : (x y : Float) (i j : ℕ) → is_some_and is_lt (partial_ordering_then (float_partial_cmp x y) (as_partial_cmp nat_cmp i j)) ≡ before_f32 x i y j
+unfolding before_f32
+before_derived x y i j = go (lt x y) (eq x y) (lt y x) (ltb i j) (eqb i j)
+  where
+    go : (a b c d e : Bool) → is_some_and is_lt (partial_ordering_then (cond a (Some Less) (cond b (Some Equal) (cond c (Some Greater) None))) (Some (cond d Less (cond e Equal Greater)))) ≡ (a || b && d)
+    go true b c d e = refl
+    go false true c true e = refl
+    go false true c false true = refl
+    go false true c false false = refl
+    go false false true d e = refl
+    go false false false d e = refl
 
 pub before_exact : (d i e j : ℕ) → d ≤ 16777216 → e ≤ 16777216 → before_f32 (f32 d) i (f32 e) j ≡ before (pair d i) (pair e j)
 unfolding before_f32

@@ -12,3 +12,4 @@ pub mod Sorting
 pub mod Merging
 pub mod Copying
 pub mod After
+pub mod Pairs

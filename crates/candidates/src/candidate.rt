@@ -9,7 +9,8 @@ ghost use Rattle.candidates.specs.Inner.Words.{pair};
 // The largest finite f32.
 pub const LARGEST: f32 = 3.4028235e38;
 
-#[derive(Clone, Copy)]
+// Ordered by distance, then by slot.
+#[derive(Clone, Copy, PartialEq, PartialOrd)]
 pub struct Candidate {
     pub dist: f32,
     pub id: u32,
@@ -27,17 +28,11 @@ impl Candidate {
         }
     }
 
-    // Whether it comes before another: by distance, then by slot.
+    // Whether it comes before another: its promise says of the derived order what it is of two f32 numbers.
     pub fn before(self, other: Self) -> bool
         ensures { result ≡ before_f32 self.dist self.id other.dist other.id }
     {
-        if self.dist < other.dist {
-            return true;
-        }
-        if self.dist == other.dist {
-            return self.id < other.id;
-        }
-        false
+        self < other
     }
 }
 

@@ -13,64 +13,80 @@ use Rattle.lists.proofs.Unique.{all_distinct}
 use Rattle.candidates.specs.Candidates.{Candidate, ids}
 use Rattle.candidates.specs.Inner.Words.{cand, cands}
 use Rattle.candidates.proofs.Words.{cands_none, cands_cons, cands_each, cands_agree}
+use Rattle.slots.specs.Scratch.{work_at}
 use Rattle.slots.specs.Store.{Arrays, Store, arrays, is_valid, store_ops}
 use Rattle.slots.specs.Inner.Writing.{Finished}
+use Rattle.slots.specs.Lent.{rows_mut_of, SameSlices}
+use Rattle.slots.specs.declared.graph.RowsMut.{RowsMut}
 use Rattle.slots.proofs.Places.{live_inside, shape_fits}
 use Rattle.row.specs.Row.{Together, index_of}
+use Rattle.repair.specs.Repair.{Link}
 use Rattle.links.specs.Inner.Linking.{between, Applied}
 use Rattle.links.specs.Inner.Planning.{plan_words, Area, Plans, plans_at}
+use Rattle.deletion.specs.declared.layout.Layout.{Layout}
+use Rattle.deletion.specs.declared.plans.Repair.{Repair}
+use Rattle.deletion.specs.Inner.Layout.{layout_of}
 use Rattle.deletion.specs.Inner.Naming.{Emptied, Inside, cleared, entry_after}
 use Rattle.deletion.specs.Inner.Plans.{Table, RowsTaken, PlansMade}
-use Rattle.deletion.specs.Inner.Acts.{Takeable, Marked, Finishable, AllFinished, Repairable, Repaired}
+use Rattle.deletion.specs.Inner.Acts.{Takeable, Finishable, AllFinished, Repairable, Repaired}
 
 all_by_ids : (P : ℕ → Type 0) (cs : List Candidate) → All P (ids cs) → All (λ c. P c.id) cs
 all_by_ids P [] h = tt
 all_by_ids P (c ∷ cs) h = (h.0, all_by_ids P cs h.1)
 
 -- ---- the first acts
+-- the slots of the layout stood in the words `taken`; their rows are taken, their marks are cleared, and e is the entry
+pub record Marked (a : Arrays) (entry : ℕ) (named w : List ℕ) (at : Layout) (e : ℕ) (marks' w' : List ℕ) : Type 0 where
+  pub taken : List ℕ
+  pub list : Emptied a.marks named w at.from at.count taken
+  pub rows : RowsTaken a taken at w'
+  pub marks_are : marks' ≡ cleared a.marks (ids (cands taken at.from at.count))
+  pub entry_is : e ≡ entry_after marks' entry (ids (cands taken at.from at.count))
+
 pub emptied_live : {marks named w : List ℕ} {at r : ℕ} {w' : List ℕ} → Emptied marks named w at r w' → All (λ c. is_valid marks c.id ≡ true) (cands w' at r)
 emptied_live {marks} {named} {at = at} {r = r} {w' = w'} l =
     all_by_ids (λ s. is_valid marks s ≡ true) (cands w' at r)
     (rw l.list (all_distinct (λ x. x) (λ s. is_valid marks s ≡ true) (sort_by ltb (filter (is_valid marks) named))
     (all_sort (λ s. is_valid marks s ≡ true) ltb (filter (is_valid marks) named) (filter_test (is_valid marks) named))))
 
-module _ {a : Arrays} {entry : ℕ} {named w : List ℕ} {from stats plans p : ℕ} {w₁ : List ℕ} (o : Together a) (d : Takeable a.marks entry named w from stats plans)
-    (l : Emptied a.marks named w from p w₁) where
-  pub taken_inside : Inside (length a.marks) w₁ from p
+module _ {a : Arrays} {named w : List ℕ} {p : ℕ} {w₁ : List ℕ} (d : Takeable a named w) (l : Emptied a.marks named w (work_at (length a.marks)) p w₁) where
+  abbrev at : Layout
+  at = layout_of (length a.marks) p
+
+  pub taken_inside : Inside (length a.marks) w₁ at.from p
   taken_inside =
       record {
-        each = all_map (λ c. is_valid a.marks c.id ≡ true) (λ c. c.id < length a.marks) (λ c h. live_inside a.marks c.id h) (cands w₁ from p) (emptied_live l);
-        words = omega (arith, l.few, l.size, d.ids_most, d.first, d.second, d.third);
+        each = all_map (λ c. is_valid a.marks c.id ≡ true) (λ c. c.id < length a.marks) (λ c h. live_inside a.marks c.id h) (cands w₁ at.from p) (emptied_live l);
+        words = omega (arith, l.few, l.size, d.ids_most, d.room);
       }
 
-  pub taken_table : Table a.degree w₁ from p stats plans
+  pub taken_table : Table a.degree w₁ at
   taken_table =
       record {
-        first = omega (arith, l.few, d.ids_most, d.first);
-        second = omega (arith, l.few, d.ids_most, d.second);
-        third = omega (arith, l.few, l.size, d.ids_most, d.third);
+        first = omega (arith, l.few, d.ids_most);
+        second = omega (arith, l.few, d.ids_most);
+        third = omega (arith, l.few, l.size, d.ids_most, d.room);
         few = omega (arith, l.few, d.ids_most);
-        low = o.degree_most;
+        low = d.low;
       }
 
-  module _ {w₂ : List ℕ} (r : RowsTaken a w₁ from p stats plans w₂) where
-    pub taken_stay : cands w₂ from p ≡ cands w₁ from p
-    taken_stay = cands_agree w₁ w₂ from p (λ j x y. r.same j (omega (arith, taken_table.first)))
+  module _ {w₂ : List ℕ} (r : RowsTaken a w₁ at w₂) where
+    pub taken_stay : cands w₂ at.from p ≡ cands w₁ at.from p
+    taken_stay = cands_agree w₁ w₂ at.from p (λ j x y. r.same j (omega (arith, taken_table.first)))
 
-    pub taken_clear : Inside (length a.marks) w₂ from p
+    pub taken_clear : Inside (length a.marks) w₂ at.from p
     taken_clear =
         record {
           each = subst (λ (cs : List Candidate). All (λ c. c.id < length a.marks) cs) (sym taken_stay) taken_inside.each;
           words = omega (arith, taken_inside.words, r.size);
         }
 
-    pub marked : {marks' : List ℕ} {e : ℕ} → marks' ≡ cleared a.marks (ids (cands w₂ from p)) → e ≡ entry_after marks' entry (ids (cands w₂ from p))
-        → Marked a entry named w from stats plans p e marks' w₂
+    pub marked : {marks' : List ℕ} {entry e : ℕ} → marks' ≡ cleared a.marks (ids (cands w₂ at.from p)) → e ≡ entry_after marks' entry (ids (cands w₂ at.from p))
+        → Marked a entry named w at e marks' w₂
     marked em ee = record { taken = w₁; list = l; rows = r; marks_are = rw taken_stay at em; entry_is = rw taken_stay at ee }
 
 -- ---- the last act
 pub record Finishing (degree : ℕ) (targets₀ edges₀ versions₀ w : List ℕ) (at n : ℕ) (targets edges versions : List ℕ) (k : ℕ) : Type 0 where
-  pub bound : k ≤ n
   pub goes : (dim : ℕ) (vectors marks : List ℕ) (alpha : Float) (entry : ℕ) → Inside (length marks) w at n
       → foldl store_ops.finish (index_of alpha entry (arrays dim degree vectors targets edges versions marks)) (ids (cands w (at + 2 * k) (n - k)))
       ≡ foldl store_ops.finish (index_of alpha entry (arrays dim degree vectors targets₀ edges₀ versions₀ marks)) (ids (cands w at n))
@@ -78,18 +94,8 @@ pub record Finishing (degree : ℕ) (targets₀ edges₀ versions₀ w : List �
   pub edges_long : length edges ≡ length edges₀
   pub versions_long : length versions ≡ length versions₀
 
-pub finishing_none : (degree : ℕ) (targets edges versions w : List ℕ) (at n : ℕ) → Finishing degree targets edges versions w at n targets edges versions 0
-finishing_none degree targets edges versions w at n =
-    let e : at + 2 * 0 ≡ at = omega arith in
-    let z : n - 0 ≡ n = omega arith in
-    record { bound = omega arith; goes = λ dim vectors marks alpha entry i. rw (e, z); targets_long = refl; edges_long = refl; versions_long = refl }
-
 module _ {degree : ℕ} {targets₀ edges₀ versions₀ w : List ℕ} {at n : ℕ} {targets edges versions : List ℕ} {k : ℕ} (f : Finishing degree targets₀ edges₀ versions₀ w at n targets edges versions k) where
-  -- u is the slot as an index
-  module _ (b : Finishable degree targets₀ edges₀ versions₀ w at n) (h : k < n) {x u : ℕ} (e : x ≡ (cand w (at + 2 * k)).id) (i : u ≡ x) where
-    the_slot : u ≡ (cand w (at + 2 * k)).id
-    the_slot = i ∙ e
-
+  module _ (b : Finishable degree targets₀ edges₀ versions₀ w at n) (h : k < n) {u : ℕ} (the_slot : u ≡ (cand w (at + 2 * k)).id) where
     pub finishing_asks : (u * degree + degree ≤ length targets) × (u * degree + degree ≤ length edges) × (u < length versions)
     finishing_asks =
         let r = cands_each (λ c. (c.id * degree + degree ≤ length targets₀) × (c.id * degree + degree ≤ length edges₀) × (c.id < length versions₀)) w at n b.each k h in
@@ -100,7 +106,6 @@ module _ {degree : ℕ} {targets₀ edges₀ versions₀ w : List ℕ} {at n : �
         → Finishing degree targets₀ edges₀ versions₀ w at n targets' edges' versions' (k + 1)
     finishing_more {targets'} {edges'} {versions'} d lt le lv =
         record {
-          bound = omega arith;
           goes = λ dim vectors marks alpha entry v.
               let s : (cand w (at + 2 * k)).id < length marks = cands_each (λ c. c.id < length marks) w at n v.each k h in
               let b = index_of alpha entry (arrays dim degree vectors targets edges versions marks) in
@@ -112,15 +117,21 @@ module _ {degree : ℕ} {targets₀ edges₀ versions₀ w : List ℕ} {at n : �
           versions_long = lv ∙ f.versions_long;
         }
 
-  pub finishing_done : n ≤ k → AllFinished degree targets₀ edges₀ versions₀ w at n targets edges versions
+  pub finishing_done : k ≡ n → AllFinished degree targets₀ edges₀ versions₀ w at n targets edges versions
   finishing_done h =
       let z : n - k ≡ 0 = omega arith in
       record { does = λ dim vectors marks alpha entry v. rw (cands_none w (at + 2 * k) (n - k) z) at (f.goes dim vectors marks alpha entry v) }
 
 -- ---- the later acts
-module _ {a : Arrays} {entry beam repair_degree : ℕ} {w : List ℕ} {from p stats plans base : ℕ} {w₁ : List ℕ}
-    (o : Together a) (f : Repairable a entry beam repair_degree w from p stats plans base) (m : PlansMade a entry beam repair_degree w from p stats plans w₁) where
-  pub made_plans : Plans a.marks w₁ stats plans p base
+-- what links make of the slices that rows were built from
+pub settled : {alpha : Float} {dim : ℕ} {vectors marks : List ℕ} {rows rows' : RowsMut} {ls : List Link} {w w' : List ℕ} {at k : ℕ} {targets edges : List ℕ} → SameSlices rows rows'
+    → Applied alpha (rows_mut_of dim vectors rows marks) ls (rows_mut_of dim vectors rows' marks) w at k w' → targets ≡ rows'.targets.now → edges ≡ rows'.edges.now
+    → Applied alpha (rows_mut_of dim vectors rows marks) ls (arrays dim rows.degree vectors targets edges rows.versions.now marks) w at k w'
+settled x s t e = rw (t, e) (rw (x.degree, x.versions) at s)
+
+module _ {a : Arrays} {how : Repair} {w : List ℕ} {at : Layout} {w₁ : List ℕ}
+    (o : Together a) (f : Repairable a how w at) (m : PlansMade a how w at w₁) where
+  pub made_plans : Plans a.marks w₁ at.stats at.plans at.count at.base
   made_plans =
       record {
         counted = omega (arith, f.placed, f.makes.table.second);
@@ -128,40 +139,40 @@ module _ {a : Arrays} {entry beam repair_degree : ℕ} {w : List ℕ} {from p st
         each = λ j h. (m.each j h).plan;
       }
 
-  pub made_area : Area a.degree w₁ base
+  pub made_area : Area a.degree w₁ at.base
   made_area = record { inside = omega (arith, f.area.inside, m.size); below = f.area.below }
 
   module _ {alpha : Float} {targets edges w₂ : List ℕ}
-      (s : Applied alpha a (plans_at (between a.dim a.vectors) repair_degree entry w₁ stats plans p) (arrays a.dim a.degree a.vectors targets edges a.versions a.marks) w₁ base (plan_words a.degree) w₂) where
-    slots_stay : cands w₂ from p ≡ cands w from p
+      (s : Applied alpha a (plans_at (between a.dim a.vectors) how.degree how.entry w₁ at.stats at.plans at.count) (arrays a.dim a.degree a.vectors targets edges a.versions a.marks) w₁ at.base (plan_words a.degree) w₂) where
+    slots_stay : cands w₂ at.from at.count ≡ cands w at.from at.count
     slots_stay =
-        cands_agree w₁ w₂ from p (λ j l h. s.same j (λ q. omega (arith, f.placed, f.makes.table.first, f.makes.table.second)))
-        ∙ cands_agree w w₁ from p (λ j l h. m.same j (omega (arith, f.makes.behind)) (omega (arith, f.makes.table.first)))
+        cands_agree w₁ w₂ at.from at.count (λ j l h. s.same j (λ q. omega (arith, f.placed, f.makes.table.first, f.makes.table.second)))
+        ∙ cands_agree w w₁ at.from at.count (λ j l h. m.same j (omega (arith, f.makes.behind)) (omega (arith, f.makes.table.first)))
 
-    repaired_inside : Inside (length a.marks) w₂ from p
+    repaired_inside : Inside (length a.marks) w₂ at.from at.count
     repaired_inside =
         record {
           each = subst (λ (cs : List Candidate). All (λ c. c.id < length a.marks) cs) (sym slots_stay) f.makes.inside.each;
           words = omega (arith, f.makes.inside.words, m.size, s.size);
         }
 
-    pub repaired_finish : length targets ≡ length a.targets → length edges ≡ length a.edges → Finishable a.degree targets edges a.versions w₂ from p
+    pub repaired_finish : length targets ≡ length a.targets → length edges ≡ length a.edges → Finishable a.degree targets edges a.versions w₂ at.from at.count
     repaired_finish lt le =
         record {
           each = all_map (λ c. c.id < length a.marks) (λ c. (c.id * a.degree + a.degree ≤ length targets) × (c.id * a.degree + a.degree ≤ length edges) × (c.id < length a.versions))
-              (λ c h. let q = shape_fits o.rows c.id h in (rw lt q.0, rw le q.1, rw o.rows.versions_long h)) (cands w₂ from p) repaired_inside.each;
+              (λ c h. let q = shape_fits o.rows c.id h in (rw lt q.0, rw le q.1, rw o.rows.versions_long h)) (cands w₂ at.from at.count) repaired_inside.each;
           words = repaired_inside.words;
         }
 
-    pub repaired : {targets' edges' versions' : List ℕ} → AllFinished a.degree targets edges a.versions w₂ from p targets' edges' versions'
-        → Repaired alpha a entry beam repair_degree w from p stats plans base (arrays a.dim a.degree a.vectors targets' edges' versions' a.marks) w₂
+    pub repaired : {targets' edges' versions' : List ℕ} → AllFinished a.degree targets edges a.versions w₂ at.from at.count targets' edges' versions'
+        → Repaired alpha a how w at (arrays a.dim a.degree a.vectors targets' edges' versions' a.marks) w₂
     repaired g =
         record {
           made = w₁;
           plan = m;
           does =
-              g.does a.dim a.vectors a.marks alpha entry repaired_inside
-              ∙ ap₂ (λ (b : Store) (ss : List ℕ). foldl store_ops.finish b ss) (s.does entry) (ap ids slots_stay);
+              g.does a.dim a.vectors a.marks alpha how.entry repaired_inside
+              ∙ ap₂ (λ (b : Store) (ss : List ℕ). foldl store_ops.finish b ss) (s.does how.entry) (ap ids slots_stay);
           size = s.size ∙ m.size;
           same = λ i h. s.same i (λ q. omega arith);
         }

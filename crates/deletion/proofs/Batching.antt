@@ -29,10 +29,13 @@ use Rattle.links.specs.Inner.Planning.{count_at, plan_at, plans_at}
 use Rattle.links.proofs.Linking.{view_between}
 use Rattle.links.proofs.Order.{links_in_order}
 use Rattle.deletion.specs.Batch.{delete_words, stats_at, stats_of, Deletable, BatchDeleted}
-use Rattle.deletion.specs.Inner.Naming.{cleared, lowest_live, entry_after}
+use Rattle.deletion.specs.declared.layout.Layout.{Layout}
+use Rattle.deletion.specs.declared.plans.Repair.{Repair}
+use Rattle.deletion.specs.Inner.Layout.{layout_of}
+use Rattle.deletion.specs.Inner.Naming.{Inside, cleared, lowest_live, entry_after}
 use Rattle.deletion.specs.Inner.Plans.{row_count, RowsTaken, recovered_by, candidates_by, PlansMade}
-use Rattle.deletion.specs.Inner.Acts.{Takeable, Marked, Repairable, Repaired}
-use Rattle.deletion.proofs.Acting.{taken_inside, taken_table, taken_stay, taken_clear}
+use Rattle.deletion.specs.Inner.Acts.{Takeable, Taken, Repairable, Repaired}
+use Rattle.deletion.proofs.Acting.{Marked, taken_inside, taken_table, taken_stay, taken_clear, marked}
 
 -- delete's share of the size answer is enough
 pub delete_enough : (capacity degree : ℕ) → degree ≤ 64 → work_at capacity + delete_words degree ≤ size_answer capacity
@@ -95,14 +98,14 @@ entry_inside marks entry ss h =
     h
 
 -- ---- the plans that the words hold are those of the definition
-module _ (a : Arrays) (alpha : Float) (entry : ℕ) (marks' : List ℕ) (e beam repair_degree : ℕ) (w₁ w₂ w₃ : List ℕ) (from p stats plans : ℕ) (below : from + 2 * p ≤ stats)
-    (t : RowsTaken a w₁ from p stats plans w₂) (m : PlansMade (with_marks a marks') e beam repair_degree w₂ from p stats plans w₃) where
+module _ (a : Arrays) (alpha : Float) (entry : ℕ) (marks' : List ℕ) (how : Repair) (w₁ w₂ w₃ : List ℕ) (at : Layout) (below : at.from + 2 * at.count ≤ at.stats)
+    (t : RowsTaken a w₁ at w₂) (m : PlansMade (with_marks a marks') how w₂ at w₃) where
   -- the index before, and once the marks are cleared and the entry is set
   abbrev b₀ : Store
   b₀ = index_of alpha entry a
 
   abbrev b₂ : Store
-  b₂ = index_of alpha e (with_marks a marks')
+  b₂ = index_of alpha how.entry (with_marks a marks')
 
   abbrev dist : ℕ → ℕ → ℕ
   dist = between a.dim a.vectors
@@ -111,105 +114,105 @@ module _ (a : Arrays) (alpha : Float) (entry : ℕ) (marks' : List ℕ) (e beam 
   unfolding store_view vector_of
   vector_same s = refl
 
-  entry_here : (store_view b₂).entry ≡ e
+  entry_here : (store_view b₂).entry ≡ how.entry
   unfolding store_view
   entry_here = refl
 
   abbrev wanted : ℕ → List ℕ
-  wanted s = candidates_by (store_view b₂) beam s (live_neighbors (store_view b₀) s)
+  wanted s = candidates_by (store_view b₂) how.beam s (live_neighbors (store_view b₀) s)
 
-  plan_links : (s : ℕ) → (plan (store_view b₂) beam repair_degree (snapshot (store_view b₀) s)).links ≡ repair_links dist repair_degree e (wanted s)
+  plan_links : (s : ℕ) → (plan (store_view b₂) how.beam how.degree (snapshot (store_view b₀) s)).links ≡ repair_links dist how.degree how.entry (wanted s)
   unfolding plan snapshot
-  plan_links s = rw (vector_same s, ← view_between alpha e (with_marks a marks'), entry_here)
+  plan_links s = rw (vector_same s, ← view_between alpha how.entry (with_marks a marks'), entry_here)
 
-  plan_stats : (s : ℕ) → (plan (store_view b₂) beam repair_degree (snapshot (store_view b₀) s)).stats
+  plan_stats : (s : ℕ) → (plan (store_view b₂) how.beam how.degree (snapshot (store_view b₀) s)).stats
       ≡ record {
         outgoing_seeds = length (live_neighbors (store_view b₀) s);
-        recovered_in_neighbors = length (recovered_by (store_view b₂) beam s);
+        recovered_in_neighbors = length (recovered_by (store_view b₂) how.beam s);
         repair_candidates = length (wanted s);
-        repair_edges_attempted = length (repair_links dist repair_degree e (wanted s));
+        repair_edges_attempted = length (repair_links dist how.degree how.entry (wanted s));
       }
   unfolding plan snapshot
-  plan_stats s = rw (vector_same s, ← view_between alpha e (with_marks a marks'), entry_here)
+  plan_stats s = rw (vector_same s, ← view_between alpha how.entry (with_marks a marks'), entry_here)
 
-  module _ (j : ℕ) (h : j < p) where
+  module _ (j : ℕ) (h : j < at.count) where
     abbrev slot : ℕ
-    slot = (cand w₁ (from + 2 * j)).id
+    slot = (cand w₁ (at.from + 2 * j)).id
 
-    slot_kept : (cand w₂ (from + 2 * j)).id ≡ slot
-    slot_kept = t.same (from + 2 * j + 1) (omega arith)
+    slot_kept : (cand w₂ (at.from + 2 * j)).id ≡ slot
+    slot_kept = t.same (at.from + 2 * j + 1) (omega arith)
 
-    found : ids (cands w₃ (plans + 640 * j) (count_at w₃ stats j)) ≡ wanted slot
-    found = (m.each j h).list alpha ∙ ap₂ (λ (s : ℕ) (l : List ℕ). candidates_by (store_view b₂) beam s l) slot_kept ((t.each j h).list alpha entry)
+    found : ids (cands w₃ (at.plans + 640 * j) (count_at w₃ at.stats j)) ≡ wanted slot
+    found = (m.each j h).list alpha ∙ ap₂ (λ (s : ℕ) (l : List ℕ). candidates_by (store_view b₂) how.beam s l) slot_kept ((t.each j h).list alpha entry)
 
-    links_at : (plan (store_view b₂) beam repair_degree (snapshot (store_view b₀) slot)).links ≡ plan_at dist repair_degree e w₃ stats plans j
-    links_at = plan_links slot ∙ ap (repair_links dist repair_degree e) (sym found)
+    links_at : (plan (store_view b₂) how.beam how.degree (snapshot (store_view b₀) slot)).links ≡ plan_at dist how.degree how.entry w₃ at.stats at.plans j
+    links_at = plan_links slot ∙ ap (repair_links dist how.degree how.entry) (sym found)
 
-    count_is : count_at w₃ stats j ≡ length (wanted slot)
+    count_is : count_at w₃ at.stats j ≡ length (wanted slot)
     count_is =
-        sym (cands_length w₃ (plans + 640 * j) (count_at w₃ stats j))
-        ∙ sym (ids_length (cands w₃ (plans + 640 * j) (count_at w₃ stats j)))
+        sym (cands_length w₃ (at.plans + 640 * j) (count_at w₃ at.stats j))
+        ∙ sym (ids_length (cands w₃ (at.plans + 640 * j) (count_at w₃ at.stats j)))
         ∙ ap length found
 
-    row_is : row_count w₃ stats j ≡ length (live_neighbors (store_view b₀) slot)
+    row_is : row_count w₃ at j ≡ length (live_neighbors (store_view b₀) slot)
     row_is =
         (m.each j h).row
-        ∙ sym (cands_length w₂ (plans + 640 * j) (row_count w₂ stats j))
-        ∙ sym (ids_length (cands w₂ (plans + 640 * j) (row_count w₂ stats j)))
+        ∙ sym (cands_length w₂ (at.plans + 640 * j) (row_count w₂ at j))
+        ∙ sym (ids_length (cands w₂ (at.plans + 640 * j) (row_count w₂ at j)))
         ∙ ap length ((t.each j h).list alpha entry)
 
-    recovered_is : get_or w₃ (stats + 4 * j + 1) 0 ≡ length (recovered_by (store_view b₂) beam slot)
-    recovered_is = (m.each j h).recovered alpha ∙ ap (λ (s : ℕ). length (recovered_by (store_view b₂) beam s)) slot_kept
+    recovered_is : get_or w₃ (at.stats + 4 * j + 1) 0 ≡ length (recovered_by (store_view b₂) how.beam slot)
+    recovered_is = (m.each j h).recovered alpha ∙ ap (λ (s : ℕ). length (recovered_by (store_view b₂) how.beam s)) slot_kept
 
-    links_is : get_or w₃ (stats + 4 * j + 3) 0 ≡ length (repair_links dist repair_degree e (wanted slot))
+    links_is : get_or w₃ (at.stats + 4 * j + 3) 0 ≡ length (repair_links dist how.degree how.entry (wanted slot))
     links_is =
-        (m.each j h).links.count dist e (ids (cands w₃ (plans + 640 * j) (count_at w₃ stats j)))
-        (ids_length (cands w₃ (plans + 640 * j) (count_at w₃ stats j)) ∙ cands_length w₃ (plans + 640 * j) (count_at w₃ stats j)) (m.each j h).plan.once
-        ∙ ap (λ (l : List ℕ). length (repair_links dist repair_degree e l)) found
+        (m.each j h).links.count dist how.entry (ids (cands w₃ (at.plans + 640 * j) (count_at w₃ at.stats j)))
+        (ids_length (cands w₃ (at.plans + 640 * j) (count_at w₃ at.stats j)) ∙ cands_length w₃ (at.plans + 640 * j) (count_at w₃ at.stats j)) (m.each j h).plan.once
+        ∙ ap (λ (l : List ℕ). length (repair_links dist how.degree how.entry l)) found
 
-    stats_are : (plan (store_view b₂) beam repair_degree (snapshot (store_view b₀) slot)).stats ≡ stats_of w₃ stats j
+    stats_are : (plan (store_view b₂) how.beam how.degree (snapshot (store_view b₀) slot)).stats ≡ stats_of w₃ at.stats j
     stats_are = plan_stats slot ∙ rw (row_is, recovered_is, count_is, links_is)
 
   abbrev plans_of : List ℕ → List Plan
-  plans_of ss = map (plan (store_view b₂) beam repair_degree) (map (snapshot (store_view b₀)) ss)
+  plans_of ss = map (plan (store_view b₂) how.beam how.degree) (map (snapshot (store_view b₀)) ss)
 
-  links_from : (n j : ℕ) → j + n ≤ p → concat_map (λ q. q.links) (plans_of (ids (cands w₁ (from + 2 * j) n))) ≡ concat_map (plan_at dist repair_degree e w₃ stats plans) (range j n)
+  links_from : (n j : ℕ) → j + n ≤ at.count → concat_map (λ q. q.links) (plans_of (ids (cands w₁ (at.from + 2 * j) n))) ≡ concat_map (plan_at dist how.degree how.entry w₃ at.stats at.plans) (range j n)
   unfolding cands
   links_from zero j h = refl
   links_from (suc n) j h =
-      let z : from + 2 * j + 2 ≡ from + 2 * suc j = omega arith in
+      let z : at.from + 2 * j + 2 ≡ at.from + 2 * suc j = omega arith in
       ap₂ (λ (x y : List Link). x ++ y) (links_at j (omega arith))
       (ap (λ (x : ℕ). concat_map (λ q. q.links) (plans_of (ids (cands w₁ x n)))) z ∙ links_from n (suc j) (omega arith))
 
-  stats_from : (n j : ℕ) → j + n ≤ p → map (λ q. q.stats) (plans_of (ids (cands w₁ (from + 2 * j) n))) ≡ map (stats_of w₃ stats) (range j n)
+  stats_from : (n j : ℕ) → j + n ≤ at.count → map (λ q. q.stats) (plans_of (ids (cands w₁ (at.from + 2 * j) n))) ≡ map (stats_of w₃ at.stats) (range j n)
   unfolding cands
   stats_from zero j h = refl
   stats_from (suc n) j h =
-      let z : from + 2 * j + 2 ≡ from + 2 * suc j = omega arith in
+      let z : at.from + 2 * j + 2 ≡ at.from + 2 * suc j = omega arith in
       ap₂ (λ (x : Stats) (y : List Stats). x ∷ y) (stats_are j (omega arith))
       (ap (λ (x : ℕ). map (λ q. q.stats) (plans_of (ids (cands w₁ x n)))) z ∙ stats_from n (suc j) (omega arith))
 
-  all_links : concat_map (λ q. q.links) (plans_of (ids (cands w₁ from p))) ≡ plans_at dist repair_degree e w₃ stats plans p
+  all_links : concat_map (λ q. q.links) (plans_of (ids (cands w₁ at.from at.count))) ≡ plans_at dist how.degree how.entry w₃ at.stats at.plans at.count
   all_links =
-      let z : from ≡ from + 2 * 0 = omega arith in
-      ap (λ (x : ℕ). concat_map (λ q. q.links) (plans_of (ids (cands w₁ x p)))) z ∙ links_from p 0 (omega arith)
+      let z : at.from ≡ at.from + 2 * 0 = omega arith in
+      ap (λ (x : ℕ). concat_map (λ q. q.links) (plans_of (ids (cands w₁ x at.count)))) z ∙ links_from at.count 0 (omega arith)
 
-  all_stats : map (λ q. q.stats) (plans_of (ids (cands w₁ from p))) ≡ map (stats_of w₃ stats) (range 0 p)
+  all_stats : map (λ q. q.stats) (plans_of (ids (cands w₁ at.from at.count))) ≡ map (stats_of w₃ at.stats) (range 0 at.count)
   all_stats =
-      let z : from ≡ from + 2 * 0 = omega arith in
-      ap (λ (x : ℕ). map (λ q. q.stats) (plans_of (ids (cands w₁ x p)))) z ∙ stats_from p 0 (omega arith)
+      let z : at.from ≡ at.from + 2 * 0 = omega arith in
+      ap (λ (x : ℕ). map (λ q. q.stats) (plans_of (ids (cands w₁ x at.count)))) z ∙ stats_from at.count 0 (omega arith)
 
   -- the sources of their links are inside
-  plan_sources : (j : ℕ) → j < p → All (λ l. l.source < length marks') (plan_at dist repair_degree e w₃ stats plans j)
+  plan_sources : (j : ℕ) → j < at.count → All (λ l. l.source < length marks') (plan_at dist how.degree how.entry w₃ at.stats at.plans j)
   plan_sources j h =
-      let cs = cands w₃ (plans + 640 * j) (count_at w₃ stats j) in
-      repair_sources (λ s. s < length marks') dist repair_degree e (ids cs)
+      let cs = cands w₃ (at.plans + 640 * j) (count_at w₃ at.stats j) in
+      repair_sources (λ s. s < length marks') dist how.degree how.entry (ids cs)
       (all_ids (λ s. s < length marks') cs (all_map (λ c. is_valid marks' c.id ≡ true) (λ c. c.id < length marks') (λ c. live_inside marks' c.id) cs (m.each j h).plan.live))
 
-  sources_from : (n j : ℕ) → j + n ≤ p → All (λ l. l.source < length marks') (concat_map (plan_at dist repair_degree e w₃ stats plans) (range j n))
+  sources_from : (n j : ℕ) → j + n ≤ at.count → All (λ l. l.source < length marks') (concat_map (plan_at dist how.degree how.entry w₃ at.stats at.plans) (range j n))
   sources_from zero j h = tt
   sources_from (suc n) j h =
-      all_append (λ l. l.source < length marks') (plan_at dist repair_degree e w₃ stats plans j) (concat_map (plan_at dist repair_degree e w₃ stats plans) (range (suc j) n))
+      all_append (λ l. l.source < length marks') (plan_at dist how.degree how.entry w₃ at.stats at.plans j) (concat_map (plan_at dist how.degree how.entry w₃ at.stats at.plans) (range (suc j) n))
       (plan_sources j (omega arith)) (sources_from n (suc j) (omega arith))
 
 -- ---- the whole
@@ -218,44 +221,47 @@ words_agree f g zero j h = refl
 words_agree f g (suc n) j h = ap₂ (λ (x : Stats) (y : List Stats). x ∷ y) (h j (omega arith) (omega arith)) (words_agree f g n (suc j) (λ i x y. h i (omega arith) (omega arith)))
 
 module _ {a : Arrays} {entry repair_beam repair_degree : ℕ} {named w : List ℕ} (o : Deletable a entry repair_beam repair_degree named w) where
-  abbrev from : ℕ
-  from = work_at (length a.marks)
+  pub batch_takes : Takeable a named w
+  batch_takes = record { ids_most = o.ids_most; room = omega (arith, o.enough); low = o.together.degree_most }
 
-  abbrev stats : ℕ
-  stats = stats_at (length a.marks)
+  -- what the first acts leave
+  module _ {at : Layout} {w₂ : List ℕ} (t : Taken a named w at w₂) where
+    pub batch_inside : Inside (length a.marks) w₂ at.from at.count
+    batch_inside = let l = rw t.place at t.list in let r = rw t.place at t.rows in rw t.place (taken_clear batch_takes l r)
 
-  abbrev plans : ℕ
-  plans = stats_at (length a.marks) + 1024
+    pub batch_marked : {marks' : List ℕ} {e : ℕ} → marks' ≡ cleared a.marks (ids (cands w₂ at.from at.count)) → e ≡ entry_after marks' entry (ids (cands w₂ at.from at.count))
+        → Marked a entry named w (layout_of (length a.marks) at.count) e marks' w₂
+    batch_marked m n = let l = rw t.place at t.list in let r = rw t.place at t.rows in marked batch_takes l r (rw t.place at m) (rw t.place at n)
 
-  abbrev base : ℕ
-  base = stats_at (length a.marks) + 1024 + 163840
+  module _ {p e : ℕ} {marks' w₂ : List ℕ} (c : Marked a entry named w (layout_of (length a.marks) p) e marks' w₂) where
+    abbrev at : Layout
+    at = layout_of (length a.marks) p
 
-  pub batch_takes : Takeable a.marks entry named w from stats plans
-  batch_takes = record { entry_in = o.entry_in; ids_most = o.ids_most; first = omega arith; second = omega arith; third = omega (arith, o.enough) }
-
-  module _ {p e : ℕ} {marks' w₂ : List ℕ} (c : Marked a entry named w from stats plans p e marks' w₂) where
     abbrev slots : List ℕ
-    slots = ids (cands c.taken from p)
+    slots = ids (cands c.taken at.from p)
 
     long : length marks' ≡ length a.marks
-    long = ap length c.marks_are ∙ cleared_long a.marks (ids (cands c.taken from p))
+    long = ap length c.marks_are ∙ cleared_long a.marks (ids (cands c.taken at.from p))
 
-    stay : cands w₂ from p ≡ cands c.taken from p
-    stay = taken_stay o.together batch_takes c.list c.rows
+    stay : cands w₂ at.from p ≡ cands c.taken at.from p
+    stay = taken_stay batch_takes c.list c.rows
 
     pub batch_together : Together (with_marks a marks')
     batch_together = together_kept refl refl refl long o.together
 
     module _ {d : ℕ} (q : d ≡ max 1 repair_degree) where
-      pub batch_repairs : Repairable (with_marks a marks') e repair_beam d w₂ from p stats plans base
+      abbrev how : Repair
+      how = record { entry = e; beam = repair_beam; degree = d }
+
+      pub batch_repairs : Repairable (with_marks a marks') how w₂ at
       batch_repairs =
-          let t = taken_table o.together batch_takes c.list in
-          let i = taken_clear o.together batch_takes c.list c.rows in
+          let t = taken_table batch_takes c.list in
+          let i = taken_clear batch_takes c.list c.rows in
           let h : entry < length marks' = rw long o.entry_in in
-          let dead : All (λ x. is_valid marks' x.id ≡ false) (cands c.taken from p) = rw c.marks_are (cleared_dead a.marks (cands c.taken from p)) in
+          let dead : All (λ x. is_valid marks' x.id ≡ false) (cands c.taken at.from p) = rw c.marks_are (cleared_dead a.marks (cands c.taken at.from p)) in
           record {
             makes = record {
-              entry_in = rw c.entry_is (entry_inside marks' entry (ids (cands c.taken from p)) h);
+              entry_in = rw c.entry_is (entry_inside marks' entry (ids (cands c.taken at.from p)) h);
               beam_most = o.beam_most;
               degree_most = omega (arith, o.degree_most);
               behind = rw long (omega arith);
@@ -269,7 +275,7 @@ module _ {a : Arrays} {entry repair_beam repair_degree : ℕ} {named w : List �
           }
 
       module _ {alpha : Float} {targets edges versions w₃ : List ℕ}
-          (r : Repaired alpha (with_marks a marks') e repair_beam d w₂ from p stats plans base (arrays a.dim a.degree a.vectors targets edges versions marks') w₃) where
+          (r : Repaired alpha (with_marks a marks') how w₂ at (arrays a.dim a.degree a.vectors targets edges versions marks') w₃) where
         abbrev b : Store
         b = index_of alpha entry a
 
@@ -277,13 +283,13 @@ module _ {a : Arrays} {entry repair_beam repair_degree : ℕ} {named w : List �
         b' = index_of alpha e (with_marks a marks')
 
         abbrev links : List Link
-        links = plans_at (between a.dim a.vectors) d e r.made stats plans p
+        links = plans_at (between a.dim a.vectors) d e r.made at.stats at.plans p
 
-        below : from + 2 * p ≤ stats
-        below = (taken_table o.together batch_takes c.list).first
+        below : at.from + 2 * p ≤ at.stats
+        below = (taken_table batch_takes c.list).first
 
         inside : All (λ s. s < length a.marks) slots
-        inside = all_ids (λ s. s < length a.marks) (cands c.taken from p) (taken_inside o.together batch_takes c.list).each
+        inside = all_ids (λ s. s < length a.marks) (cands c.taken at.from p) (taken_inside batch_takes c.list).each
 
         the_slots : emptied (store_view b) named ≡ slots
         unfolding emptied store_view
@@ -314,35 +320,35 @@ module _ {a : Arrays} {entry repair_beam repair_degree : ℕ} {named w : List �
         in_order : write_rows store_ops b' (repaired_rows (store_view b') links) ≡ foldl apply_link b' links
         in_order =
             sym (links_in_order b' links (together_shaped batch_together) batch_together.rows.few
-            (sources_from a alpha entry marks' e repair_beam d c.taken w₂ r.made from p stats plans below c.rows r.plan p 0 (omega arith)))
+            (sources_from a alpha entry marks' how c.taken w₂ r.made at below c.rows r.plan p 0 (omega arith)))
 
         finished : foldl store_ops.finish (foldl apply_link b' links) slots ≡ index_of alpha e (arrays a.dim a.degree a.vectors targets edges versions marks')
         finished = sym (r.does ∙ ap (λ (cs : List Candidate). foldl store_ops.finish (foldl apply_link b' links) (ids cs)) stay)
 
-        kept : (i : ℕ) → i < p → stats_of r.made stats i ≡ stats_of w₃ stats i
+        kept : (i : ℕ) → i < p → stats_of r.made at.stats i ≡ stats_of w₃ at.stats i
         kept i h =
-            let z = (taken_table o.together batch_takes c.list).few in
-            let x₀ : get_or w₃ (stats + 4 * i) 0 ≡ get_or r.made (stats + 4 * i) 0 = r.same (stats + 4 * i) (omega (arith, z)) in
-            let x₁ : get_or w₃ (stats + 4 * i + 1) 0 ≡ get_or r.made (stats + 4 * i + 1) 0 = r.same (stats + 4 * i + 1) (omega (arith, z)) in
-            let x₂ : get_or w₃ (stats + 4 * i + 2) 0 ≡ get_or r.made (stats + 4 * i + 2) 0 = r.same (stats + 4 * i + 2) (omega (arith, z)) in
-            let x₃ : get_or w₃ (stats + 4 * i + 3) 0 ≡ get_or r.made (stats + 4 * i + 3) 0 = r.same (stats + 4 * i + 3) (omega (arith, z)) in
+            let z = (taken_table batch_takes c.list).few in
+            let x₀ : get_or w₃ (at.stats + 4 * i) 0 ≡ get_or r.made (at.stats + 4 * i) 0 = r.same (at.stats + 4 * i) (omega (arith, z)) in
+            let x₁ : get_or w₃ (at.stats + 4 * i + 1) 0 ≡ get_or r.made (at.stats + 4 * i + 1) 0 = r.same (at.stats + 4 * i + 1) (omega (arith, z)) in
+            let x₂ : get_or w₃ (at.stats + 4 * i + 2) 0 ≡ get_or r.made (at.stats + 4 * i + 2) 0 = r.same (at.stats + 4 * i + 2) (omega (arith, z)) in
+            let x₃ : get_or w₃ (at.stats + 4 * i + 3) 0 ≡ get_or r.made (at.stats + 4 * i + 3) 0 = r.same (at.stats + 4 * i + 3) (omega (arith, z)) in
             rw (x₀, x₁, x₂, x₃)
 
         pub batch_deleted : BatchDeleted a alpha entry repair_beam repair_degree named (arrays a.dim a.degree a.vectors targets edges versions marks') e p w₃
         unfolding delete_batch store_ops
         batch_deleted =
             record {
-              count = sym (cands_length c.taken from p) ∙ sym (ids_length (cands c.taken from p)) ∙ ap length (sym the_slots);
+              count = sym (cands_length c.taken at.from p) ∙ sym (ids_length (cands c.taken at.from p)) ∙ ap length (sym the_slots);
               few = c.list.few;
               does =
                   ap (λ (n : ℕ). delete_slots store_ops repair_beam n b (emptied (store_view b) named)) (sym q)
                   ∙ ap (delete_slots store_ops repair_beam d b) the_slots
                   ∙ acts
                   ∙ ap₂ (λ (ls : List Link) (ss : List Stats). (foldl store_ops.finish (write_rows store_ops b' (repaired_rows (store_view b') ls)) slots, ss))
-                  (all_links a alpha entry marks' e repair_beam d c.taken w₂ r.made from p stats plans below c.rows r.plan)
-                  (all_stats a alpha entry marks' e repair_beam d c.taken w₂ r.made from p stats plans below c.rows r.plan)
+                  (all_links a alpha entry marks' how c.taken w₂ r.made at below c.rows r.plan)
+                  (all_stats a alpha entry marks' how c.taken w₂ r.made at below c.rows r.plan)
                   ∙ ap₂ (λ (s : Store) (ss : List Stats). (s, ss)) (ap (λ (s : Store). foldl store_ops.finish s slots) in_order ∙ finished)
-                  (words_agree (stats_of r.made stats) (stats_of w₃ stats) p 0 (λ i l h. kept i (omega arith)));
+                  (words_agree (stats_of r.made at.stats) (stats_of w₃ at.stats) p 0 (λ i l h. kept i (omega arith)));
             }
 
 -- the same of every index that has the slices, as many slots as marks

@@ -14,17 +14,19 @@ use Rattle.lists.proofs.Firsts.{filter_same}
 use Rattle.lists.proofs.Parts.{fits_in}
 use Rattle.lists.proofs.Unique.{Unique, unique_filter, unique_distinct}
 use Rattle.vectors.specs.Distance.{f32}
+use Rattle.vectors.specs.Vector.{Bytes}
 use Rattle.candidates.specs.Candidates.{Candidate, ids}
 use Rattle.candidates.specs.Inner.Words.{cand, cands, put, kept, Left, Outside}
 use Rattle.candidates.proofs.Words.{cands_length, cands_none, cands_cons, cands_append, cands_each, cands_kept, put_length, outside_none, outside_put}
 use Rattle.candidates.proofs.Scored.{ids_length}
 use Rattle.slots.specs.Scratch.{work_at}
-use Rattle.slots.specs.Store.{Arrays, Store, is_valid, vector_of, refs_of, store_view}
+use Rattle.slots.specs.Store.{Arrays, Store, is_valid, vector_of, store_view}
+use Rattle.slots.specs.Inner.Rows.{RowShape}
 use Rattle.slots.proofs.Places.{live_inside, shape_fits}
 use Rattle.walk.specs.Walk.{search_pool}
 use Rattle.walk.specs.Inner.Scratch.{Ready, Pool}
 use Rattle.walk.proofs.Ordered.{search_pool_found}
-use Rattle.row.specs.Row.{Together, index_of}
+use Rattle.row.specs.Row.{index_of}
 use Rattle.links.specs.Inner.Planning.{Plan}
 use Rattle.deletion.specs.Inner.Naming.{Risen}
 use Rattle.deletion.specs.Inner.Plans.{refers, RowsIn, Passed, recovered_by, Collectable, Collects}
@@ -32,7 +34,6 @@ use Rattle.deletion.proofs.Naming.{ids_push}
 
 -- ---- slots are recovered
 pub record Passing (p : ℕ → Bool) (w₀ : List ℕ) (at n to : ℕ) (w : List ℕ) (m k : ℕ) : Type 0 where
-  pub bound : k ≤ n
   pub few : m ≤ k
   pub goes : ids (cands w to m) ++ filter p (ids (cands w₀ (at + 2 * k) (n - k))) ≡ filter p (ids (cands w₀ at n))
   pub size : length w ≡ length w₀
@@ -43,17 +44,14 @@ unfolding cands
 passing_none p w at n to =
     let e : at + 2 * 0 ≡ at = omega arith in
     let z : n - 0 ≡ n = omega arith in
-    record { bound = omega arith; few = omega arith; goes = rw (e, z); size = refl; same = outside_none to (2 * n) w }
+    record { few = omega arith; goes = rw (e, z); size = refl; same = outside_none to (2 * n) w }
 
--- what `holds` asks, and what it says; u is x as an index
-pub rows_ready : {degree : ℕ} {targets edges w₀ : List ℕ} {at n to : ℕ} → RowsIn degree targets edges w₀ at n to → (k : ℕ) → k < n → {x u : ℕ} → x ≡ (cand w₀ (at + 2 * k)).id → u ≡ x
-    → (u * degree + degree ≤ length targets) × (u * degree + degree ≤ length edges)
-rows_ready {degree} {targets} {edges} {w₀} {at} {n} f k h e i =
-    let r = cands_each (λ c. (c.id * degree + degree ≤ length targets) × (c.id * degree + degree ≤ length edges)) w₀ at n f.stored k h in
-    (rw (i ∙ e) r.0, rw (i ∙ e) r.1)
-
-pub refers_by : (id degree : ℕ) (targets edges versions : List ℕ) {x u : ℕ} {b r : Bool} → u ≡ x → b ≡ refers id degree targets edges versions u → b ≡ r → refers id degree targets edges versions x ≡ r
-refers_by id degree targets edges versions e i k = ap (refers id degree targets edges versions) (sym e) ∙ sym i ∙ k
+-- what `holds` asks
+pub rows_ready : {a : Arrays} {w₀ : List ℕ} {at n to : ℕ} → RowsIn a w₀ at n to → (k : ℕ) → k < n → {x : ℕ} → x ≡ (cand w₀ (at + 2 * k)).id
+    → (x * a.degree + a.degree ≤ length a.targets) × (x * a.degree + a.degree ≤ length a.edges)
+rows_ready {a} {w₀} {at} {n} f k h e =
+    let r = cands_each (λ c. (c.id * a.degree + a.degree ≤ length a.targets) × (c.id * a.degree + a.degree ≤ length a.edges)) w₀ at n f.stored k h in
+    (rw e r.0, rw e r.1)
 
 module _ {p : ℕ → Bool} {w₀ : List ℕ} {at n to : ℕ} {w : List ℕ} {m k : ℕ} (g : Passing p w₀ at n to w m k) (apart : at + 2 * n ≤ to) where
   pub passing_id : k < n → {x : ℕ} → x ≡ (cand w (at + 2 * k)).id → x ≡ (cand w₀ (at + 2 * k)).id
@@ -64,7 +62,6 @@ module _ {p : ℕ → Bool} {w₀ : List ℕ} {at n to : ℕ} {w : List ℕ} {m 
       let q = passing_id h e in
       let t : p (cand w₀ (at + 2 * k)).id ≡ true = ap p (sym q) ∙ o in
       record {
-        bound = omega arith;
         few = omega (arith, g.few);
         goes = rw (ids_push w x x to m (omega (arith, g.size, g.few)), append_assoc, q) (rw (cands_cons w₀ at n k h, t) at g.goes);
         size = put_length w (to + 2 * m) x x ∙ g.size;
@@ -74,12 +71,12 @@ module _ {p : ℕ → Bool} {w₀ : List ℕ} {at n to : ℕ} {w : List ℕ} {m 
   pub passing_skip : k < n → {x : ℕ} → x ≡ (cand w (at + 2 * k)).id → p x ≡ false → Passing p w₀ at n to w m (k + 1)
   passing_skip h e o =
       let t : p (cand w₀ (at + 2 * k)).id ≡ false = ap p (sym (passing_id h e)) ∙ o in
-      record { bound = omega arith; few = omega (arith, g.few); goes = rw (cands_cons w₀ at n k h, t) at g.goes; size = g.size; same = g.same }
+      record { few = omega (arith, g.few); goes = rw (cands_cons w₀ at n k h, t) at g.goes; size = g.size; same = g.same }
 
-  pub passing_done : n ≤ k → Passed p w₀ at n to m w
+  pub passing_done : k ≡ n → Passed p w₀ at n to m w
   passing_done h =
       let z : n - k ≡ 0 = omega arith in
-      record { list = rw (cands_none w₀ (at + 2 * k) (n - k) z, append-nil) at g.goes; few = omega (arith, g.few, g.bound); size = g.size; same = g.same }
+      record { list = rw (cands_none w₀ (at + 2 * k) (n - k) z, append-nil) at g.goes; few = omega (arith, g.few); size = g.size; same = g.same }
 
 -- ---- the live ones of a rising list
 -- a dead slot need not be left out by itself
@@ -129,8 +126,8 @@ pool_inside {a} {query} {entry} {beam} f =
     (search_pool_found (store_view b) query beam (live_inside a.marks)).holds)
 
 -- what a view shows, by the slices
-refers_view : (b : Store) (s : ℕ) → refers s b.arrays.degree b.arrays.targets b.arrays.edges b.arrays.versions ≡ (λ t. elem s ((store_view b).refs t))
-unfolding refs_of store_view
+refers_view : (b : Store) (s : ℕ) → refers b.arrays s ≡ (λ t. elem s ((store_view b).refs t))
+unfolding store_view
 refers_view b s = refl
 
 vector_view : (b : Store) (s : ℕ) → part b.arrays.dim s b.arrays.vectors ≡ (store_view b).space.vector s
@@ -141,26 +138,16 @@ live_view : (b : Store) → is_valid b.arrays.marks ≡ (store_view b).live
 unfolding store_view
 live_view b = refl
 
-module _ {a : Arrays} {s entry beam : ℕ} {w : List ℕ} {at r : ℕ} (o : Together a) (d : Collectable a s entry beam w at r) where
-  -- the vector can be lent; x is s as an index
-  pub collect_vector : {x : ℕ} → x ≡ s → x * a.dim + a.dim ≤ length a.vectors
-  collect_vector {x} e = fits_in a.dim (length a.marks) x (length a.vectors) (omega (arith, d.slot_in)) o.bytes.long
+module _ {a : Arrays} {s entry beam : ℕ} {w : List ℕ} {at r : ℕ} (d : Collectable a s entry beam w at r) where
+  -- the vector can be lent
+  pub collect_vector : Bytes a.dim (length a.marks) a.vectors → s * a.dim + a.dim ≤ length a.vectors
+  collect_vector o = fits_in a.dim (length a.marks) s (length a.vectors) d.slot_in o.long
 
-  module _ {x : ℕ} (ex : x ≡ s) {query : List ℕ} (eq : query ≡ part a.dim x a.vectors) where
-    is_query : query ≡ part a.dim s a.vectors
-    is_query = eq ∙ ap (λ (y : ℕ). part a.dim y a.vectors) ex
-
-    pub collect_ready : Ready a query entry beam w
-    collect_ready =
+  module _ {query : List ℕ} (is_query : query ≡ part a.dim s a.vectors) where
+    pub collect_ready : Bytes a.dim (length a.marks) a.vectors → Ready a query entry beam w
+    collect_ready o =
         record {
-          lent = record {
-            vectors = record {
-              vectors_long = o.bytes.long;
-              dim_most = o.bytes.small;
-              query_long = rw is_query (simp (length-take, length-drop) (omega (arith, collect_vector refl)));
-            };
-            rows = o.rows;
-          };
+          query_long = rw is_query (simp (length-take, length-drop) (omega (arith, collect_vector o)));
           start_inside = d.entry_in;
           beam_most = omega (arith, d.beam_most);
           room = omega (arith, d.behind, d.inside);
@@ -170,16 +157,16 @@ module _ {a : Arrays} {s entry beam : ℕ} {w : List ℕ} {at r : ℕ} (o : Toge
       pool_few : n ≤ 256
       pool_few = omega (arith, f.few, d.beam_most)
 
-      pub collect_rows : RowsIn a.degree a.targets a.edges w₁ 0 n (at + 2 * r)
-      collect_rows =
+      pub collect_rows : RowShape a.degree a.targets a.edges a.versions a.marks → RowsIn a w₁ 0 n (at + 2 * r)
+      collect_rows o =
           record {
             stored = all_map (λ c. c.id < length a.marks) (λ c. (c.id * a.degree + a.degree ≤ length a.targets) × (c.id * a.degree + a.degree ≤ length a.edges))
-                (λ c h. shape_fits o.rows c.id h) (cands w₁ 0 n) (pool_inside f);
+                (λ c h. shape_fits o c.id h) (cands w₁ 0 n) (pool_inside f);
             apart = omega (arith, pool_few, d.behind);
             inside = omega (arith, pool_few, f.size, d.inside, d.few, d.low);
           }
 
-      module _ {k : ℕ} {w₂ : List ℕ} (t : Passed (refers s a.degree a.targets a.edges a.versions) w₁ 0 n (at + 2 * r) k w₂) where
+      module _ {k : ℕ} {w₂ : List ℕ} (t : Passed (refers a s) w₁ 0 n (at + 2 * r) k w₂) where
         pub collect_few : r + k ≤ 320
         collect_few = omega (arith, t.few, pool_few, d.few, d.low)
 

@@ -1,7 +1,7 @@
 -- The rows of the deleted slots are taken, and their plans made, one after the other. Assumes nothing.
 use Prim.Native.Nat.{ℕ, ◌+◌, ◌*◌, ◌≤◌, ◌<◌}
 use mathlib.Core.Bool.{false}
-use mathlib.Core.Path.{◌≡◌, refl, ap, sym, ◌∙◌}
+use mathlib.Core.Path.{◌≡◌, ap, ◌∙◌}
 use mathlib.Core.List.{List}
 use native.Mathlib.Omega.{arith}
 use borrow.Author.Count.{below_more}
@@ -16,66 +16,63 @@ use Rattle.slots.specs.View.{live_neighbors}
 use Rattle.slots.specs.Store.{Arrays, is_valid, store_view}
 use Rattle.row.specs.Row.{index_of, LiveScored}
 use Rattle.links.specs.Inner.Planning.{Attempted, count_at}
+use Rattle.deletion.specs.declared.layout.Layout.{Layout}
+use Rattle.deletion.specs.declared.plans.Repair.{Repair}
 use Rattle.deletion.specs.Inner.Naming.{Inside}
 use Rattle.deletion.specs.Inner.Plans.{Table, row_count, RowOf, RowsTaken, Collectable, Collects, counted, Makeable, PlanOf, PlansMade}
 
 -- ---- the rows
-pub record TakingRows (a : Arrays) (w₀ : List ℕ) (from p stats plans : ℕ) (w : List ℕ) (k : ℕ) : Type 0 where
-  pub bound : k ≤ p
-  pub each : (j : ℕ) → j < k → RowOf a (cand w₀ (from + 2 * j)).id w stats plans j
+pub record TakingRows (a : Arrays) (w₀ : List ℕ) (at : Layout) (w : List ℕ) (k : ℕ) : Type 0 where
+  pub each : (j : ℕ) → j < k → RowOf a (cand w₀ (at.from + 2 * j)).id w at j
   pub size : length w ≡ length w₀
-  pub same : (j : ℕ) → j < stats → get_or w j 0 ≡ get_or w₀ j 0
-
-pub taking_none : (a : Arrays) (w : List ℕ) (from p stats plans : ℕ) → TakingRows a w from p stats plans w 0
-taking_none a w from p stats plans = record { bound = omega arith; each = λ j h. absurd (omega arith); size = refl; same = λ j h. refl }
+  pub same : (j : ℕ) → j < at.stats → get_or w j 0 ≡ get_or w₀ j 0
 
 -- a row whose words and count stay
-row_stays : {a : Arrays} {s : ℕ} {w w' : List ℕ} {stats plans j : ℕ} → RowOf a s w stats plans j → a.degree ≤ 64 → row_count w' stats j ≡ row_count w stats j
-    → ((i : ℕ) → plans + 640 * j ≤ i → i < plans + 640 * j + 128 → get_or w' i 0 ≡ get_or w i 0) → RowOf a s w' stats plans j
-row_stays {w = w} {w' = w'} {stats = stats} {plans = plans} {j = j} f l e h =
+row_stays : {a : Arrays} {s : ℕ} {w w' : List ℕ} {at : Layout} {j : ℕ} → RowOf a s w at j → a.degree ≤ 64 → row_count w' at j ≡ row_count w at j
+    → ((i : ℕ) → at.plans + 640 * j ≤ i → i < at.plans + 640 * j + 128 → get_or w' i 0 ≡ get_or w i 0) → RowOf a s w' at j
+row_stays {w = w} {w' = w'} {at = at} {j = j} f l e h =
     record {
       list = λ alpha entry.
-          ap ids (ap (cands w' (plans + 640 * j)) e ∙ cands_agree w w' (plans + 640 * j) (row_count w stats j) (λ i x y. h i x (omega (arith, f.few))))
+          ap ids (ap (cands w' (at.plans + 640 * j)) e ∙ cands_agree w w' (at.plans + 640 * j) (row_count w at j) (λ i x y. h i x (omega (arith, f.few))))
           ∙ f.list alpha entry;
       few = omega (arith, e, f.few);
     }
 
-module _ {a : Arrays} {w₀ : List ℕ} {from p stats plans : ℕ} {w : List ℕ} {k : ℕ} (f : TakingRows a w₀ from p stats plans w k)
-    (b : Inside (length a.marks) w₀ from p) (t : Table a.degree w₀ from p stats plans) where
-  module _ (h : k < p) {s : ℕ} (e : s ≡ (cand w (from + 2 * k)).id) where
-    taken_slot : s ≡ (cand w₀ (from + 2 * k)).id
-    taken_slot = e ∙ f.same (from + 2 * k + 1) (omega (arith, t.first))
+module _ {a : Arrays} {w₀ : List ℕ} {at : Layout} {w : List ℕ} {k : ℕ} (f : TakingRows a w₀ at w k)
+    (b : Inside (length a.marks) w₀ at.from at.count) (t : Table a.degree w₀ at) where
+  module _ (h : k < at.count) {s : ℕ} (e : s ≡ (cand w (at.from + 2 * k)).id) where
+    taken_slot : s ≡ (cand w₀ (at.from + 2 * k)).id
+    taken_slot = e ∙ f.same (at.from + 2 * k + 1) (omega (arith, t.first))
 
-    pub taking_asks : (s < length a.marks) × (plans + 640 * k + 2 * a.degree ≤ length w)
+    pub taking_asks : (s < length a.marks) × (at.plans + 640 * k + 2 * a.degree ≤ length w)
     taking_asks =
-        let r = cands_each (λ c. c.id < length a.marks) w₀ from p b.each k h in
+        let r = cands_each (λ c. c.id < length a.marks) w₀ at.from at.count b.each k h in
         (omega (arith, r, taken_slot), omega (arith, f.size, t.third, t.low))
 
-    pub taking_more : {r : ℕ} {w₁ : List ℕ} → LiveScored a s w (plans + 640 * k) r w₁ → TakingRows a w₀ from p stats plans (set w₁ (stats + 4 * k) r) (k + 1)
+    pub taking_more : {r : ℕ} {w₁ : List ℕ} → LiveScored a s w (at.plans + 640 * k) r w₁ → TakingRows a w₀ at (set w₁ (at.stats + 4 * k) r) (k + 1)
     taking_more {r} {w₁} g =
-        let w₂ = set w₁ (stats + 4 * k) r in
-        let off : (j : ℕ) → (j ≡ stats + 4 * k → ⊥) → get_or (set w₁ (stats + 4 * k) r) j 0 ≡ get_or w₁ j 0 = λ j o. get_or-set_other w₁ (stats + 4 * k) j r 0 o in
-        let on : get_or (set w₁ (stats + 4 * k) r) (stats + 4 * k) 0 ≡ r = get_or-set_same w₁ (stats + 4 * k) r 0 (omega (arith, g.size, f.size, t.second, t.third)) in
+        let w₂ = set w₁ (at.stats + 4 * k) r in
+        let off : (j : ℕ) → (j ≡ at.stats + 4 * k → ⊥) → get_or (set w₁ (at.stats + 4 * k) r) j 0 ≡ get_or w₁ j 0 = λ j o. get_or-set_other w₁ (at.stats + 4 * k) j r 0 o in
+        let on : get_or (set w₁ (at.stats + 4 * k) r) (at.stats + 4 * k) 0 ≡ r = get_or-set_same w₁ (at.stats + 4 * k) r 0 (omega (arith, g.size, f.size, t.second, t.third)) in
         record {
-          bound = omega arith;
-          each = below_more (λ (j : ℕ). RowOf a (cand w₀ (from + 2 * j)).id (set w₁ (stats + 4 * k) r) stats plans j) k
+          each = below_more (λ (j : ℕ). RowOf a (cand w₀ (at.from + 2 * j)).id (set w₁ (at.stats + 4 * k) r) at j) k
               (λ j l. row_stays (f.each j l) t.low
-              (off (stats + 4 * j) (λ z. omega arith) ∙ g.same (stats + 4 * j) (λ z. absurd (omega (arith, t.second))))
+              (off (at.stats + 4 * j) (λ z. omega arith) ∙ g.same (at.stats + 4 * j) (λ z. absurd (omega (arith, t.second))))
               (λ n y z. off n (λ o. absurd (omega (arith, t.second))) ∙ g.same n (λ o. absurd (omega arith))))
               (record {
                 list = λ alpha entry.
-                    ap ids (ap (cands w₂ (plans + 640 * k)) on
-                    ∙ cands_agree w₁ w₂ (plans + 640 * k) r (λ n y z. off n (λ o. absurd (omega (arith, t.second))))
+                    ap ids (ap (cands w₂ (at.plans + 640 * k)) on
+                    ∙ cands_agree w₁ w₂ (at.plans + 640 * k) r (λ n y z. off n (λ o. absurd (omega (arith, t.second))))
                     ∙ g.list alpha entry)
                     ∙ ids_scored _ (live_neighbors (store_view (index_of alpha entry a)) s)
                     ∙ ap (λ (z : ℕ). live_neighbors (store_view (index_of alpha entry a)) z) taken_slot;
                 few = omega (arith, on, g.few);
               });
-          size = length-set w₁ (stats + 4 * k) r ∙ g.size ∙ f.size;
+          size = length-set w₁ (at.stats + 4 * k) r ∙ g.size ∙ f.size;
           same = λ j l. off j (λ o. absurd (omega arith)) ∙ g.same j (λ o. absurd (omega (arith, t.second))) ∙ f.same j l;
         }
 
-  pub taking_done : p ≤ k → RowsTaken a w₀ from p stats plans w
+  pub taking_done : k ≡ at.count → RowsTaken a w₀ at w
   taking_done h = record { each = λ j l. f.each j (omega arith); size = f.size; same = f.same }
 
 -- ---- three counts behind a word
@@ -105,45 +102,41 @@ module _ (w : List ℕ) (at q m n : ℕ) where
     counted_third = get_or-set_same (set (set w (at + 1) q) (at + 2) m) (at + 3) n 0 (omega (arith, length-set (set w (at + 1) q) (at + 2) m, length-set w (at + 1) q))
 
 -- ---- the plans
-pub record Making (a : Arrays) (entry beam repair_degree : ℕ) (w₀ : List ℕ) (from p stats plans : ℕ) (w : List ℕ) (k : ℕ) : Type 0 where
-  pub bound : k ≤ p
-  pub each : (j : ℕ) → j < k → PlanOf a (cand w₀ (from + 2 * j)).id entry beam repair_degree w₀ stats plans j w
+pub record Making (a : Arrays) (how : Repair) (w₀ : List ℕ) (at : Layout) (w : List ℕ) (k : ℕ) : Type 0 where
+  pub each : (j : ℕ) → j < k → PlanOf a (cand w₀ (at.from + 2 * j)).id how w₀ at j w
   pub size : length w ≡ length w₀
   -- what is neither the walk's nor of the first k plans
-  pub same : (i : ℕ) → work_at (length a.marks) ≤ i → (stats ≤ i → stats + 4 * k ≤ i) → (plans ≤ i → plans + 640 * k ≤ i) → get_or w i 0 ≡ get_or w₀ i 0
-
-pub making_none : (a : Arrays) (entry beam repair_degree : ℕ) (w : List ℕ) (from p stats plans : ℕ) → Making a entry beam repair_degree w from p stats plans w 0
-making_none a entry beam repair_degree w from p stats plans = record { bound = omega arith; each = λ j h. absurd (omega arith); size = refl; same = λ i x y z. refl }
+  pub same : (i : ℕ) → work_at (length a.marks) ≤ i → (at.stats ≤ i → at.stats + 4 * k ≤ i) → (at.plans ≤ i → at.plans + 640 * k ≤ i) → get_or w i 0 ≡ get_or w₀ i 0
 
 -- a plan whose words stay
-plan_stays : {a : Arrays} {s entry beam repair_degree : ℕ} {w₀ : List ℕ} {stats plans j : ℕ} {w w' : List ℕ} → PlanOf a s entry beam repair_degree w₀ stats plans j w
-    → ((i : ℕ) → stats + 4 * j ≤ i → i < stats + 4 * j + 4 → get_or w' i 0 ≡ get_or w i 0) → ((i : ℕ) → plans + 640 * j ≤ i → i < plans + 640 * j + 640 → get_or w' i 0 ≡ get_or w i 0)
-    → PlanOf a s entry beam repair_degree w₀ stats plans j w'
-plan_stays {repair_degree = repair_degree} {stats = stats} {plans = plans} {j = j} {w = w} {w' = w'} f x y =
-    let e : count_at w' stats j ≡ count_at w stats j = x (stats + 4 * j + 2) (omega arith) (omega arith) in
-    let z : cands w' (plans + 640 * j) (count_at w' stats j) ≡ cands w (plans + 640 * j) (count_at w stats j) =
-    ap (cands w' (plans + 640 * j)) e ∙ cands_agree w w' (plans + 640 * j) (count_at w stats j) (λ i u v. y i u (omega (arith, f.plan.few))) in
-    let g : get_or w' (stats + 4 * j + 3) 0 ≡ get_or w (stats + 4 * j + 3) 0 = x (stats + 4 * j + 3) (omega arith) (omega arith) in
+plan_stays : {a : Arrays} {s : ℕ} {how : Repair} {w₀ : List ℕ} {at : Layout} {j : ℕ} {w w' : List ℕ} → PlanOf a s how w₀ at j w
+    → ((i : ℕ) → at.stats + 4 * j ≤ i → i < at.stats + 4 * j + 4 → get_or w' i 0 ≡ get_or w i 0) → ((i : ℕ) → at.plans + 640 * j ≤ i → i < at.plans + 640 * j + 640 → get_or w' i 0 ≡ get_or w i 0)
+    → PlanOf a s how w₀ at j w'
+plan_stays {at = at} {j = j} {w = w} {w' = w'} f x y =
+    let e : count_at w' at.stats j ≡ count_at w at.stats j = x (at.stats + 4 * j + 2) (omega arith) (omega arith) in
+    let z : cands w' (at.plans + 640 * j) (count_at w' at.stats j) ≡ cands w (at.plans + 640 * j) (count_at w at.stats j) =
+    ap (cands w' (at.plans + 640 * j)) e ∙ cands_agree w w' (at.plans + 640 * j) (count_at w at.stats j) (λ i u v. y i u (omega (arith, f.plan.few))) in
+    let g : get_or w' (at.stats + 4 * j + 3) 0 ≡ get_or w (at.stats + 4 * j + 3) 0 = x (at.stats + 4 * j + 3) (omega arith) (omega arith) in
     record {
-      row = x (stats + 4 * j) (omega arith) (omega arith) ∙ f.row;
-      recovered = λ alpha. x (stats + 4 * j + 1) (omega arith) (omega arith) ∙ f.recovered alpha;
+      row = x (at.stats + 4 * j) (omega arith) (omega arith) ∙ f.row;
+      recovered = λ alpha. x (at.stats + 4 * j + 1) (omega arith) (omega arith) ∙ f.recovered alpha;
       list = λ alpha. ap ids z ∙ f.list alpha;
       plan = record { few = omega (arith, e, f.plan.few); live = rw z f.plan.live; once = rw z f.plan.once };
       links = rw (e, g) f.links;
     }
 
-module _ {a : Arrays} {entry beam repair_degree : ℕ} {w₀ : List ℕ} {from p stats plans : ℕ} {w : List ℕ} {k : ℕ} (f : Making a entry beam repair_degree w₀ from p stats plans w k)
-    (b : Makeable a entry beam repair_degree w₀ from p stats plans) (h : k < p) {s : ℕ} (e : s ≡ (cand w (from + 2 * k)).id) {r : ℕ} (i : r ≡ row_count w stats k) where
-  the_slot : s ≡ (cand w₀ (from + 2 * k)).id
-  the_slot = e ∙ f.same (from + 2 * k + 1) (omega (arith, b.behind)) (λ u. absurd (omega (arith, b.table.first))) (λ u. absurd (omega (arith, b.table.first, b.table.second)))
+module _ {a : Arrays} {how : Repair} {w₀ : List ℕ} {at : Layout} {w : List ℕ} {k : ℕ} (f : Making a how w₀ at w k)
+    (b : Makeable a how w₀ at) (h : k < at.count) {s : ℕ} (e : s ≡ (cand w (at.from + 2 * k)).id) where
+  the_slot : s ≡ (cand w₀ (at.from + 2 * k)).id
+  the_slot = e ∙ f.same (at.from + 2 * k + 1) (omega (arith, b.behind)) (λ u. absurd (omega (arith, b.table.first))) (λ u. absurd (omega (arith, b.table.first, b.table.second)))
 
-  the_row : r ≡ row_count w₀ stats k
-  the_row = i ∙ f.same (stats + 4 * k) (omega (arith, b.behind, b.table.first)) (λ u. omega arith) (λ u. absurd (omega (arith, b.table.second)))
+  the_row : row_count w at k ≡ row_count w₀ at k
+  the_row = f.same (at.stats + 4 * k) (omega (arith, b.behind, b.table.first)) (λ u. omega arith) (λ u. absurd (omega (arith, b.table.second)))
 
-  pub making_collects : Collectable a s entry beam w (plans + 640 * k) r
+  pub making_collects : Collectable a s how.entry how.beam w (at.plans + 640 * k) (row_count w at k)
   making_collects =
-      let x = cands_each (λ c. c.id < length a.marks) w₀ from p b.inside.each k h in
-      let y = cands_each (λ c. is_valid a.marks c.id ≡ false) w₀ from p b.dead k h in
+      let x = cands_each (λ c. c.id < length a.marks) w₀ at.from at.count b.inside.each k h in
+      let y = cands_each (λ c. is_valid a.marks c.id ≡ false) w₀ at.from at.count b.dead k h in
       record {
         slot_in = rw the_slot x;
         dead = rw the_slot y;
@@ -155,56 +148,55 @@ module _ {a : Arrays} {entry beam repair_degree : ℕ} {w₀ : List ℕ} {from p
         inside = omega (arith, f.size, b.table.third);
       }
 
-  module _ {q m : ℕ} {w₁ : List ℕ} (c : Collects a s entry beam w (plans + 640 * k) r q m w₁) where
-    pub making_room : stats + 4 * k + 3 < length w₁
+  module _ {q m : ℕ} {w₁ : List ℕ} (c : Collects a s how.entry how.beam w (at.plans + 640 * k) (row_count w at k) q m w₁) where
+    pub making_room : at.stats + 4 * k + 3 < length w₁
     making_room = omega (arith, c.size, f.size, b.table.second, b.table.third)
 
-    module _ {n : ℕ} (v : Attempted repair_degree m n) {w₂ : List ℕ} (z : w₂ ≡ counted w₁ (stats + 4 * k) q m n) where
-      off : (j : ℕ) → (stats + 4 * k < j → stats + 4 * k + 4 ≤ j) → get_or w₂ j 0 ≡ get_or w₁ j 0
-      off j o = rw z (counted_other w₁ (stats + 4 * k) q m n j o)
+    module _ {n : ℕ} (v : Attempted how.degree m n) {w₂ : List ℕ} (z : w₂ ≡ counted w₁ (at.stats + 4 * k) q m n) where
+      off : (j : ℕ) → (at.stats + 4 * k < j → at.stats + 4 * k + 4 ≤ j) → get_or w₂ j 0 ≡ get_or w₁ j 0
+      off j o = rw z (counted_other w₁ (at.stats + 4 * k) q m n j o)
 
-      low : (j : ℕ) → work_at (length a.marks) ≤ j → (plans + 640 * k ≤ j → plans + 640 * k + 640 ≤ j) → get_or w₁ j 0 ≡ get_or w j 0
+      low : (j : ℕ) → work_at (length a.marks) ≤ j → (at.plans + 640 * k ≤ j → at.plans + 640 * k + 640 ≤ j) → get_or w₁ j 0 ≡ get_or w j 0
       low = c.same
 
-      second : count_at w₂ stats k ≡ m
-      second = rw z (counted_second w₁ (stats + 4 * k) q m n making_room)
+      second : count_at w₂ at.stats k ≡ m
+      second = rw z (counted_second w₁ (at.stats + 4 * k) q m n making_room)
 
-      third : get_or w₂ (stats + 4 * k + 3) 0 ≡ n
-      third = rw z (counted_third w₁ (stats + 4 * k) q m n making_room)
+      third : get_or w₂ (at.stats + 4 * k + 3) 0 ≡ n
+      third = rw z (counted_third w₁ (at.stats + 4 * k) q m n making_room)
 
-      block : cands w₂ (plans + 640 * k) (count_at w₂ stats k) ≡ cands w₁ (plans + 640 * k) m
-      block = ap (cands w₂ (plans + 640 * k)) second ∙ cands_agree w₁ w₂ (plans + 640 * k) m (λ j x y. off j (λ u. omega (arith, b.table.second)))
+      block : cands w₂ (at.plans + 640 * k) (count_at w₂ at.stats k) ≡ cands w₁ (at.plans + 640 * k) m
+      block = ap (cands w₂ (at.plans + 640 * k)) second ∙ cands_agree w₁ w₂ (at.plans + 640 * k) m (λ j x y. off j (λ u. omega (arith, b.table.second)))
 
-      before : cands w (plans + 640 * k) r ≡ cands w₀ (plans + 640 * k) (row_count w₀ stats k)
+      before : cands w (at.plans + 640 * k) (row_count w at k) ≡ cands w₀ (at.plans + 640 * k) (row_count w₀ at k)
       before =
-          ap (cands w (plans + 640 * k)) the_row
-          ∙ cands_agree w₀ w (plans + 640 * k) (row_count w₀ stats k)
+          ap (cands w (at.plans + 640 * k)) the_row
+          ∙ cands_agree w₀ w (at.plans + 640 * k) (row_count w₀ at k)
           (λ j x y. f.same j (omega (arith, b.behind, b.table.first, b.table.second)) (λ u. omega (arith, b.table.second)) (λ u. omega arith))
 
-      pub making_more : Making a entry beam repair_degree w₀ from p stats plans w₂ (k + 1)
+      pub making_more : Making a how w₀ at w₂ (k + 1)
       making_more =
           record {
-            bound = omega arith;
-            each = below_more (λ (j : ℕ). PlanOf a (cand w₀ (from + 2 * j)).id entry beam repair_degree w₀ stats plans j w₂) k
+            each = below_more (λ (j : ℕ). PlanOf a (cand w₀ (at.from + 2 * j)).id how w₀ at j w₂) k
                 (λ j l. plan_stays (f.each j l)
                 (λ j' x y. off j' (λ u. absurd (omega arith)) ∙ low j' (omega (arith, b.behind, b.table.first)) (λ u. absurd (omega (arith, b.table.second))))
                 (λ j' x y. off j' (λ u. omega (arith, b.table.second)) ∙ low j' (omega (arith, b.behind, b.table.first, b.table.second)) (λ u. absurd (omega arith))))
                 (record {
-                  row = off (stats + 4 * k) (λ u. absurd (omega arith)) ∙ low (stats + 4 * k) (omega (arith, b.behind, b.table.first)) (λ u. absurd (omega (arith, b.table.second))) ∙ sym i ∙ the_row;
-                  recovered = λ alpha. (rw z (counted_first w₁ (stats + 4 * k) q m n making_room)) ∙ c.counts alpha ∙ rw the_slot;
+                  row = off (at.stats + 4 * k) (λ u. absurd (omega arith)) ∙ low (at.stats + 4 * k) (omega (arith, b.behind, b.table.first)) (λ u. absurd (omega (arith, b.table.second))) ∙ the_row;
+                  recovered = λ alpha. (rw z (counted_first w₁ (at.stats + 4 * k) q m n making_room)) ∙ c.counts alpha ∙ rw the_slot;
                   list = λ alpha. ap ids block ∙ c.list alpha ∙ rw (the_slot, before);
                   plan = record { few = omega (arith, second, c.plan.few); live = rw block c.plan.live; once = rw block c.plan.once };
                   links = rw (second, third) v;
                 });
-            size = rw z (counted_long w₁ (stats + 4 * k) q m n) ∙ c.size ∙ f.size;
+            size = rw z (counted_long w₁ (at.stats + 4 * k) q m n) ∙ c.size ∙ f.size;
             same = λ j x y t.
                 off j (λ u. omega (arith, y (omega arith)))
                 ∙ low j x (λ u. omega (arith, t (omega arith)))
                 ∙ f.same j x (λ u. omega (arith, y u)) (λ u. omega (arith, t u));
           }
 
-pub making_done : {a : Arrays} {entry beam repair_degree : ℕ} {w₀ : List ℕ} {from p stats plans : ℕ} {w : List ℕ} {k : ℕ} → Making a entry beam repair_degree w₀ from p stats plans w k
-    → Makeable a entry beam repair_degree w₀ from p stats plans → p ≤ k → PlansMade a entry beam repair_degree w₀ from p stats plans w
+pub making_done : {a : Arrays} {how : Repair} {w₀ : List ℕ} {at : Layout} {w : List ℕ} {k : ℕ} → Making a how w₀ at w k
+    → Makeable a how w₀ at → k ≡ at.count → PlansMade a how w₀ at w
 making_done f b h =
     record {
       each = λ j l. f.each j (omega arith);

@@ -1,5 +1,5 @@
 -- The slots that a delete empties: gathered, made a rising list in which each stands once, and marked dead; the entry after it. Assumes nothing.
-use Prim.Native.Nat.{ℕ, suc, ◌+◌, ◌-◌, ◌*◌, ◌≤◌, ◌<◌}
+use Prim.Native.Nat.{ℕ, zero, suc, ◌+◌, ◌-◌, ◌*◌, ◌≤◌, ◌<◌}
 use mathlib.Core.Bool.{Bool, true, false, cond, not}
 use mathlib.Core.Path.{◌≡◌, refl, ap, sym, ◌∙◌}
 use mathlib.Core.List.{List, [], ◌∷◌, ◌++◌, map-append, append_assoc, append-nil}
@@ -27,7 +27,6 @@ ids_push w d s at n h = ap ids (cands_push w d s at n h) ∙ map-append (λ c. c
 
 -- ---- the ids
 pub record Gathering (marks named w₀ : List ℕ) (at : ℕ) (w : List ℕ) (n k : ℕ) : Type 0 where
-  pub bound : k ≤ length named
   pub few : n ≤ k
   pub goes : ids (cands w at n) ++ filter (is_valid marks) (drop k named) ≡ filter (is_valid marks) named
   pub size : length w ≡ length w₀
@@ -35,41 +34,36 @@ pub record Gathering (marks named w₀ : List ℕ) (at : ℕ) (w : List ℕ) (n 
 
 pub gathering_none : (marks named w : List ℕ) (at : ℕ) → Gathering marks named w at w 0 0
 unfolding cands
-gathering_none marks named w at = record { bound = omega arith; few = omega arith; goes = refl; size = refl; same = outside_none at (2 * length named) w }
+gathering_none marks named w at = record { few = omega arith; goes = refl; size = refl; same = outside_none at (2 * length named) w }
 
 module _ {marks named w₀ : List ℕ} {at : ℕ} {w : List ℕ} {n k : ℕ} (g : Gathering marks named w₀ at w n k) where
-  -- u is the id as an index
-  module _ (h : k < length named) {u : ℕ} {b : Bool} (e : u ≡ get_or named k 0) (i : b ≡ is_valid marks u) where
-    pub gathering_more : b ≡ true → at + 2 * length named ≤ length w₀ → Gathering marks named w₀ at (put w (at + 2 * n) (get_or named k 0) (get_or named k 0)) (n + 1) (k + 1)
-    gathering_more t l =
+  module _ (h : k < length named) where
+    pub gathering_more : is_valid marks (get_or named k 0) ≡ true → at + 2 * length named ≤ length w₀ → Gathering marks named w₀ at (put w (at + 2 * n) (get_or named k 0) (get_or named k 0)) (n + 1) (k + 1)
+    gathering_more v l =
         let x : ℕ = get_or named k 0 in
-        let v : is_valid marks (get_or named k 0) ≡ true = ap (is_valid marks) (sym e) ∙ sym i ∙ t in
         record {
-          bound = omega arith;
           few = omega (arith, g.few);
           goes = rw (ids_push w (get_or named k 0) (get_or named k 0) at n (omega (arith, g.size, g.few)), append_assoc, add-one k) (rw (drop-cons named k 0 h, v) at g.goes);
           size = put_length w (at + 2 * n) x x ∙ g.size;
           same = outside_put at (2 * length named) w₀ w (at + 2 * n) x x g.same (omega arith) (omega (arith, g.few));
         }
 
-    pub gathering_skip : b ≡ false → Gathering marks named w₀ at w n (k + 1)
-    gathering_skip t =
-        let v : is_valid marks (get_or named k 0) ≡ false = ap (is_valid marks) (sym e) ∙ sym i ∙ t in
-        record { bound = omega arith; few = omega (arith, g.few); goes = rw (add-one k) (rw (drop-cons named k 0 h, v) at g.goes); size = g.size; same = g.same }
+    pub gathering_skip : is_valid marks (get_or named k 0) ≡ false → Gathering marks named w₀ at w n (k + 1)
+    gathering_skip v =
+        record { few = omega (arith, g.few); goes = rw (add-one k) (rw (drop-cons named k 0 h, v) at g.goes); size = g.size; same = g.same }
 
-  pub gathering_done : length named ≤ k → Gathered marks named w₀ at n w
-  gathering_done h = record { list = rw (drop_of_length-le named h, append-nil) at g.goes; few = omega (arith, g.few, g.bound); size = g.size; same = g.same }
+  pub gathering_done : k ≡ length named → Gathered marks named w₀ at n w
+  gathering_done h = let e : length named ≤ k = omega arith in record { list = rw (drop_of_length-le named e, append-nil) at g.goes; few = omega (arith, g.few); size = g.size; same = g.same }
 
 -- ---- slots as distances
 pub record Keying (w₀ : List ℕ) (at n : ℕ) (w : List ℕ) (k : ℕ) : Type 0 where
-  pub bound : k ≤ n
   pub list : cands w at k ≡ scored (λ x. x) (ids (cands w₀ at k))
   pub size : length w ≡ length w₀
   pub same : Outside at (2 * k) w₀ w
 
 pub keying_none : (w : List ℕ) (at n : ℕ) → Keying w at n w 0
 unfolding cands
-keying_none w at n = record { bound = omega arith; list = refl; size = refl; same = outside_none at (2 * 0) w }
+keying_none w at n = record { list = refl; size = refl; same = outside_none at (2 * 0) w }
 
 module _ {w₀ : List ℕ} {at n : ℕ} {w : List ℕ} {k : ℕ} (f : Keying w₀ at n w k) where
   pub keying_more : at + 2 * n ≤ length w₀ → k < n → {x : ℕ} → x ≡ (cand w (at + 2 * k)).id → Keying w₀ at n (put w (at + 2 * k) x x) (k + 1)
@@ -77,15 +71,13 @@ module _ {w₀ : List ℕ} {at n : ℕ} {w : List ℕ} {k : ℕ} (f : Keying w�
       let i : x ≡ (cand w₀ (at + 2 * k)).id = e ∙ f.same (at + 2 * k + 1) (λ q. omega arith) in
       let z : ids (cands w₀ at (k + 1)) ≡ ids (cands w₀ at k) ++ (x ∷ []) = ap ids (cands_snoc w₀ at k) ∙ map-append (λ c. c.id) (cands w₀ at k) (cand w₀ (at + 2 * k) ∷ []) ∙ rw i in
       record {
-        bound = omega arith;
         list = cands_push w x x at k (omega (arith, f.size)) ∙ rw (f.list, z) (sym (scored_append (λ y. y) (ids (cands w₀ at k)) (x ∷ [])));
         size = put_length w (at + 2 * k) x x ∙ f.size;
         same = outside_put at (2 * (k + 1)) w₀ w (at + 2 * k) x x (outside_wide at (2 * k) at (2 * (k + 1)) w₀ w f.same (omega arith) (omega arith)) (omega arith) (omega arith);
       }
 
-  pub keying_done : n ≤ k → Keyed w₀ at n w
-  keying_done h =
-      let e : k ≡ n = omega (arith, f.bound) in
+  pub keying_done : k ≡ n → Keyed w₀ at n w
+  keying_done e =
       record { list = rw e at f.list; size = f.size; same = outside_wide at (2 * k) at (2 * n) w₀ w f.same (omega arith) (omega arith) }
 
 -- ---- a rising list in which each slot stands once
@@ -141,48 +133,39 @@ emptied_by f g =
 
 -- ---- marks are cleared
 pub record Clearing (marks₀ w : List ℕ) (at n : ℕ) (marks : List ℕ) (k : ℕ) : Type 0 where
-  pub bound : k ≤ n
   pub goes : cleared marks (ids (cands w (at + 2 * k) (n - k))) ≡ cleared marks₀ (ids (cands w at n))
   pub size : length marks ≡ length marks₀
 
-pub clearing_none : (marks w : List ℕ) (at n : ℕ) → Clearing marks w at n marks 0
-clearing_none marks w at n =
-    let e : at + 2 * 0 ≡ at = omega arith in
-    let z : n - 0 ≡ n = omega arith in
-    record { bound = omega arith; goes = rw (e, z); size = refl }
-
 module _ {marks₀ w : List ℕ} {at n : ℕ} {marks : List ℕ} {k : ℕ} (f : Clearing marks₀ w at n marks k) where
-  pub clearing_inside : Inside (length marks₀) w at n → k < n → {x u : ℕ} → x ≡ (cand w (at + 2 * k)).id → u ≡ x → u < length marks
-  clearing_inside b h e i = let r = cands_each (λ c. c.id < length marks₀) w at n b.each k h in omega (arith, r, f.size, e, i)
+  pub clearing_inside : Inside (length marks₀) w at n → k < n → {u : ℕ} → u ≡ (cand w (at + 2 * k)).id → u < length marks
+  clearing_inside b h e = let r = cands_each (λ c. c.id < length marks₀) w at n b.each k h in omega (arith, r, f.size, e)
 
-  pub clearing_more : k < n → {x u : ℕ} → x ≡ (cand w (at + 2 * k)).id → u ≡ x → {marks' : List ℕ} → Killed marks u marks' → Clearing marks₀ w at n marks' (k + 1)
-  clearing_more h {x} {u} e i {marks'} d =
+  pub clearing_more : k < n → {u : ℕ} → u ≡ (cand w (at + 2 * k)).id → {marks' : List ℕ} → Killed marks u marks' → Clearing marks₀ w at n marks' (k + 1)
+  clearing_more h {u} t {marks'} d =
       let s : marks' ≡ set marks u 0 = killed_marks d in
-      let t : u ≡ (cand w (at + 2 * k)).id = i ∙ e in
-      record { bound = omega arith; goes = rw (s, t) (rw (cands_cons w at n k h) at f.goes); size = rw s (length-set marks u 0) ∙ f.size }
+      record { goes = rw (s, t) (rw (cands_cons w at n k h) at f.goes); size = rw s (length-set marks u 0) ∙ f.size }
 
-  pub clearing_done : n ≤ k → marks ≡ cleared marks₀ (ids (cands w at n))
+  pub clearing_done : k ≡ n → marks ≡ cleared marks₀ (ids (cands w at n))
   clearing_done h = let z : n - k ≡ 0 = omega arith in rw (cands_none w (at + 2 * k) (n - k) z) at f.goes
 
 -- ---- the lowest live slot
-pub record Lowest (marks : List ℕ) (entry s : ℕ) : Type 0 where
-  pub bound : s ≤ length marks
-  pub goes : first_or entry (filter (is_valid marks) (range s (length marks - s))) ≡ lowest_live marks entry
+-- dead slots are passed over
+lowest_past : (marks : List ℕ) (entry s : ℕ) → s ≤ length marks → ((k : ℕ) → k < s → get_or marks k 0 ≡ 0)
+    → first_or entry (filter (is_valid marks) (range s (length marks - s))) ≡ lowest_live marks entry
+unfolding is_valid
+lowest_past marks entry zero h d = let z : length marks - 0 ≡ length marks = omega arith in rw z
+lowest_past marks entry (suc s) h d =
+    let z : length marks - s ≡ suc (length marks - suc s) = omega arith in
+    let e : get_or marks s 0 ≡ 0 = d s (omega arith) in
+    rw e at (rw z at (lowest_past marks entry s (omega arith) (λ k l. d k (omega arith))))
 
-pub lowest_none : (marks : List ℕ) (entry : ℕ) → Lowest marks entry 0
-lowest_none marks entry = let z : length marks - 0 ≡ length marks = omega arith in record { bound = omega arith; goes = rw z }
+pub lowest_found : (marks : List ℕ) (entry s : ℕ) → s < length marks → (get_or marks s 0 ≡ 0 → ⊥) → ((k : ℕ) → k < s → get_or marks k 0 ≡ 0) → s ≡ lowest_live marks entry
+unfolding is_valid
+lowest_found marks entry s h n d =
+    let z : length marks - s ≡ suc (length marks - suc s) = omega arith in
+    rw (ne_eqb (get_or marks s 0) 0 n) at (rw z at (lowest_past marks entry s (omega arith) d))
 
-module _ {marks : List ℕ} {entry s : ℕ} (f : Lowest marks entry s) where
-  turn : s < length marks → first_or entry (filter (is_valid marks) (s ∷ range (suc s) (length marks - suc s))) ≡ lowest_live marks entry
-  turn h = let z : length marks - s ≡ suc (length marks - suc s) = omega arith in rw z at f.goes
-
-  pub lowest_found : s < length marks → (get_or marks s 0 ≡ 0 → ⊥) → s ≡ lowest_live marks entry
-  unfolding is_valid
-  lowest_found h n = rw (ne_eqb (get_or marks s 0) 0 n) at (turn h)
-
-  pub lowest_more : s < length marks → get_or marks s 0 ≡ 0 → Lowest marks entry (s + 1)
-  unfolding is_valid
-  lowest_more h e = record { bound = omega arith; goes = rw (add-one s) (rw e at (turn h)) }
-
-  pub lowest_done : length marks ≤ s → entry ≡ lowest_live marks entry
-  lowest_done h = let z : length marks - s ≡ 0 = omega arith in rw z at f.goes
+pub lowest_none : (marks : List ℕ) (entry : ℕ) → ((k : ℕ) → k < length marks → get_or marks k 0 ≡ 0) → entry ≡ lowest_live marks entry
+lowest_none marks entry d =
+    let z : length marks - length marks ≡ 0 = omega arith in
+    rw z at (lowest_past marks entry (length marks) (omega arith) d)

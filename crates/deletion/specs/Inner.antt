@@ -1,3 +1,4 @@
+pub mod Layout
 pub mod Naming
 pub mod Plans
 pub mod Acts

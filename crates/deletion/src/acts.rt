@@ -1,130 +1,89 @@
-// The acts of a delete, in two halves: slots taken and marked dead; rows around them repaired, and slots emptied.
+// The acts of a delete, in two halves: slots and their rows taken; rows around them repaired, and slots emptied.
 ghost use Rattle.slots.specs.Store.{arrays};
+ghost use Rattle.slots.specs.Lent.{graph_of};
 ghost use Rattle.row.specs.Row.{Together};
-ghost use Rattle.deletion.specs.Inner.Acts.{Takeable, Marked, Finishable, AllFinished, Repairable, Repaired};
+ghost use Rattle.deletion.specs.Inner.Acts.{Takeable, Taken, Finishable, AllFinished, Repairable, Repaired};
 
-use super::named::{clear, new_entry, take_ids};
-use super::plans::{make_plans, take_rows};
+use super::layout::{Layout, lay_out};
+use super::named::take_ids;
+use super::plans::{Repair, make_plans, take_rows};
 use candidates::id_at;
-use links::apply_plans;
-use slots::finish;
-use slots::marks::wide;
+use links::{Table, apply_plans};
+use slots::{Graph, Rows, RowsMut, finish};
+use vectors::Space;
 
-// How many slots a delete empties, and the entry after it.
-#[derive(Clone, Copy)]
-pub struct Emptied {
-    pub count: usize,
-    pub entry: u32,
-}
-
-// Takes the live ones of `ids` to the words at `from`, and their rows to the plans, and clears their marks.
-pub fn mark_deleted(
-    dim: usize,
-    degree: usize,
-    vectors: &[u8],
-    targets: &[u32],
-    edges: &[u16],
-    versions: &[u16],
-    marks: &mut [u8],
-    entry: u32,
-    ids: &[u32],
-    scratch: &mut [u32],
-    from: usize,
-    stats: usize,
-    plans: usize,
-) -> Emptied
-    requires together { Together (arrays dim degree vectors.now targets.now edges.now versions.now marks.old) }
-    requires takeable { Takeable marks.old entry ids.now scratch.old from stats plans }
-    ensures { Marked (arrays dim degree vectors.now targets.now edges.now versions.now marks.old) entry ids.now scratch.old from stats plans result.count result.entry marks.new scratch.new }
+// Takes the live ones of `ids`, and their rows to the plans. Returns where they lie.
+pub fn take_slots(graph: &Graph<'_>, ids: &[u32], scratch: &mut [u32]) -> Layout
+    requires { Takeable (graph_of graph.now) ids.now scratch.old }
+    ensures { Taken (graph_of graph.now) ids.now scratch.old result scratch.new }
 {
-    let p = take_ids(ids, marks, scratch, from);
-    take_rows(
-        dim, degree, vectors, targets, edges, versions, marks, scratch, from, p, stats, plans,
-    );
-    clear(marks, scratch, from, p);
-    let e = new_entry(marks, entry, scratch, from, p);
-    Emptied { count: p, entry: e }
+    let mut at = lay_out(graph.rows.marks.len());
+    at.count = take_ids(ids, graph.rows.marks, scratch, at.from);
+    take_rows(graph, scratch, at);
+    at
 }
 
-// The last act on the slots of the `n` candidates at `at`: the next version, and an empty row.
+// The last act on the slots of the layout: the next version, and an empty row.
 fn finish_all(
     degree: usize,
     targets: &mut [u32],
     edges: &mut [u16],
     versions: &mut [u16],
     scratch: &[u32],
-    at: usize,
-    n: usize,
+    at: Layout,
 )
-    requires { Finishable degree targets.old edges.old versions.old scratch.now at n }
-    ensures { AllFinished degree targets.old edges.old versions.old scratch.now at n targets.new edges.new versions.new }
+    requires { Finishable degree targets.old edges.old versions.old scratch.now at.from at.count }
+    ensures { AllFinished degree targets.old edges.old versions.old scratch.now at.from at.count targets.new edges.new versions.new }
 {
-    let mut k: usize = 0;
-    while k < n {
-        let s = wide(id_at(scratch, at, k));
+    for k in 0..at.count {
+        let s = id_at(scratch, at.from, k) as usize;
         finish(degree, targets, edges, versions, s);
-        k += 1;
     }
 }
 
-// Makes the plans of the `p` dead slots at `from`, applies their links to the stored rows, and empties the slots.
+// Makes the plans of the dead slots of the layout, applies their links to the stored rows, and empties the slots.
 pub fn repair_rows(
-    dim: usize,
-    degree: usize,
     alpha: f32,
-    vectors: &[u8],
+    space: &Space<'_>,
+    degree: usize,
     targets: &mut [u32],
     edges: &mut [u16],
     versions: &mut [u16],
     marks: &[u8],
-    entry: u32,
-    beam: usize,
-    repair_degree: usize,
+    how: Repair,
     scratch: &mut [u32],
-    from: usize,
-    p: usize,
-    stats: usize,
-    plans: usize,
-    base: usize,
+    at: Layout,
 )
-    requires together { Together (arrays dim degree vectors.now targets.old edges.old versions.old marks.now) }
-    requires repairable { Repairable (arrays dim degree vectors.now targets.old edges.old versions.old marks.now) entry beam repair_degree scratch.old from p stats plans base }
-    ensures { Repaired alpha (arrays dim degree vectors.now targets.old edges.old versions.old marks.now) entry beam repair_degree scratch.old from p stats plans base
-        (arrays dim degree vectors.now targets.new edges.new versions.new marks.now) scratch.new }
+    requires together { Together (arrays space.now.dim degree space.now.vectors.now targets.old edges.old versions.old marks.now) }
+    requires repairable { Repairable (arrays space.now.dim degree space.now.vectors.now targets.old edges.old versions.old marks.now) how scratch.old at }
+    ensures { Repaired alpha (arrays space.now.dim degree space.now.vectors.now targets.old edges.old versions.old marks.now) how scratch.old at
+        (arrays space.now.dim degree space.now.vectors.now targets.new edges.new versions.new marks.now) scratch.new }
 {
-    make_plans(
-        dim,
+    let graph = Graph {
+        space: *space,
+        rows: Rows {
+            degree,
+            targets,
+            edges,
+            versions,
+            marks,
+        },
+    };
+    make_plans(&graph, how, scratch, at);
+    let mut rows = RowsMut {
         degree,
-        vectors,
         targets,
         edges,
         versions,
-        marks,
-        entry,
-        beam,
-        repair_degree,
-        scratch,
-        from,
-        p,
-        stats,
-        plans,
-    );
+    };
+    let table = Table {
+        stats: at.stats,
+        plans: at.plans,
+        count: at.count,
+        base: at.base,
+    };
     apply_plans(
-        dim,
-        degree,
-        alpha,
-        vectors,
-        targets,
-        edges,
-        versions,
-        marks,
-        repair_degree,
-        entry,
-        scratch,
-        stats,
-        plans,
-        p,
-        base,
+        alpha, space, &mut rows, marks, how.degree, how.entry, scratch, table,
     );
-    finish_all(degree, targets, edges, versions, scratch, from, p);
+    finish_all(degree, targets, edges, versions, scratch, at);
 }

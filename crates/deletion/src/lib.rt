@@ -3,9 +3,11 @@
 
 mod acts;
 mod batch;
+mod layout;
 mod named;
 mod plans;
 mod stats;
 
-pub use batch::{Emptied, delete_batch, stats_place};
+pub use batch::{Emptied, delete_batch};
+pub use layout::stats_place;
 pub use stats::{DeleteStats, write_stats};

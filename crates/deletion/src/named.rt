@@ -4,9 +4,10 @@ ghost use Rattle.candidates.specs.Candidates as Candidates;
 ghost use Rattle.candidates.specs.Inner.Words.{cands};
 ghost use Rattle.deletion.specs.Inner.Naming.{Gathered, Keyed, Risen, Emptied, Inside, cleared, lowest_live, entry_after};
 
+use super::layout::Layout;
 use candidates::{has_id, id_at, keep_first, put, sort_by_distance};
 use slots::kill;
-use slots::marks::{is_valid, wide};
+use slots::marks::is_valid;
 
 // The live ones of `ids`, as candidates at `at`. Returns how many they are.
 fn gather(ids: &[u32], marks: &[u8], scratch: &mut [u32], at: usize) -> usize
@@ -14,14 +15,11 @@ fn gather(ids: &[u32], marks: &[u8], scratch: &mut [u32], at: usize) -> usize
     ensures { Gathered marks.now ids.now scratch.old at result scratch.new }
 {
     let mut n: usize = 0;
-    let mut k: usize = 0;
-    while k < ids.len() {
-        let id = ids[k];
-        if is_valid(marks, wide(id)) {
+    for &id in ids {
+        if is_valid(marks, id as usize) {
             put(scratch, at + 2 * n, id, id);
             n += 1;
         }
-        k += 1;
     }
     n
 }
@@ -31,11 +29,9 @@ fn key(words: &mut [u32], at: usize, n: usize)
     requires { at + 2 * n ≤ length words.old }
     ensures { Keyed words.old at n words.new }
 {
-    let mut k: usize = 0;
-    while k < n {
+    for k in 0..n {
         let id = id_at(words, at, k);
         put(words, at + 2 * k, id, id);
-        k += 1;
     }
 }
 
@@ -58,15 +54,13 @@ pub fn take_ids(ids: &[u32], marks: &[u8], scratch: &mut [u32], at: usize) -> us
     sort_set(scratch, at, n)
 }
 
-// Marks the slots of the `n` candidates at `at` dead.
-pub fn clear(marks: &mut [u8], scratch: &[u32], at: usize, n: usize)
-    requires { Inside (length marks.old) scratch.now at n }
-    ensures { marks.new ≡ cleared marks.old (Candidates.ids (cands scratch.now at n)) }
+// Marks the slots of the layout dead.
+pub fn clear(marks: &mut [u8], scratch: &[u32], at: Layout)
+    requires { Inside (length marks.old) scratch.now at.from at.count }
+    ensures { marks.new ≡ cleared marks.old (Candidates.ids (cands scratch.now at.from at.count)) }
 {
-    let mut k: usize = 0;
-    while k < n {
-        kill(marks, wide(id_at(scratch, at, k)));
-        k += 1;
+    for k in 0..at.count {
+        kill(marks, id_at(scratch, at.from, k) as usize);
     }
 }
 
@@ -75,22 +69,18 @@ fn lowest(marks: &[u8], entry: u32) -> u32
     requires { length marks.now ≤ 65536 }
     ensures { result ≡ lowest_live marks.now entry }
 {
-    let mut s: usize = 0;
-    while s < marks.len() {
-        if marks[s] != 0 {
-            return s as u32;
-        }
-        s += 1;
+    match marks.iter().position(|mark| *mark != 0) {
+        Some(s) => s as u32,
+        None => entry,
     }
-    entry
 }
 
-// The entry once the slots of the `n` candidates at `at` are dead.
-pub fn new_entry(marks: &[u8], entry: u32, scratch: &[u32], at: usize, n: usize) -> u32
-    requires { (length marks.now ≤ 65536) × (at + 2 * n ≤ length scratch.now) }
-    ensures { result ≡ entry_after marks.now entry (Candidates.ids (cands scratch.now at n)) }
+// The entry once the slots of the layout are dead.
+pub fn new_entry(marks: &[u8], entry: u32, scratch: &[u32], at: Layout) -> u32
+    requires { (length marks.now ≤ 65536) × (at.from + 2 * at.count ≤ length scratch.now) }
+    ensures { result ≡ entry_after marks.now entry (Candidates.ids (cands scratch.now at.from at.count)) }
 {
-    if has_id(scratch, at, n, entry) {
+    if has_id(scratch, at.from, at.count, entry) {
         return lowest(marks, entry);
     }
     entry

@@ -1,83 +1,49 @@
 // The plans of a delete: the candidates of each, and its four counts.
 ghost use Rattle.std.specs.Prelude.{◌≡◌, ◌+◌, ◌<◌, ◌≤◌, length};
-ghost use Rattle.slots.specs.Store.{arrays};
-ghost use Rattle.row.specs.Row.{Together};
+ghost use Rattle.slots.specs.Lent.{graph_of};
 ghost use Rattle.deletion.specs.Inner.Naming.{Inside};
 ghost use Rattle.deletion.specs.Inner.Plans.{Table, RowsTaken, refers, RowsIn, Passed, Collectable, Collects, counted, Makeable, PlansMade};
 
+use super::layout::{COUNTS, Layout, PLAN_WORDS};
 use super::named::sort_set;
 use candidates::{id_at, keep_valid, put};
 use links::attempted;
 use row::live_scored;
-use slots::marks::wide;
-use slots::rows::holds;
-use vectors::vector;
+use slots::Graph;
 use walk::search_pool;
 
-// Takes the live row of each of the `p` slots at `from` to its plan, and its length as the first count.
-pub fn take_rows(
-    dim: usize,
-    degree: usize,
-    vectors: &[u8],
-    targets: &[u32],
-    edges: &[u16],
-    versions: &[u16],
-    marks: &[u8],
-    scratch: &mut [u32],
-    from: usize,
-    p: usize,
-    stats: usize,
-    plans: usize,
-)
-    requires together { Together (arrays dim degree vectors.now targets.now edges.now versions.now marks.now) }
-    requires inside { Inside (length marks.now) scratch.old from p × Table degree scratch.old from p stats plans }
-    ensures { RowsTaken (arrays dim degree vectors.now targets.now edges.now versions.now marks.now) scratch.old from p stats plans scratch.new }
+// How rows are repaired: walks begin at `entry` and keep `beam` candidates, and a slot is linked with the `degree` nearest of those connected before it.
+#[derive(Clone, Copy)]
+pub struct Repair {
+    pub entry: u32,
+    pub beam: usize,
+    pub degree: usize,
+}
+
+// Takes the live row of each slot of the layout to its plan, and its length as the first count.
+pub fn take_rows(graph: &Graph<'_>, scratch: &mut [u32], at: Layout)
+    requires { Inside (length (graph_of graph.now).marks) scratch.old at.from at.count × Table (graph_of graph.now).degree scratch.old at }
+    ensures { RowsTaken (graph_of graph.now) scratch.old at scratch.new }
 {
-    let mut k: usize = 0;
-    while k < p {
-        let s = id_at(scratch, from, k);
-        let n = live_scored(
-            dim,
-            degree,
-            vectors,
-            targets,
-            edges,
-            versions,
-            marks,
-            s,
-            scratch,
-            plans + 640 * k,
-        );
-        let at = stats + 4 * k;
-        scratch[at] = n as u32;
-        k += 1;
+    for k in 0..at.count {
+        let s = id_at(scratch, at.from, k);
+        let n = live_scored(graph, s, scratch, at.plans + PLAN_WORDS * k);
+        scratch[at.stats + COUNTS * k] = n as u32;
     }
 }
 
 // Of the `n` candidates at `at` the slots whose rows hold `id` in its present version, as candidates at `to`. Returns how many they are.
-fn recover(
-    degree: usize,
-    targets: &[u32],
-    edges: &[u16],
-    versions: &[u16],
-    id: u32,
-    scratch: &mut [u32],
-    at: usize,
-    n: usize,
-    to: usize,
-) -> usize
-    requires { RowsIn degree targets.now edges.now scratch.old at n to }
-    ensures { Passed (refers id degree targets.now edges.now versions.now) scratch.old at n to result scratch.new }
+fn recover(graph: &Graph<'_>, id: u32, scratch: &mut [u32], at: usize, n: usize, to: usize) -> usize
+    requires { RowsIn (graph_of graph.now) scratch.old at n to }
+    ensures { Passed (refers (graph_of graph.now) id) scratch.old at n to result scratch.new }
 {
     let mut m: usize = 0;
-    let mut k: usize = 0;
-    while k < n {
+    for k in 0..n {
         let s = id_at(scratch, at, k);
-        if holds(degree, targets, edges, versions, wide(s), id) {
+        if graph.rows.holds(s as usize, id) {
             put(scratch, to + 2 * m, s, s);
             m += 1;
         }
-        k += 1;
     }
     m
 }
@@ -92,32 +58,21 @@ pub struct Collected {
 // The candidates of the plan of slot `s`, which is dead: of its old live row, `r` slots at `at`, and what is recovered around its vector, the live
 // ones, rising, each once.
 fn collect(
-    dim: usize,
-    degree: usize,
-    vectors: &[u8],
-    targets: &[u32],
-    edges: &[u16],
-    versions: &[u16],
-    marks: &[u8],
+    graph: &Graph<'_>,
     s: u32,
-    entry: u32,
-    beam: usize,
+    how: Repair,
     scratch: &mut [u32],
     at: usize,
     r: usize,
 ) -> Collected
-    requires together { Together (arrays dim degree vectors.now targets.now edges.now versions.now marks.now) }
-    requires collectable { Collectable (arrays dim degree vectors.now targets.now edges.now versions.now marks.now) s entry beam scratch.old at r }
-    ensures { Collects (arrays dim degree vectors.now targets.now edges.now versions.now marks.now) s entry beam scratch.old at r result.recovered result.candidates scratch.new }
+    requires { Collectable (graph_of graph.now) s how.entry how.beam scratch.old at r }
+    ensures { Collects (graph_of graph.now) s how.entry how.beam scratch.old at r result.recovered result.candidates scratch.new }
 {
-    let query = vector(dim, vectors, wide(s));
-    let n = search_pool(
-        dim, degree, vectors, targets, edges, versions, marks, query, entry, beam, scratch,
-    );
-    let to = at + 2 * r;
-    let q = recover(degree, targets, edges, versions, s, scratch, 0, n, to);
+    let query = graph.space.vector(s as usize);
+    let n = search_pool(graph, query, how.entry, how.beam, scratch);
+    let q = recover(graph, s, scratch, 0, n, at + 2 * r);
     let k = sort_set(scratch, at, r + q);
-    let m = keep_valid(scratch, at, k, marks, s);
+    let m = keep_valid(scratch, at, k, graph.rows.marks, s);
     Collected {
         recovered: q,
         candidates: m,
@@ -134,52 +89,17 @@ fn put_counts(words: &mut [u32], at: usize, q: usize, m: usize, n: usize)
     words[at + 3] = n as u32;
 }
 
-// Makes the plans of the `p` slots at `from`: the candidates of each, and its counts.
-pub fn make_plans(
-    dim: usize,
-    degree: usize,
-    vectors: &[u8],
-    targets: &[u32],
-    edges: &[u16],
-    versions: &[u16],
-    marks: &[u8],
-    entry: u32,
-    beam: usize,
-    repair_degree: usize,
-    scratch: &mut [u32],
-    from: usize,
-    p: usize,
-    stats: usize,
-    plans: usize,
-)
-    requires together { Together (arrays dim degree vectors.now targets.now edges.now versions.now marks.now) }
-    requires makeable { Makeable (arrays dim degree vectors.now targets.now edges.now versions.now marks.now) entry beam repair_degree scratch.old from p stats plans }
-    ensures { PlansMade (arrays dim degree vectors.now targets.now edges.now versions.now marks.now) entry beam repair_degree scratch.old from p stats plans scratch.new }
+// Makes the plans of the slots of the layout: the candidates of each, and its counts.
+pub fn make_plans(graph: &Graph<'_>, how: Repair, scratch: &mut [u32], at: Layout)
+    requires { Makeable (graph_of graph.now) how scratch.old at }
+    ensures { PlansMade (graph_of graph.now) how scratch.old at scratch.new }
 {
-    let mut k: usize = 0;
-    while k < p {
-        let s = id_at(scratch, from, k);
-        let at = stats + 4 * k;
-        let r = wide(scratch[at]);
-        let c = collect(
-            dim,
-            degree,
-            vectors,
-            targets,
-            edges,
-            versions,
-            marks,
-            s,
-            entry,
-            beam,
-            scratch,
-            plans + 640 * k,
-            r,
-        );
-        let q = c.recovered;
-        let m = c.candidates;
-        let n = attempted(repair_degree, m);
-        put_counts(scratch, at, q, m, n);
-        k += 1;
+    for k in 0..at.count {
+        let s = id_at(scratch, at.from, k);
+        let counts = at.stats + COUNTS * k;
+        let r = scratch[counts] as usize;
+        let c = collect(graph, s, how, scratch, at.plans + PLAN_WORDS * k, r);
+        let n = attempted(how.degree, c.candidates);
+        put_counts(scratch, counts, c.recovered, c.candidates, n);
     }
 }

@@ -3,6 +3,8 @@ ghost use Rattle.std.specs.Prelude.{◌≡◌, ◌+◌, ◌*◌, ◌≤◌, leng
 ghost use Rattle.lists.specs.Lists.{put_front};
 ghost use Rattle.deletion.specs.Batch.{record_of, records_of};
 
+use super::layout::COUNTS;
+
 // The counts of one emptied slot.
 #[repr(C)]
 #[derive(Clone, Copy)]
@@ -18,7 +20,7 @@ fn record_at(words: &[u32], at: usize, i: usize) -> DeleteStats
     requires { at + 4 * i + 4 ≤ length words.now }
     ensures { result ≡ record_of words.now at i }
 {
-    let p = at + 4 * i;
+    let p = at + COUNTS * i;
     DeleteStats {
         outgoing_seeds: words[p],
         recovered_in_neighbors: words[p + 1],
@@ -32,9 +34,7 @@ pub fn write_stats(stats: &mut [DeleteStats], words: &[u32], at: usize, n: usize
     requires { (n ≤ length stats.old) × (at + 4 * n ≤ length words.now) }
     ensures { stats.new ≡ put_front (records_of words.now at n) stats.old }
 {
-    let mut i: usize = 0;
-    while i < n {
-        stats[i] = record_at(words, at, i);
-        i += 1;
+    for (i, record) in stats[..n].iter_mut().enumerate() {
+        *record = record_at(words, at, i);
     }
 }

@@ -1,2 +1,2 @@
 pub mod Sums
-pub mod Kept
+pub mod Keeping

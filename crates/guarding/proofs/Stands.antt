@@ -37,16 +37,16 @@ unfolding guard_of guard_status
 stood_off g marks pool e = rw e (record { does = λ v h. refl })
 
 module _ (g : Guard) (marks pool : List ℕ) {s : Settings} (e : g ≡ On s) (f : guard_fault limits (guard_of g) ≡ false) (l : length pool ≡ limits.pool) where
-  pub pool_inside : {n : ℕ} → n ≡ s.pool → (n ≤ length pool) × (n ≤ 1024)
+  pub pool_inside : (s.pool ≤ length pool) × (s.pool ≤ 1024)
   unfolding limits
-  pool_inside i = let h = (sound_on g e f).pool_most in (omega (arith, h), omega (arith, h))
+  pool_inside = let h = (sound_on g e f).pool_most in (omega (arith, h), h)
 
-  pub stood_on : {n live : ℕ} → n ≡ s.pool → live ≡ length (filter (is_valid marks) (take n pool))
+  pub stood_on : {live : ℕ} → live ≡ length (filter (is_valid marks) (take s.pool pool))
       → Stood (guard_of g) marks pool (record { enabled = true; pool = s.pool; live = live; count = s.count; beam = s.beam })
   unfolding guard_of guard_status pool_of
-  stood_on i k =
-      let m : length (take s.pool pool) ≡ s.pool = length-take-le s.pool pool (pool_inside refl).0 in
-      rw e (record { does = λ v h. rw (h, k, i, m) })
+  stood_on k =
+      let m : length (take s.pool pool) ≡ s.pool = length-take-le s.pool pool pool_inside.0 in
+      rw e (record { does = λ v h. rw (h, k, m) })
 
 -- ---- the call
 

@@ -13,8 +13,9 @@ use super::Assessed;
 use admission::{Report, assess_delete_admission};
 use index::refusals::{index_refusal, scratch_short};
 use index::{Guard, Index, Lengths, Settings};
-use slots::limits;
 use slots::marks::wide;
+use slots::{Graph, Rows, limits};
+use vectors::Space;
 
 // Row 3, of the two lists for landmarks: one of them is shorter than the largest landmark count.
 pub fn lists_short(checked: usize, lost: usize) -> bool
@@ -85,20 +86,26 @@ fn assess_with(
     requires { Assessable (arrays index.dim index.degree vectors.now targets.now edges.now versions.now marks.now) settings.count settings.sample settings.beam pool.now settings.pool ids.now checked.old lost.old scratch.old }
     ensures { Reported (arrays index.dim index.degree vectors.now targets.now edges.now versions.now marks.now) index.entry settings.count settings.sample settings.beam (take settings.pool pool.now) ids.now checked.old checked.new lost.old lost.new result }
 {
+    let graph = Graph {
+        space: Space {
+            dim: index.dim as usize,
+            vectors,
+        },
+        rows: Rows {
+            degree: index.degree as usize,
+            targets,
+            edges,
+            versions,
+            marks,
+        },
+    };
     assess_delete_admission(
-        index.dim as usize,
-        index.degree as usize,
-        vectors,
-        targets,
-        edges,
-        versions,
-        marks,
+        &graph,
         index.entry,
         settings.count as usize,
         settings.sample as usize,
         settings.beam as usize,
-        pool,
-        settings.pool as usize,
+        &pool[..settings.pool as usize],
         ids,
         checked,
         lost,

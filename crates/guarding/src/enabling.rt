@@ -13,6 +13,7 @@ use super::statuses::status_of;
 use admission::{landmark_pool, residual_entry};
 use index::refusals::{config_over, index_refusal, scratch_short};
 use index::{Guard, Index, Lengths, Settings};
+use vectors::Space;
 
 // A setting of 0 acts, and is stored, as 1.
 fn at_least_one(n: u32) -> u32
@@ -82,9 +83,12 @@ fn choose_pool(
     requires { Poolable index.dim vectors.now marks.now start settings.count settings.multiplier settings.sample pool.old scratch.old }
     ensures { Pooled index.dim vectors.now marks.now start settings.count settings.multiplier settings.sample pool.old pool.new result }
 {
-    landmark_pool(
-        index.dim as usize,
+    let space = Space {
+        dim: index.dim as usize,
         vectors,
+    };
+    landmark_pool(
+        &space,
         marks,
         start,
         settings.count as usize,

@@ -10,7 +10,6 @@ use super::{Standing, Status};
 use admission::live_landmarks;
 use index::refusals::index_refusal;
 use index::{Guard, Index, Lengths};
-use slots::marks::wide;
 
 // The status of a guard without a fault.
 pub fn status_of(guard: Guard, marks: &[u8], pool: &[u32]) -> Status
@@ -26,7 +25,7 @@ pub fn status_of(guard: Guard, marks: &[u8], pool: &[u32]) -> Status
             beam: 0,
         };
     };
-    let live = live_landmarks(marks, pool, wide(s.pool));
+    let live = live_landmarks(marks, &pool[..s.pool as usize]);
     Status {
         enabled: true,
         pool: s.pool,

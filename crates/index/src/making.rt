@@ -14,7 +14,7 @@ use super::refusals::{alpha_bad, lengths_bad, product, sizes_bad};
 use super::{Created, Guard, Index, Lengths};
 use numbers::{repeated, summarize};
 use slots::marks::wide;
-use slots::parts::lay_u32;
+use slots::parts::lay;
 use slots::rows::BLANK;
 
 // Row 5, of the given rows: a word is neither blank nor a given slot.
@@ -151,7 +151,7 @@ fn write_labels(given: &[u32], numbers: &mut [u32], summary: &mut [u32])
     requires { NumberRoom given.now numbers.old summary.old }
     ensures { NewNumbers given.now (length numbers.old) numbers.new summary.new }
 {
-    lay_u32(numbers, given, 0);
+    lay(numbers, given, 0);
     summarize(numbers, summary, given.len());
 }
 

@@ -1,12 +1,13 @@
 -- A batch in chunks. Assumes nothing.
 use Prim.Native.Nat.{ℕ, zero, suc, ◌+◌, ◌-◌, ◌*◌, ◌/◌, min, ◌≤◌, ◌<◌}
 use mathlib.Core.Bool.{not}
-use mathlib.Core.Path.{◌≡◌, refl, ap, ap₂, sym, ◌∙◌}
-use mathlib.Core.List.{List, [], ◌∷◌, map}
+use mathlib.Core.Path.{◌≡◌, refl, ap, ap₂, sym, ◌∙◌, subst}
+use mathlib.Core.List.{List, [], ◌∷◌, ◌++◌, map}
 use native.Mathlib.Nat.{add-mul, mul-le-mul_right, div-mul-le_self}
 use native.Mathlib.Omega.{arith}
-use lib.ListN.{length, take, drop, get_or, length-map, length-drop, get_or-append}
-use lib.Seq.{drop-cons, get_or-take, get_or-drop, length-take-le}
+use lib.ListN.{length, take, drop, get_or, length-map, length-drop, length-append, get_or-append}
+use lib.Seq.{drop-cons, drop-drop, get_or-take, get_or-drop, length-take-le}
+use Rattle.std.proofs.lemmas.List.{take_at, drop_at}
 use lib.Ieee.{Float}
 use Rattle.lists.specs.Lists.{All, filter, foldl, range, part, put_front, chunks, zip}
 use Rattle.lists.proofs.All.{all_filter}
@@ -21,10 +22,9 @@ use Rattle.slots.specs.Store.{Arrays, Store, is_valid, store_view, store_ops, wi
 use Rattle.row.specs.Row.{index_of}
 use Rattle.insert.specs.Insert.{Filling, fillings, insert_chunk, insert_batch}
 use Rattle.insertion.specs.Batch.{insert_words, Insertable, BatchInserted}
-use Rattle.insertion.specs.Inner.Filling.{filling_at, fillings_from, chunk_of, Fillable}
+use Rattle.insertion.specs.Inner.Filling.{filling_at, fillings_from, chunk_of, Fillable, AsLong}
 use Rattle.insertion.specs.Inner.Chunk.{Provided, ChunkInserted, Assigned, ChunksInserted}
-use Rattle.insertion.proofs.Filled.{AsLong, as_long, as_long_then}
-use Rattle.insertion.proofs.ChunkRows.{provided_kept}
+use Rattle.insertion.proofs.Same.{as_long, as_long_then}
 
 -- insert's share of the size answer is enough
 pub insert_enough : (capacity degree : ℕ) → degree ≤ 64 → work_at capacity + insert_words degree ≤ size_answer capacity
@@ -44,43 +44,34 @@ shifted dim bytes slots from k (suc j) i h =
     (ap₂ (λ (s : ℕ) (v : List ℕ). record { slot = s; vector = v }) (slot_part from k i slots (omega arith)) (part_part dim from k i bytes (omega arith)))
     (shifted dim bytes slots from k j (suc i) (omega arith) ∙ ap (λ (x : ℕ). map (filling_at dim bytes slots) (range x j)) e)
 
-module _ {dim capacity : ℕ} {bytes slots : List ℕ} {from to : ℕ} (o : Assigned dim capacity bytes slots to) (r : from ≤ to) where
+module _ {dim capacity : ℕ} {bytes slots : List ℕ} (o : Assigned dim capacity bytes slots) (from k : ℕ) (r : from + k ≤ length slots) where
   abbrev bytes_part : List ℕ
-  bytes_part = take (to * dim - from * dim) (drop (from * dim) bytes)
+  bytes_part = take (k * dim) (drop (from * dim) bytes)
 
   abbrev slots_part : List ℕ
-  slots_part = take (to - from) (drop from slots)
+  slots_part = take k (drop from slots)
 
-  times : to * dim ≡ from * dim + (to - from) * dim
-  times = let e : to ≡ from + (to - from) = omega arith in ap (λ (x : ℕ). x * dim) e ∙ add-mul from (to - from) dim
+  part_fits : k * dim ≤ length (drop (from * dim) bytes)
+  part_fits = simp length-drop (omega (arith, o.bytes_in, mul-le-mul_right dim r, add-mul from k dim))
 
-  pub part_ends : (from * dim ≤ to * dim) × (to * dim ≤ length bytes)
-  part_ends = (omega (arith, times), o.bytes_in)
+  long : length slots_part ≡ k
+  long = length-take-le k (drop from slots) (simp length-drop (omega arith))
 
-  long : length slots_part ≡ to - from
-  long = length-take-le (to - from) (drop from slots) (simp length-drop (omega (arith, o.slots_in)))
-
-  pub part_fillable : to ≤ from + 256 → Fillable dim capacity bytes_part slots_part
+  part_fillable : k ≤ 256 → Fillable dim capacity bytes_part slots_part
   part_fillable f =
       record {
-        long = length-take-le (to * dim - from * dim) (drop (from * dim) bytes) (simp length-drop (omega (arith, o.bytes_in))) ∙ rw long (omega (arith, times));
-        few = rw long (omega arith);
-        inside = λ i h. let k : i < to - from = rw long at h in rw (slot_part from (to - from) i slots k) (o.inside (from + i) (omega arith));
+        long = length-take-le (k * dim) (drop (from * dim) bytes) part_fits ∙ rw long;
+        few = rw long f;
+        inside = λ i h. let l : i < k = rw long at h in rw (slot_part from k i slots l) (o.inside (from + i) (omega arith));
       }
 
-  chunk_is : chunk_of dim bytes_part slots_part ≡ fillings_from dim bytes slots from (to - from)
+  chunk_is : chunk_of dim bytes_part slots_part ≡ fillings_from dim bytes slots from k
   unfolding fillings_from
   chunk_is =
-      let e : to * dim - from * dim ≡ (to - from) * dim = omega (arith, times) in
       let z : from + 0 ≡ from = omega arith in
-      ap₂ (λ (x y : ℕ). map (filling_at dim (take x (drop (from * dim) bytes)) slots_part) (range 0 y)) e long
-      ∙ shifted dim bytes slots from (to - from) (to - from) 0 (omega arith)
-      ∙ ap (λ (x : ℕ). map (filling_at dim bytes slots) (range x (to - from))) z
-
-pub part_inserted : (a : Arrays) {alpha : Float} {start beam : ℕ} {bytes slots : List ℕ} {from to : ℕ} → Assigned a.dim (length a.marks) bytes slots to → from ≤ to → {a' : Arrays}
-    → ChunkInserted alpha a start beam (take (to * a.dim - from * a.dim) (drop (from * a.dim) bytes)) (take (to - from) (drop from slots)) 0 (length (take (to - from) (drop from slots))) a'
-    → ChunkInserted alpha a start beam bytes slots from (to - from) a'
-part_inserted a {alpha} {start} {beam} o r f = record { chunk = f.chunk ∙ ap (insert_chunk store_ops beam (index_of alpha start a)) (chunk_is o r) }
+      ap (λ (y : ℕ). map (filling_at dim bytes_part slots_part) (range 0 y)) long
+      ∙ shifted dim bytes slots from k k 0 (omega arith)
+      ∙ ap (λ (x : ℕ). map (filling_at dim bytes slots) (range x k)) z
 
 -- ---- chunks of a list
 from_length : (dim : ℕ) (bytes slots : List ℕ) (from k : ℕ) → length (fillings_from dim bytes slots from k) ≡ k
@@ -118,69 +109,92 @@ chunks_cons : (k : ℕ) (l : List Filling) → 0 < length l → chunks (suc k) 2
 chunks_cons k [] h = absurd (omega arith)
 chunks_cons k (x ∷ l) h = refl
 
-next_chunk : (dim : ℕ) (bytes slots : List ℕ) (count from to : ℕ) → from < count → to ≡ from + min 256 (count - from)
-    → rest_of dim bytes slots count from ≡ fillings_from dim bytes slots from (to - from) ∷ rest_of dim bytes slots count to
-next_chunk dim bytes slots count from to h e =
-    let k : ℕ = count - from - 1 in
-    let z : count - from ≡ suc k = omega arith in
+next_chunk : (dim : ℕ) (bytes slots : List ℕ) (count from k : ℕ) → from < count → k ≡ min 256 (count - from)
+    → rest_of dim bytes slots count from ≡ fillings_from dim bytes slots from k ∷ rest_of dim bytes slots count (from + k)
+next_chunk dim bytes slots count from k h e =
+    let j : ℕ = count - from - 1 in
+    let z : count - from ≡ suc j = omega arith in
     let l = fillings_from dim bytes slots from (count - from) in
-    let y : min 256 (count - from) ≡ to - from = omega arith in
-    let x : count - from - min 256 (count - from) ≡ count - to = omega arith in
-    let v : from + min 256 (count - from) ≡ to = sym e in
-    let d : drop 256 l ≡ fillings_from dim bytes slots to (count - to) = from_drop dim bytes slots 256 from (count - from) ∙ ap₂ (fillings_from dim bytes slots) v x in
+    let y : min 256 (count - from) ≡ k = sym e in
+    let x : count - from - min 256 (count - from) ≡ count - (from + k) = omega arith in
+    let v : from + min 256 (count - from) ≡ from + k = omega arith in
+    let d : drop 256 l ≡ fillings_from dim bytes slots (from + k) (count - (from + k)) = from_drop dim bytes slots 256 from (count - from) ∙ ap₂ (fillings_from dim bytes slots) v x in
     ap (λ (n : ℕ). chunks n 256 l) z
-    ∙ chunks_cons k l (rw (from_length dim bytes slots from (count - from)) (omega arith))
+    ∙ chunks_cons j l (rw (from_length dim bytes slots from (count - from)) (omega arith))
     ∙ ap₂ (λ (c : List Filling) (r : List (List Filling)). c ∷ r) (from_take dim bytes slots 256 from (count - from) ∙ ap (fillings_from dim bytes slots from) y)
-    (ap (chunks k 256) d ∙ chunks_enough 256 (omega arith) k (count - to) (fillings_from dim bytes slots to (count - to)) (rw (from_length dim bytes slots to (count - to)) (omega arith)) (omega arith))
+    (ap (chunks j 256) d ∙ chunks_enough 256 (omega arith) j (count - (from + k)) (fillings_from dim bytes slots (from + k) (count - (from + k))) (rw (from_length dim bytes slots (from + k) (count - (from + k))) (omega arith)) (omega arith))
 
-pub record Chunking (alpha : Float) (start beam : ℕ) (bytes slots : List ℕ) (count : ℕ) (a₀ a : Arrays) (from : ℕ) : Type 0 where
-  pub bound : from ≤ count
-  pub goes : foldl (insert_chunk store_ops beam) (index_of alpha start a) (rest_of a₀.dim bytes slots count from)
-      ≡ foldl (insert_chunk store_ops beam) (index_of alpha start a₀) (chunks count 256 (fillings_from a₀.dim bytes slots 0 count))
+-- of what is left of a list the next part
+pub record NextPart (left x later : List ℕ) : Type 0 where
+  pub whole : left ≡ x ++ later
+  pub long : length x ≡ min 256 (length left)
+  pub some : 0 < length left
+
+-- the bytes and the slots that are left
+pub record Chunking (alpha : Float) (start beam : ℕ) (bytes slots : List ℕ) (a₀ a : Arrays) (rest left : List ℕ) : Type 0 where
+  pub from : ℕ
+  pub bound : from ≤ length slots
+  pub rest_is : rest ≡ drop (from * a₀.dim) bytes
+  pub left_is : left ≡ drop from slots
+  pub goes : foldl (insert_chunk store_ops beam) (index_of alpha start a) (rest_of a₀.dim bytes slots (length slots) from)
+      ≡ foldl (insert_chunk store_ops beam) (index_of alpha start a₀) (chunks (length slots) 256 (chunk_of a₀.dim bytes slots))
   pub longs : AsLong a₀ a
 
-pub chunking_none : (alpha : Float) (start beam : ℕ) (bytes slots : List ℕ) (count : ℕ) (a : Arrays) → Chunking alpha start beam bytes slots count a a 0
-chunking_none alpha start beam bytes slots count a =
-    let e : count - 0 ≡ count = omega arith in
-    record { bound = omega arith; goes = rw e; longs = as_long a }
+pub chunking_none : (alpha : Float) (start beam : ℕ) (bytes slots : List ℕ) (a : Arrays) → Chunking alpha start beam bytes slots a a bytes slots
+chunking_none alpha start beam bytes slots a =
+    let e : length slots - 0 ≡ length slots = omega arith in
+    let z : 0 * a.dim ≡ 0 = omega arith in
+    record { from = 0; bound = omega arith; rest_is = rw z; left_is = refl; goes = rw e; longs = as_long a }
 
-module _ {a₀ : Arrays} {alpha : Float} {start beam words : ℕ} {bytes slots : List ℕ} {count : ℕ} (o : Assigned a₀.dim (length a₀.marks) bytes slots count)
-    (g : Provided a₀.degree (length a₀.marks) start beam words) {vectors targets edges marks : List ℕ} {from : ℕ}
-    (f : Chunking alpha start beam bytes slots count a₀ (arrays a₀.dim a₀.degree vectors targets edges a₀.versions marks) from) (h : from < count) where
-  pub chunk_provided : Provided a₀.degree (length marks) start beam words
-  chunk_provided = provided_kept f.longs.marks g
+module _ {a₀ : Arrays} {alpha : Float} {start beam : ℕ} {bytes slots : List ℕ} (o : Assigned a₀.dim (length a₀.marks) bytes slots)
+    {vectors targets edges marks rest left : List ℕ} (f : Chunking alpha start beam bytes slots a₀ (arrays a₀.dim a₀.degree vectors targets edges a₀.versions marks) rest left)
+    {x later : List ℕ} (n : NextPart left x later) where
+  left_long : length left ≡ length slots - f.from
+  left_long = rw f.left_is (simp length-drop)
 
-  module _ {to : ℕ} (e : to ≡ from + min 256 (count - from)) where
-    pub chunk_assigned : Assigned a₀.dim (length marks) bytes slots to
-    chunk_assigned =
-        let k : to ≤ count = omega arith in
-        record {
-          bytes_in = omega (arith, o.bytes_in, mul-le-mul_right a₀.dim k);
-          slots_in = omega (arith, o.slots_in);
-          below = omega (arith, o.below);
-          inside = λ i l. rw f.longs.marks (o.inside i (omega arith));
-        }
+  within : f.from + length x ≤ length slots
+  within = omega (arith, n.long, left_long, f.bound)
 
-    pub chunk_later : (from < to) × (from ≤ to) × (to ≤ from + 256) × (to ≤ count)
-    chunk_later = (omega arith, omega arith, omega arith, omega arith)
+  x_is : x ≡ take (length x) (drop f.from slots)
+  x_is = sym (take_at x later (length x) refl) ∙ ap (take (length x)) (sym n.whole ∙ f.left_is)
 
-    pub chunking_more : {vectors' targets' edges' marks' : List ℕ}
-        → ChunkInserted alpha (arrays a₀.dim a₀.degree vectors targets edges a₀.versions marks) start beam bytes slots from (to - from) (arrays a₀.dim a₀.degree vectors' targets' edges' a₀.versions marks')
-        → length vectors' ≡ length vectors → length targets' ≡ length targets → length edges' ≡ length edges → length marks' ≡ length marks
-        → Chunking alpha start beam bytes slots count a₀ (arrays a₀.dim a₀.degree vectors' targets' edges' a₀.versions marks') to
-    chunking_more r lv lt le lm =
-        record {
-          bound = omega arith;
-          goes =
-              ap (λ (b : Store). foldl (insert_chunk store_ops beam) b (rest_of a₀.dim bytes slots count to)) r.chunk
-              ∙ ap (foldl (insert_chunk store_ops beam) (index_of alpha start (arrays a₀.dim a₀.degree vectors targets edges a₀.versions marks))) (sym (next_chunk a₀.dim bytes slots count from to h e))
-              ∙ f.goes;
-          longs = as_long_then f.longs lv lt le lm;
-        }
+  later_is : later ≡ drop (f.from + length x) slots
+  later_is = sym (drop_at x later (length x) refl) ∙ ap (drop (length x)) (sym n.whole ∙ f.left_is) ∙ drop-drop (length x) f.from slots
 
-pub chunking_done : {alpha : Float} {start beam : ℕ} {bytes slots : List ℕ} {count : ℕ} {a₀ a : Arrays} {from : ℕ} → Chunking alpha start beam bytes slots count a₀ a from → count ≤ from
-    → ChunksInserted alpha a₀ start beam bytes slots count a
-chunking_done {count = count} {from = from} f h = let z : count - from ≡ 0 = omega arith in record { chunked = rw z at f.goes }
+  pub chunk_fits : length x * a₀.dim ≤ length rest
+  chunk_fits = rw f.rest_is (part_fits o f.from (length x) within)
+
+  pub chunk_fillable : Fillable a₀.dim (length marks) (take (length x * a₀.dim) rest) x
+  chunk_fillable =
+      let y : Fillable a₀.dim (length a₀.marks) (take (length x * a₀.dim) (drop (f.from * a₀.dim) bytes)) (take (length x) (drop f.from slots)) = part_fillable o f.from (length x) within (omega (arith, n.long)) in
+      rw (f.longs.marks, f.rest_is) (subst (Fillable a₀.dim (length a₀.marks) (take (length x * a₀.dim) (drop (f.from * a₀.dim) bytes))) (sym x_is) y)
+
+  pub chunking_more : {vectors' targets' edges' marks' : List ℕ}
+      → ChunkInserted alpha (arrays a₀.dim a₀.degree vectors targets edges a₀.versions marks) start beam (take (length x * a₀.dim) rest) x (arrays a₀.dim a₀.degree vectors' targets' edges' a₀.versions marks')
+      → Chunking alpha start beam bytes slots a₀ (arrays a₀.dim a₀.degree vectors' targets' edges' a₀.versions marks') (drop (length x * a₀.dim) rest) later
+  chunking_more r =
+      let a = arrays a₀.dim a₀.degree vectors targets edges a₀.versions marks in
+      let z : f.from * a₀.dim + length x * a₀.dim ≡ (f.from + length x) * a₀.dim = sym (add-mul f.from (length x) a₀.dim) in
+      let c : chunk_of a₀.dim (take (length x * a₀.dim) rest) x ≡ fillings_from a₀.dim bytes slots f.from (length x) =
+      ap₂ (chunk_of a₀.dim) (ap (take (length x * a₀.dim)) f.rest_is) x_is ∙ chunk_is o f.from (length x) within in
+      record {
+        from = f.from + length x;
+        bound = within;
+        rest_is = ap (drop (length x * a₀.dim)) f.rest_is ∙ drop-drop (length x * a₀.dim) (f.from * a₀.dim) bytes ∙ ap (λ (n : ℕ). drop n bytes) z;
+        left_is = later_is;
+        goes =
+            ap (λ (b : Store). foldl (insert_chunk store_ops beam) b (rest_of a₀.dim bytes slots (length slots) (f.from + length x))) (r.chunk ∙ ap (insert_chunk store_ops beam (index_of alpha start a)) c)
+            ∙ ap (foldl (insert_chunk store_ops beam) (index_of alpha start a)) (sym (next_chunk a₀.dim bytes slots (length slots) f.from (length x) (omega (arith, left_long, n.some)) (omega (arith, n.long, left_long))))
+            ∙ f.goes;
+        longs = as_long_then f.longs r.longs;
+      }
+
+pub chunking_done : {alpha : Float} {start beam : ℕ} {bytes slots : List ℕ} {a₀ a : Arrays} {rest left : List ℕ} → Chunking alpha start beam bytes slots a₀ a rest left → length left ≡ 0
+    → ChunksInserted alpha a₀ start beam bytes slots a
+chunking_done {slots = slots} f h =
+    let l = simp length-drop at (rw f.left_is at h) in
+    let z : length slots - f.from ≡ 0 = omega arith in
+    record { chunked = rw z at f.goes }
 
 -- ---- the slots of a batch
 abbrev free_of : List ℕ → List ℕ
@@ -213,23 +227,31 @@ module _ {a : Arrays} {alpha : Float} {entry beam : ℕ} {bytes slots scratch : 
   batch_provided = record { start_in = o.entry_in; beam_most = o.beam_most; enough = o.enough }
 
   module _ {slots₁ : List ℕ} (e : slots₁ ≡ put_front (take count (free_of a.marks)) slots) where
-    noted : (i : ℕ) → i < count → get_or slots₁ i 0 ≡ get_or (free_of a.marks) i 0
-    noted i h = rw e (front_at (free_of a.marks) slots count i enough_free h)
+    -- the numbers of the slots that are filled
+    abbrev filled : List ℕ
+    filled = take count slots₁
 
-    pub batch_assigned : length slots₁ ≡ length slots → Assigned a.dim (length a.marks) bytes slots₁ count
-    batch_assigned r =
+    filled_long : length filled ≡ count
+    filled_long =
+        let c : length (take count (free_of a.marks)) ≡ count = length-take-le count (free_of a.marks) enough_free in
+        length-take-le count slots₁ (rw e (simp length-append (omega (arith, c))))
+
+    noted : (i : ℕ) → i < count → get_or filled i 0 ≡ get_or (free_of a.marks) i 0
+    noted i h = get_or-take count slots₁ i 0 h ∙ rw e (front_at (free_of a.marks) slots count i enough_free h)
+
+    pub batch_assigned : Assigned a.dim (length a.marks) bytes filled
+    batch_assigned =
         record {
-          bytes_in = rw q (div-mul-le_self (length bytes) a.dim);
-          slots_in = rw (r, q) o.room_in;
-          below = omega (arith, enough_free, free_few a.marks, o.together.rows.few);
-          inside = λ i h. rw (noted i h) (all_at 0 (λ s. s < length a.marks) (free_of a.marks) (free_below a.marks) i (omega (arith, enough_free)));
+          bytes_in = rw (filled_long, q) (div-mul-le_self (length bytes) a.dim);
+          below = omega (arith, filled_long, enough_free, free_few a.marks, o.together.rows.few);
+          inside = λ i h. let l : i < count = rw filled_long at h in rw (noted i l) (all_at 0 (λ s. s < length a.marks) (free_of a.marks) (free_below a.marks) i (omega (arith, enough_free)));
         }
 
     abbrev vectors : ℕ → ℕ → List (List ℕ)
     vectors i j = map (λ i. part a.dim i bytes) (range i j)
 
     paired : (j i : ℕ) → i + j ≤ count
-        → map (λ (p : ℕ × List ℕ). record { slot = p.0; vector = p.1 }) (zip (drop i (free_of a.marks)) (vectors i j)) ≡ map (filling_at a.dim bytes slots₁) (range i j)
+        → map (λ (p : ℕ × List ℕ). record { slot = p.0; vector = p.1 }) (zip (drop i (free_of a.marks)) (vectors i j)) ≡ map (filling_at a.dim bytes filled) (range i j)
     paired zero i h = none (drop i (free_of a.marks))
       where
         none : (xs : List ℕ) → map {B = Filling} (λ (p : ℕ × List ℕ). record { slot = p.0; vector = p.1 }) (zip xs []) ≡ []
@@ -239,7 +261,7 @@ module _ {a : Arrays} {alpha : Float} {entry beam : ℕ} {bytes slots scratch : 
         rw (drop-cons (free_of a.marks) i 0 (omega (arith, enough_free)))
         (ap₂ (λ (f : Filling) (l : List Filling). f ∷ l) (ap (λ (s : ℕ). record { slot = s; vector = part a.dim i bytes }) (sym (noted i (omega arith)))) (paired j (suc i) (omega arith)))
 
-    pub batch_inserted : {a' : Arrays} → ChunksInserted alpha a entry beam bytes slots₁ count a' → BatchInserted a alpha entry beam bytes slots a' slots₁ count
+    pub batch_inserted : {a' : Arrays} → ChunksInserted alpha a entry beam bytes filled a' → BatchInserted a alpha entry beam bytes slots a' slots₁ count
     unfolding insert_batch fillings fillings_from store_ops store_view
     batch_inserted f =
         let b = index_of alpha entry a in
@@ -248,6 +270,7 @@ module _ {a : Arrays} {alpha : Float} {entry beam : ℕ} {bytes slots scratch : 
           count = q;
           index =
               f.chunked
+              ∙ ap (λ (m : ℕ). foldl (insert_chunk store_ops beam) b (chunks m 256 (map (filling_at a.dim bytes filled) (range 0 m)))) filled_long
               ∙ ap (λ (l : List Filling). foldl (insert_chunk store_ops beam) b (chunks count 256 l)) (sym (paired count 0 (omega arith)))
               ∙ ap (λ (m : ℕ). foldl (insert_chunk store_ops beam) b (chunks m 256 (fillings (store_view b) (vectors 0 count)))) (sym n)
               ∙ ap (λ (m : ℕ). insert_batch store_ops beam b (vectors 0 m)) q;

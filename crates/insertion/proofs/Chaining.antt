@@ -3,11 +3,14 @@ use Prim.Native.Nat.{ℕ, zero, suc, ◌+◌, ◌-◌, ◌*◌, ◌≤◌, ◌<�
 use mathlib.Core.Bool.{Bool, true, false, cond}
 use mathlib.Core.Path.{◌≡◌, refl, ap, sym, ◌∙◌}
 use mathlib.Core.List.{List, [], ◌∷◌, ◌++◌, append_assoc, append-nil}
-use native.Mathlib.Decide.{dec_lt}
 use native.Mathlib.Omega.{arith}
 use borrow.Author.Tests.{eq-eqb, ne_eqb, eqb-true, eqb-false}
 use lib.Dec.{eqb}
-use lib.ListN.{length, get_or, set, length-set}
+use borrow.Rule.Slice.PartMut.{put_mid}
+use Rattle.std.proofs.Common.{rules}
+use Rattle.std.proofs.lemmas.List.{places}
+use Rattle.std.proofs.lemmas.Grind.{common_steps}
+use lib.ListN.{length, take, drop, get_or, set, replicate, length-set}
 use lib.Seq.{get_or-set_same, get_or-set_other}
 use Rattle.slots.specs.Scratch.{marks_at}
 use Rattle.candidates.specs.Inner.Words.{cand, cands, put, Outside}
@@ -15,35 +18,24 @@ use Rattle.candidates.proofs.Words.{cands_push, put_length, put_outside, outside
 use Rattle.insertion.specs.declared.layout.Layout.{Layout}
 use Rattle.insertion.specs.Inner.Chains.{Repeated, head, at_slot, Chain, end, link, Chainable, Chained, incoming_at, Takeable, Took}
 
--- ---- a word repeated
-pub record Repeating (w₀ : List ℕ) (p k x : ℕ) (w : List ℕ) (i : ℕ) : Type 0 where
-  pub bound : i ≤ k
-  pub all : (j : ℕ) → j < i → get_or w (p + j) 0 ≡ x
-  pub size : length w ≡ length w₀
-  pub same : Outside p k w₀ w
+-- ---- a word repeated: k words from word p on are filled with x
+filled_in : (p k x j : ℕ) (w : List ℕ) → p + k ≤ length w → j < k → get_or (put_mid p k w (replicate k x)) (p + j) 0 ≡ x
+filled_in p k x j w h l = search (rules, places)
 
-pub repeating_none : (w : List ℕ) (p k x : ℕ) → Repeating w p k x w 0
-repeating_none w p k x = record { bound = omega arith; all = λ j h. absurd (omega arith); size = refl; same = outside_none p k w }
+filled_out : (p k x j : ℕ) (w : List ℕ) → p + k ≤ length w → (p ≤ j → p + k ≤ j) → get_or (put_mid p k w (replicate k x)) j 0 ≡ get_or w j 0
+filled_out p k x j w h l = search (rules, places)
 
-module _ {w₀ : List ℕ} {p k x : ℕ} {w : List ℕ} {i : ℕ} (f : Repeating w₀ p k x w i) where
-  pub repeating_more : p + k ≤ length w₀ → i < k → Repeating w₀ p k x (set w (p + i) x) (i + 1)
-  repeating_more l h =
-      record {
-        bound = omega arith;
-        all = λ j m. go j m (dec_lt j i);
-        size = length-set w (p + i) x ∙ f.size;
-        same = λ j q. get_or-set_other w (p + i) j x 0 (λ (e : j ≡ p + i). absurd (omega (arith, q (omega arith)))) ∙ f.same j q;
-      }
-    where
-      go : (j : ℕ) → j < i + 1 → Dec (j < i) → get_or (set w (p + i) x) (p + j) 0 ≡ x
-      go j m (yes d) = get_or-set_other w (p + i) (p + j) x 0 (λ e. omega arith) ∙ f.all j d
-      go j m (no d) =
-          let e : j ≡ i = omega arith in
-          let b : p + i < length w = omega (arith, f.size) in
-          rw e (get_or-set_same w (p + i) x 0 b)
+filled_length : (p k x : ℕ) (w : List ℕ) → p + k ≤ length w → length (put_mid p k w (replicate k x)) ≡ length w
+filled_length p k x w h = search (rules, places)
 
-  pub repeating_done : k ≤ i → Repeated w₀ p k x w
-  repeating_done h = record { all = λ j m. f.all j (omega arith); size = f.size; same = f.same }
+taken_length : (p k : ℕ) (w : List ℕ) → p + k ≤ length w → length (take k (drop p w)) ≡ k
+taken_length p k w h = grind (arith, common_steps)
+
+pub repeated : {p k m x : ℕ} {w zs : List ℕ} → m ≡ k → p + k ≤ length w → zs ≡ replicate (length (take m (drop p w))) x → Repeated w p k x (put_mid p m w zs)
+repeated {p} {k} {m} {x} {w} {zs} q h e =
+    let l : length (take k (drop p w)) ≡ k = taken_length p k w h in
+    let f : zs ≡ replicate k x = e ∙ rw (q, l) in
+    rw (q, f) (record { all = λ j i. filled_in p k x j w h i; size = filled_length p k x w h; same = λ j o. filled_out p k x j w h o })
 
 -- ---- one chain
 chain_low : {w : List ℕ} {at : Layout} {n : ℕ} (a b x : ℕ) (l : List ℕ) → b ≤ a → Chain w at n a x l → Chain w at n b x l
@@ -233,6 +225,9 @@ module _ {w₀ : List ℕ} {at : Layout} {n capacity : ℕ} {w : List ℕ} {k : 
       let z : k ≡ 0 = omega arith in
       let y : n - 0 ≡ n = omega arith in
       record { chains = λ t l. rw (z, y) at (f.chains t l); size = f.size; same = f.same }
+
+pub chain_fits : {w : List ℕ} {at : Layout} {n capacity : ℕ} → Chainable w at n capacity → marks_at + capacity ≤ length w
+chain_fits o = omega (arith, o.heads_in, o.spread.plans_in, o.spread.sources_in, o.spread.nexts_in, o.room)
 
 -- the heads are evened, then the candidates are linked
 module _ {w₀ w₁ : List ℕ} {at : Layout} {n capacity : ℕ} (o : Chainable w₀ at n capacity) (e : Repeated w₀ marks_at capacity n w₁) where

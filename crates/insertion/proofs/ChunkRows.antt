@@ -23,12 +23,13 @@ use Rattle.insertion.specs.declared.layout.Layout.{Layout}
 use Rattle.insert.specs.Insert.{Plan, plan, outgoing_row, target_row, chunk_rows, insert_chunk}
 use Rattle.insertion.specs.Inner.Layout.{Spread, Parts}
 use Rattle.insertion.specs.Inner.Chains.{head, Chainable, Chained}
-use Rattle.insertion.specs.Inner.Filling.{filling_at, fillings_from, chunk_of, Fillable, ChunkFilled}
+use Rattle.insertion.specs.Inner.Filling.{filling_at, fillings_from, chunk_of, Fillable, AsLong, ChunkFilled}
 use Rattle.insertion.specs.Inner.Plans.{start_of, plan_cands, Laid, AllPlanned}
 use Rattle.insertion.specs.Inner.Outgoing.{own_row, own_at, OutgoingRows, OutgoingWritten}
 use Rattle.insertion.specs.Inner.Targets.{renewed_at, Renewable, AllRenewed}
 use Rattle.insertion.specs.Inner.Chunk.{Provided, plan_at, Linked, RowsWritten, RowsInserted, ChunkInserted}
 use Rattle.insertion.proofs.Chaining.{slots_agree}
+use Rattle.insertion.proofs.Same.{as_long_then}
 use Rattle.insertion.proofs.Plans.{AgreeUpTo, laid_agree}
 use Rattle.insertion.proofs.Targeting.{renewable_kept, sweep_kept}
 use Rattle.insertion.proofs.Order.{named, free_row, write_row, renew, rows_at_once}
@@ -83,6 +84,10 @@ module _ {dim degree capacity : ℕ} {bytes slots : List ℕ} {start beam : ℕ}
         }
 
 -- ---- rows written after other rows
+pub outgoing_long : (a : Arrays) {slots w : List ℕ} {at : Layout} {n : ℕ} {targets edges w₁ : List ℕ} → OutgoingWritten a.degree a.targets a.edges a.versions slots w at n targets edges w₁
+    → AsLong a (arrays a.dim a.degree a.vectors targets edges a.versions a.marks)
+outgoing_long a l = record { vectors = refl; targets = l.targets_long; edges = l.edges_long; marks = refl }
+
 pub rows_both : (alpha : Float) (a : Arrays) {slots w : List ℕ} {at : Layout} {n : ℕ} → Renewable a.degree (length a.marks) w at n → ((k : ℕ) → k < length slots → get_or slots k 0 < length a.marks)
     → {targets edges w₁ : List ℕ} → OutgoingWritten a.degree a.targets a.edges a.versions slots w at n targets edges w₁
     → {a' : Arrays} → AllRenewed alpha (arrays a.dim a.degree a.vectors targets edges a.versions a.marks) w₁ at n a' → RowsWritten alpha a slots w at n a'
@@ -92,6 +97,7 @@ rows_both alpha a {slots} {w} {at} {n} q i {targets} {edges} {w₁} l r =
           r.rows entry
           ∙ sweep_kept q w₁ (λ j h. l.same j (omega (arith, q.list_in))) (index_of alpha entry (arrays a.dim a.degree a.vectors targets edges a.versions a.marks))
           ∙ ap (λ (b : Store). foldl (renewed_at w at n) b (range 0 (length a.marks))) (l.rows a.dim a.vectors a.marks alpha entry i);
+      longs = as_long_then (outgoing_long a l) r.longs;
     }
 
 pub named_renewable : {degree capacity : ℕ} {w w₁ : List ℕ} {at : Layout} {n : ℕ} → Renewable degree capacity w at n
@@ -149,6 +155,10 @@ module _ {degree capacity : ℕ} {plans : ℕ → Plan} {w₀ : List ℕ} {at : 
         ∙ rows_at_once all b capacity k (named_inside f.laid)
 
 -- ---- the rows of a chunk
+pub linked_as : (alpha : Float) (start beam : ℕ) (bytes slots : List ℕ) {b a : Arrays} {w : List ℕ} {at : Layout} {n : ℕ} {w' : List ℕ} → b ≡ a
+    → Linked b.degree (length b.marks) (plan_at b alpha start beam bytes slots) w at (length slots) n w' → Linked a.degree (length a.marks) (plan_at a alpha start beam bytes slots) w at (length slots) n w'
+linked_as alpha start beam bytes slots e f = rw e at f
+
 outgoing_few : (a : Arrays) (alpha : Float) (start beam : ℕ) (bytes slots : List ℕ) (k : ℕ) → length (plan_at a alpha start beam bytes slots k).outgoing ≤ a.degree
 unfolding plan store_view
 outgoing_few a alpha start beam bytes slots k = chosen_few _ _ _ _ _ _
@@ -203,16 +213,18 @@ module _ (alpha : Float) {a : Arrays} {start beam : ℕ} {bytes slots w : List �
             g.rows start
             ∙ rows_are f slots (λ k h. own_id a alpha start beam bytes slots k) s.inside b refl (together_shaped x)
             ∙ ap (λ (all : List Plan). write_rows store_ops b (map outgoing_row all ++ map (target_row v all) (sorted_set (named all)))) e;
+        longs = g.longs;
       }
 
 -- ---- the whole chunk
 pub chunk_inserted : {alpha : Float} {a : Arrays} {start beam : ℕ} {bytes slots vectors targets edges marks : List ℕ}
     → ChunkFilled a bytes slots (arrays a.dim a.degree vectors targets edges a.versions marks)
-    → {a' : Arrays} → RowsInserted alpha (arrays a.dim a.degree vectors targets edges a.versions marks) start beam bytes slots a' → ChunkInserted alpha a start beam bytes slots 0 (length slots) a'
+    → {a' : Arrays} → RowsInserted alpha (arrays a.dim a.degree vectors targets edges a.versions marks) start beam bytes slots a' → ChunkInserted alpha a start beam bytes slots a'
 unfolding insert_chunk store_ops
 chunk_inserted {alpha} {a} {start} {beam} {bytes} {slots} f g =
     record {
       chunk = g.rows ∙ ap (λ (b : Store). write_rows store_ops b (chunk_rows (store_view b) beam (chunk_of a.dim bytes slots))) (f.fills alpha start);
+      longs = as_long_then f.longs g.longs;
     }
 
 pub fillable_kept : {dim capacity capacity' : ℕ} {bytes slots : List ℕ} → capacity' ≡ capacity → Fillable dim capacity bytes slots → Fillable dim capacity' bytes slots

@@ -12,81 +12,59 @@ use Rattle.lists.specs.Lists.{filter, range, part, put_front}
 use Rattle.lists.proofs.Parts.{fits_in}
 use Rattle.vectors.proofs.Distances.{length_part}
 use Rattle.slots.specs.Store.{Arrays, Store, is_valid, store_ops, arrays}
-use Rattle.slots.specs.Inner.Writing.{SlotIn, Done}
+use Rattle.slots.specs.Inner.Writing.{SlotIn, Filled}
 use Rattle.slots.proofs.Places.{shape_fits}
 use Rattle.row.specs.Row.{Together, index_of}
-use Rattle.row.proofs.Kept.{together_kept, index_with}
+use Rattle.row.proofs.Kept.{index_with}
 use Rattle.insert.specs.Insert.{fill_all}
-use Rattle.insertion.specs.Inner.Filling.{fillings_from, Noted, Fillable, ChunkFilled}
+use Rattle.insertion.specs.Inner.Filling.{fillings_from, Fillable, AsLong, ChunkFilled}
+use Rattle.insertion.proofs.Same.{as_long, as_long_then, together_as, long_filled}
 
 -- ---- free slots
 abbrev free : List ℕ → ℕ → Bool
 free marks s = not (is_valid marks s)
 
-pub noted_live : {live b : Bool} {id : ℕ} {slots : List ℕ} {n : ℕ} → b ≡ live → b ≡ true → Noted live id slots n n slots
-noted_live e h = rw (← e, h) (record { count = refl; list = refl })
-
-pub noted_free : {live b : Bool} {id : ℕ} {slots : List ℕ} {n : ℕ} → b ≡ live → b ≡ false → Noted live id slots n (n + 1) (set slots n id)
-noted_free e h = rw (← e, h) (record { count = refl; list = refl })
-
 -- n of the slots before s are noted; the others that are to be follow
-pub record Gathering (marks slots₀ : List ℕ) (count : ℕ) (slots : List ℕ) (n s id : ℕ) : Type 0 where
-  pub equal : id ≡ s
+pub record Gathering (marks slots₀ : List ℕ) (count : ℕ) (slots : List ℕ) (n s : ℕ) : Type 0 where
   pub most : n ≤ count
   pub bound : s ≤ length marks
   pub goes : take n slots ++ take (count - n) (filter (free marks) (range s (length marks - s))) ≡ take count (filter (free marks) (range 0 (length marks)))
   pub rest : drop n slots ≡ drop n slots₀
   pub size : length slots ≡ length slots₀
 
-pub gathering_none : (marks slots : List ℕ) (count : ℕ) → Gathering marks slots count slots 0 0 0
+pub gathering_none : (marks slots : List ℕ) (count : ℕ) → Gathering marks slots count slots 0 0
 gathering_none marks slots count =
     let e : count - 0 ≡ count = omega arith in
     let f : length marks - 0 ≡ length marks = omega arith in
-    record { equal = refl; most = omega arith; bound = omega arith; goes = rw (e, f); rest = refl; size = refl }
+    record { most = omega arith; bound = omega arith; goes = rw (e, f); rest = refl; size = refl }
 
-module _ {marks slots₀ : List ℕ} {count : ℕ} {slots : List ℕ} {n s id : ℕ} (f : Gathering marks slots₀ count slots n s id) (l : count ≤ length slots₀) where
+module _ {marks slots₀ : List ℕ} {count : ℕ} {slots : List ℕ} {n s : ℕ} (f : Gathering marks slots₀ count slots n s) (l : count ≤ length slots₀) where
   pub gathering_room : (n ≡ count → ⊥) → n < length slots
   gathering_room h = omega (arith, f.most, f.size)
 
-  pub gathering_more : {r : ℕ} {slots' : List ℕ} → s < length marks → (n ≡ count → ⊥) → Noted (is_valid marks s) id slots n r slots' → Gathering marks slots₀ count slots' r (s + 1) (id + 1)
-  gathering_more {r} {slots'} h k g = go (is_valid marks s) refl
-    where
-      z : length marks - s ≡ suc (length marks - (s + 1))
-      z = omega arith
+  module _ (h : s < length marks) where
+    y : s + 1 ≡ suc s
+    y = omega arith
 
-      y : s + 1 ≡ suc s
-      y = omega arith
+    was : take n slots ++ take (count - n) (filter (free marks) (s ∷ range (suc s) (length marks - (s + 1)))) ≡ take count (filter (free marks) (range 0 (length marks)))
+    was = let z : length marks - s ≡ suc (length marks - (s + 1)) = omega arith in rw z at f.goes
 
-      was : take n slots ++ take (count - n) (filter (free marks) (s ∷ range (suc s) (length marks - (s + 1)))) ≡ take count (filter (free marks) (range 0 (length marks)))
-      was = rw z at f.goes
+    pub gathering_live : is_valid marks s ≡ true → Gathering marks slots₀ count slots n (s + 1)
+    gathering_live e = record { most = f.most; bound = omega arith; goes = rw y (rw y at (rw e at was)); rest = f.rest; size = f.size }
 
-      go : (b : Bool) → is_valid marks s ≡ b → Gathering marks slots₀ count slots' r (s + 1) (id + 1)
-      go true e =
-          let c : r ≡ n = g.count ∙ rw e in
-          let d : slots' ≡ slots = g.list ∙ rw e in
-          rw (c, d) (record {
-            equal = omega (arith, f.equal);
-            most = f.most;
-            bound = omega arith;
-            goes = rw y (rw y at (rw e at was));
-            rest = f.rest;
-            size = f.size;
-          })
-      go false e =
-          let c : r ≡ n + 1 = g.count ∙ rw e in
-          let d : slots' ≡ set slots n id = g.list ∙ rw e in
-          let x : count - n ≡ suc (count - (n + 1)) = omega (arith, f.most) in
-          let v : take n slots ++ (s ∷ take (count - (n + 1)) (filter (free marks) (range (suc s) (length marks - (s + 1))))) ≡ take count (filter (free marks) (range 0 (length marks))) =
-          rw (e, x) at was in
-          let t : take (n + 1) (set slots n id) ≡ take n slots ++ (s ∷ []) = rw (add-one n) (take-suc-set slots n id (gathering_room k) ∙ rw f.equal) in
-          rw (c, d) (record {
-            equal = omega (arith, f.equal);
-            most = omega (arith, f.most);
-            bound = omega arith;
-            goes = rw (t, append_assoc, y) (rw y at v);
-            rest = drop-set-lt (n + 1) slots n id (omega arith) ∙ sym (drop-drop 1 n slots) ∙ ap (drop 1) f.rest ∙ drop-drop 1 n slots₀;
-            size = length-set slots n id ∙ f.size;
-          })
+    pub gathering_free : is_valid marks s ≡ false → (n ≡ count → ⊥) → Gathering marks slots₀ count (set slots n s) (n + 1) (s + 1)
+    gathering_free e k =
+        let x : count - n ≡ suc (count - (n + 1)) = omega (arith, f.most) in
+        let v : take n slots ++ (s ∷ take (count - (n + 1)) (filter (free marks) (range (suc s) (length marks - (s + 1))))) ≡ take count (filter (free marks) (range 0 (length marks))) =
+        rw (e, x) at was in
+        let t : take (n + 1) (set slots n s) ≡ take n slots ++ (s ∷ []) = rw (add-one n) (take-suc-set slots n s (gathering_room k)) in
+        record {
+          most = omega (arith, f.most);
+          bound = omega arith;
+          goes = rw (t, append_assoc, y) (rw y at v);
+          rest = drop-set-lt (n + 1) slots n s (omega arith) ∙ sym (drop-drop 1 n slots) ∙ ap (drop 1) f.rest ∙ drop-drop 1 n slots₀;
+          size = length-set slots n s ∙ f.size;
+        }
 
   ends : take n slots ≡ take count (filter (free marks) (range 0 (length marks))) → slots ≡ put_front (take count (filter (free marks) (range 0 (length marks)))) slots₀
   ends e =
@@ -100,24 +78,6 @@ module _ {marks slots₀ : List ℕ} {count : ℕ} {slots : List ℕ} {n s id : 
   gathering_done h =
       let z : length marks - s ≡ 0 = omega arith in
       ends (rw (take-nil (count - n), append-nil) at (rw z at f.goes))
-
--- ---- slices as long as others
-pub record AsLong (a₀ a : Arrays) : Type 0 where
-  pub vectors : length a.vectors ≡ length a₀.vectors
-  pub targets : length a.targets ≡ length a₀.targets
-  pub edges : length a.edges ≡ length a₀.edges
-  pub marks : length a.marks ≡ length a₀.marks
-
-pub as_long : (a : Arrays) → AsLong a a
-as_long a = record { vectors = refl; targets = refl; edges = refl; marks = refl }
-
-pub as_long_then : {a₀ a a' : Arrays} → AsLong a₀ a → length a'.vectors ≡ length a.vectors → length a'.targets ≡ length a.targets → length a'.edges ≡ length a.edges
-    → length a'.marks ≡ length a.marks → AsLong a₀ a'
-as_long_then f v t e m = record { vectors = v ∙ f.vectors; targets = t ∙ f.targets; edges = e ∙ f.edges; marks = m ∙ f.marks }
-
-pub together_as : {a₀ : Arrays} {vectors targets edges marks : List ℕ} → AsLong a₀ (arrays a₀.dim a₀.degree vectors targets edges a₀.versions marks) → Together a₀
-    → Together (arrays a₀.dim a₀.degree vectors targets edges a₀.versions marks)
-together_as f x = together_kept f.vectors f.targets f.edges f.marks x
 
 -- ---- all slots of a chunk
 pub record FilledUpTo (bytes slots : List ℕ) (a₀ a : Arrays) (i : ℕ) : Type 0 where
@@ -152,26 +112,25 @@ module _ {a₀ : Arrays} {bytes slots : List ℕ} (x : Together a₀) (o : Filla
           edges_in = r.1;
         }
 
-    pub filled_more : {vectors' targets' edges' marks' : List ℕ}
-        → Done (λ b. store_ops.fill b s v) s (arrays a₀.dim a₀.degree vectors targets edges a₀.versions marks) (arrays a₀.dim a₀.degree vectors' targets' edges' a₀.versions marks')
-        → length vectors' ≡ length vectors → length targets' ≡ length targets → length edges' ≡ length edges → length marks' ≡ length marks
+    pub filled_more : {vectors' targets' edges' marks' : List ℕ} → Filled a₀.dim a₀.degree vectors targets edges a₀.versions marks s v vectors' targets' edges' marks'
         → FilledUpTo bytes slots a₀ (arrays a₀.dim a₀.degree vectors' targets' edges' a₀.versions marks') (i + 1)
     unfolding fillings_from
-    filled_more {vectors'} {targets'} {edges'} {marks'} g lv lt le lm =
+    filled_more {vectors'} {targets'} {edges'} {marks'} g =
         let z : length slots - i ≡ suc (length slots - (i + 1)) = omega arith in
         let y : i + 1 ≡ suc i = omega arith in
         let a = arrays a₀.dim a₀.degree vectors targets edges a₀.versions marks in
         let a' = arrays a₀.dim a₀.degree vectors' targets' edges' a₀.versions marks' in
+        let k : AsLong a a' = long_filled a s v (together_as f.longs x) (rw q (length_part a₀.dim i bytes fill_vector)) slot_inside g in
         record {
           goes = λ alpha entry.
               let p : index_of alpha entry a' ≡ store_ops.fill (index_of alpha entry a) (get_or slots i 0) (part a₀.dim i bytes) =
-              index_with alpha entry a a' lm ∙ g.does (index_of alpha entry a) refl slot_inside ∙ rw (e, q) in
+              index_with alpha entry a a' k.marks ∙ g.does.does (index_of alpha entry a) refl slot_inside ∙ rw (e, q) in
               let was = rw z at (f.goes alpha entry) in
               ap (λ (b : Store). fill_all store_ops b (fillings_from a₀.dim bytes slots (i + 1) (length slots - (i + 1)))) p ∙ rw y (rw y at was);
           bound = omega arith;
-          longs = as_long_then f.longs lv lt le lm;
+          longs = as_long_then f.longs k;
         }
 
 pub filled_done : {bytes slots : List ℕ} {a₀ a : Arrays} {i : ℕ} → FilledUpTo bytes slots a₀ a i → length slots ≤ i → ChunkFilled a₀ bytes slots a
 unfolding fillings_from
-filled_done {slots = slots} {i = i} f h = let z : length slots - i ≡ 0 = omega arith in record { fills = λ alpha entry. rw z at (f.goes alpha entry) }
+filled_done {slots = slots} {i = i} f h = let z : length slots - i ≡ 0 = omega arith in record { fills = λ alpha entry. rw z at (f.goes alpha entry); longs = f.longs }

@@ -1,4 +1,5 @@
 pub mod Chaining
+pub mod Same
 pub mod Filled
 pub mod Plans
 pub mod OwnRows

@@ -18,13 +18,14 @@ use Rattle.insertion.specs.declared.layout.Layout.{Layout}
 use Rattle.insertion.specs.Inner.Chains.{head}
 use Rattle.insertion.specs.Inner.Filling.{Inside}
 use Rattle.insertion.specs.Inner.Plans.{start_of, plan_cands}
+use Rattle.insertion.proofs.Same.{wrote_long}
 use Rattle.insertion.specs.Inner.Outgoing.{own_row, own_at, OwnRow, Unnamed, OutgoingRows, OutgoingWritten}
 
 -- ---- one slot; z is s as an index
 module _ {degree : ℕ} {targets edges versions : List ℕ} {s : ℕ} {w : List ℕ} {p r n to : ℕ} (o : OwnRow degree targets edges s w p r to) where
   pub unnamed_not : {z : ℕ} → z ≡ s → get_or w (marks_at + z) 0 < n → Unnamed degree targets edges versions s w p r n to targets edges w
   unfolding own_row
-  unnamed_not e h = let k : head w s < n = rw e at h in record { row = λ dim vectors marks alpha entry l. rw (lt-ltb _ _ k); size = refl; same = λ j l. refl }
+  unnamed_not e h = let k : head w s < n = rw e at h in record { row = λ dim vectors marks alpha entry l. rw (lt-ltb _ _ k); targets_long = refl; edges_long = refl; size = refl; same = λ j l. refl }
 
   pub unnamed_written : {z : ℕ} → z ≡ s → n ≤ get_or w (marks_at + z) 0 → {targets' edges' w' : List ℕ} → WroteIds degree targets edges versions s w p r to targets' edges' w'
       → Unnamed degree targets edges versions s w p r n to targets' edges' w'
@@ -34,6 +35,8 @@ module _ {degree : ℕ} {targets edges versions : List ℕ} {s : ℕ} {w : List 
       record {
         row = λ dim vectors marks alpha entry l.
             rw (le-ltb _ _ k) ((f.row.does dim vectors marks).does (index_of alpha entry (arrays dim degree vectors targets edges versions marks)) refl l);
+        targets_long = (wrote_long f.row o.writable.targets_in o.writable.edges_in).0;
+        edges_long = (wrote_long f.row o.writable.targets_in o.writable.edges_in).1;
         size = f.size;
         same = λ j l. f.same j (λ (x : to ≤ j). absurd (omega arith));
       }
@@ -106,8 +109,8 @@ module _ {degree : ℕ} {targets₀ edges₀ versions slots w₀ : List ℕ} {at
           g.row dim vectors marks alpha entry (l i h)
           ∙ rw (f.same (marks_at + get_or slots i 0) (omega (arith, o.heads_in i h, outgoing_after.3)), list_is)
 
-      pub outgoing_more : length targets' ≡ length targets → length edges' ≡ length edges → OutgoingUpTo degree targets₀ edges₀ versions slots w₀ at n targets' edges' w' e (i + 1)
-      outgoing_more lt le =
+      pub outgoing_more : OutgoingUpTo degree targets₀ edges₀ versions slots w₀ at n targets' edges' w' e (i + 1)
+      outgoing_more =
           let z : length slots - i ≡ suc (length slots - (i + 1)) = omega arith in
           let y : i + 1 ≡ suc i = omega arith in
           record {
@@ -116,8 +119,8 @@ module _ {degree : ℕ} {targets₀ edges₀ versions slots w₀ : List ℕ} {at
                 ap (λ (b : Store). foldl (own_at w₀ at n slots) b (range (i + 1) (length slots - (i + 1)))) (turn dim vectors marks alpha entry l) ∙ rw y (rw y at was);
             from = end_is ∙ rw (add-one i);
             bound = omega arith;
-            targets_long = lt ∙ f.targets_long;
-            edges_long = le ∙ f.edges_long;
+            targets_long = g.targets_long ∙ f.targets_long;
+            edges_long = g.edges_long ∙ f.edges_long;
             size = g.size ∙ f.size;
             same = λ j l. g.same j l ∙ f.same j l;
           }
@@ -126,4 +129,4 @@ pub outgoing_done : {degree : ℕ} {targets₀ edges₀ versions slots w₀ : Li
     → OutgoingUpTo degree targets₀ edges₀ versions slots w₀ at n targets edges w b i → length slots ≤ i → OutgoingWritten degree targets₀ edges₀ versions slots w₀ at n targets edges w
 outgoing_done {slots = slots} {i = i} f h =
     let z : length slots - i ≡ 0 = omega arith in
-    record { rows = λ dim vectors marks alpha entry l. rw z at (f.goes dim vectors marks alpha entry l); size = f.size; same = f.same }
+    record { rows = λ dim vectors marks alpha entry l. rw z at (f.goes dim vectors marks alpha entry l); targets_long = f.targets_long; edges_long = f.edges_long; size = f.size; same = f.same }

@@ -12,6 +12,7 @@ use lib.Ieee.{Float}
 use Rattle.lists.specs.Lists.{All, part}
 use Rattle.lists.proofs.Parts.{before_next, fits_in}
 use Rattle.vectors.specs.Space.{slot_distance, space}
+use Rattle.vectors.specs.Vector.{Bytes}
 use Rattle.vectors.proofs.Distances.{length_part}
 use Rattle.slots.specs.View.{View}
 use Rattle.slots.specs.Store.{Arrays, is_valid, store_view}
@@ -38,13 +39,13 @@ module _ {a : Arrays} {query : List ℕ} {start width : ℕ} {w : List ℕ} {at 
   few : k ≤ 1024
   few = omega (arith, f.few, q.beam_most)
 
-  pub plan_ready : Ready a.degree a.dim a.vectors a.marks w₁ 0 k (at.plans + 2 * n)
-  plan_ready =
+  pub plan_ready : Bytes a.dim (length a.marks) a.vectors → length a.marks ≤ 65536 → Ready a.degree a.dim a.vectors a.marks w₁ 0 k (at.plans + 2 * n)
+  plan_ready b l =
       let s = o.spread in
       record {
-        bytes = q.lent.vectors.vectors_long;
-        few = q.lent.rows.few;
-        short = q.lent.vectors.dim_most;
+        bytes = b.long;
+        few = l;
+        short = b.small;
         inside = omega (arith, few, f.size, q.room);
         small = f.small;
         room = record { inside = omega (arith, f.size, s.plans_in, s.sources_in, s.nexts_in, s.ends_in, o.room); apart = inl (omega (arith, few, o.heads_in)) };
@@ -159,7 +160,7 @@ module _ {a : Arrays} {bytes slots : List ℕ} {start beam : ℕ} {w₀ : List �
   pub next_ready : {width : ℕ} → width ≡ max beam a.degree → {query : List ℕ} → query ≡ part a.dim i bytes → Walk.Ready a query start width w
   next_ready e q =
       record {
-        lent = record { vectors = record { vectors_long = x.bytes.long; dim_most = x.bytes.small; query_long = rw q (length_part a.dim i bytes next_vector) }; rows = x.rows };
+        query_long = rw q (length_part a.dim i bytes next_vector);
         start_inside = t.start_in;
         beam_most = omega (arith, t.beam_most, x.degree_most);
         room = omega (arith, f.size, t.enough);

@@ -18,10 +18,11 @@ use Rattle.candidates.specs.Candidates.{Candidate, ids}
 use Rattle.candidates.specs.Inner.Words.{cands, Small}
 use Rattle.prune.specs.Prune.{prune}
 use Rattle.row.specs.Row.{Together, index_of, live_scored, LiveScored, Prunable, WrotePruned}
-use Rattle.row.proofs.Kept.{together_kept}
 use Rattle.insertion.specs.declared.layout.Layout.{Layout}
 use Rattle.insertion.specs.Inner.Chains.{head, at_slot, incoming_at, Takeable, Took}
 use Rattle.insertion.specs.Inner.Targets.{renewed_at, Renewable, Renewed, AllRenewed}
+use Rattle.insertion.specs.Inner.Filling.{AsLong}
+use Rattle.insertion.proofs.Same.{as_long, as_long_then, together_as, long_written}
 use Rattle.insertion.proofs.Chaining.{Agrees, incoming_agree, chain_agree}
 
 -- ---- what comes in
@@ -77,7 +78,7 @@ list_fits q = omega (arith, q.list_in, q.room)
 module _ {a : Arrays} {s : ℕ} {w : List ℕ} {at : Layout} {n : ℕ} {z : ℕ} (e : z ≡ s) where
   pub renewed_not : {alpha : Float} → n ≤ get_or w (marks_at + z) 0 → Renewed alpha a s w at n a w
   unfolding renewed_at
-  renewed_not h = let k : n ≤ head w s = rw e at h in record { row = λ entry. rw (le-ltb _ _ k); size = refl; same = λ j l. refl }
+  renewed_not h = let k : n ≤ head w s = rw e at h in record { row = λ entry. rw (le-ltb _ _ k); longs = as_long a; size = refl; same = λ j l. refl }
 
   module _ (o : s < length a.marks) (q : Renewable a.degree (length a.marks) w at n) where
     module _ {k : ℕ} {w₁ : List ℕ} (f : LiveScored a s w at.list k w₁) where
@@ -106,15 +107,18 @@ module _ {a : Arrays} {s : ℕ} {w : List ℕ} {at : Layout} {n : ℕ} {z : ℕ}
               below = omega (arith, q.below);
             }
 
-        pub renewed_new : get_or w (marks_at + z) 0 < n → {alpha : Float} {a' : Arrays} {w₃ : List ℕ} → WrotePruned alpha a s w₂ at.list m at.chosen a' w₃ → Renewed alpha a s w at n a' w₃
+        pub renewed_new : get_or w (marks_at + z) 0 < n → Together a → {alpha : Float} {targets edges : List ℕ} {w₃ : List ℕ}
+            → WrotePruned alpha a s w₂ at.list m at.chosen (arrays a.dim a.degree a.vectors targets edges a.versions a.marks) w₃
+            → Renewed alpha a s w at n (arrays a.dim a.degree a.vectors targets edges a.versions a.marks) w₃
         unfolding renewed_at
-        renewed_new h {alpha} {a'} g =
+        renewed_new h x {alpha} g =
             let p : head w s < n = rw e at h in
             record {
               row = λ entry.
                   let v = store_view (index_of alpha entry a) in
                   let y : cands w₂ at.list m ≡ live_scored v s ++ incoming_at w at (at_slot w at s 0 n) = took ∙ rw (f.list alpha entry) in
                   rw (lt-ltb _ _ p) (g.row entry ∙ ap (λ (l : List Candidate). store_ops.write (index_of alpha entry a) s (ids (prune v s l))) y);
+              longs = long_written a s _ x (g.row 0);
               size = g.size ∙ t.size ∙ f.size;
               same = λ j l.
                   g.same j (λ (y : at.list ≤ j). absurd (omega arith)) (λ (y : at.chosen ≤ j). absurd (omega (arith, q.list_in)))
@@ -123,47 +127,40 @@ module _ {a : Arrays} {s : ℕ} {w : List ℕ} {at : Layout} {n : ℕ} {z : ℕ}
             }
 
 -- ---- the sweep
-pub record Sweeping (alpha : Float) (w₀ : List ℕ) (at : Layout) (n : ℕ) (a₀ a : Arrays) (w : List ℕ) (i s : ℕ) : Type 0 where
-  pub equal : i ≡ s
+pub record Sweeping (alpha : Float) (w₀ : List ℕ) (at : Layout) (n : ℕ) (a₀ a : Arrays) (w : List ℕ) (s : ℕ) : Type 0 where
   pub together : Together a
-  pub targets_long : length a.targets ≡ length a₀.targets
-  pub edges_long : length a.edges ≡ length a₀.edges
+  pub longs : AsLong a₀ a
   pub goes : (entry : ℕ) → foldl (renewed_at w₀ at n) (index_of alpha entry a) (range s (length a₀.marks - s)) ≡ foldl (renewed_at w₀ at n) (index_of alpha entry a₀) (range 0 (length a₀.marks))
-  pub bound : s ≤ length a₀.marks
   pub size : length w ≡ length w₀
   pub same : (j : ℕ) → j < at.list → get_or w j 0 ≡ get_or w₀ j 0
 
-pub sweeping_none : (alpha : Float) (w : List ℕ) (at : Layout) (n : ℕ) {a : Arrays} → Together a → Sweeping alpha w at n a a w 0 0
+pub sweeping_none : (alpha : Float) (w : List ℕ) (at : Layout) (n : ℕ) {a : Arrays} → Together a → Sweeping alpha w at n a a w 0
 sweeping_none alpha w at n {a} x =
     let e : length a.marks - 0 ≡ length a.marks = omega arith in
-    record { equal = refl; together = x; targets_long = refl; edges_long = refl; goes = λ entry. rw e; bound = omega arith; size = refl; same = λ j l. refl }
+    record { together = x; longs = as_long a; goes = λ entry. rw e; size = refl; same = λ j l. refl }
 
-module _ {alpha : Float} {w₀ : List ℕ} {at : Layout} {n : ℕ} {a₀ : Arrays} (q : Renewable a₀.degree (length a₀.marks) w₀ at n) {targets edges w : List ℕ} {i s : ℕ}
-    (f : Sweeping alpha w₀ at n a₀ (arrays a₀.dim a₀.degree a₀.vectors targets edges a₀.versions a₀.marks) w i s) where
-  module _ (h : i < length a₀.marks) where
+module _ {alpha : Float} {w₀ : List ℕ} {at : Layout} {n : ℕ} {a₀ : Arrays} (q : Renewable a₀.degree (length a₀.marks) w₀ at n) {targets edges w : List ℕ} {s : ℕ}
+    (f : Sweeping alpha w₀ at n a₀ (arrays a₀.dim a₀.degree a₀.vectors targets edges a₀.versions a₀.marks) w s) where
+  module _ (h : s < length a₀.marks) where
     pub sweep_asks : (s < length a₀.marks) × Renewable a₀.degree (length a₀.marks) w at n
-    sweep_asks = (omega (arith, f.equal), renewable_kept q w f.same f.size)
+    sweep_asks = (h, renewable_kept q w f.same f.size)
 
     pub sweeping_more : {targets' edges' w' : List ℕ}
         → Renewed alpha (arrays a₀.dim a₀.degree a₀.vectors targets edges a₀.versions a₀.marks) s w at n (arrays a₀.dim a₀.degree a₀.vectors targets' edges' a₀.versions a₀.marks) w'
-        → length targets' ≡ length targets → length edges' ≡ length edges
-        → Sweeping alpha w₀ at n a₀ (arrays a₀.dim a₀.degree a₀.vectors targets' edges' a₀.versions a₀.marks) w' (i + 1) (s + 1)
-    sweeping_more t x y =
+        → Sweeping alpha w₀ at n a₀ (arrays a₀.dim a₀.degree a₀.vectors targets' edges' a₀.versions a₀.marks) w' (s + 1)
+    sweeping_more t =
         let c = length a₀.marks in
-        let z : c - s ≡ suc (c - (s + 1)) = omega (arith, f.equal) in
+        let z : c - s ≡ suc (c - (s + 1)) = omega arith in
         let u : s + 1 ≡ suc s = omega arith in
         record {
-          equal = ap (λ (k : ℕ). k + 1) f.equal;
-          together = together_kept refl x y refl f.together;
-          targets_long = x ∙ f.targets_long;
-          edges_long = y ∙ f.edges_long;
+          together = together_as t.longs f.together;
+          longs = as_long_then f.longs t.longs;
           goes = λ entry.
               let was = rw z at (f.goes entry) in
-              ap (λ (b : Store). foldl (renewed_at w₀ at n) b (range (s + 1) (c - (s + 1)))) (t.row entry ∙ renewed_kept q w f.same _ s sweep_asks.0) ∙ rw u (rw u at was);
-          bound = omega (arith, f.equal);
+              ap (λ (b : Store). foldl (renewed_at w₀ at n) b (range (s + 1) (c - (s + 1)))) (t.row entry ∙ renewed_kept q w f.same _ s h) ∙ rw u (rw u at was);
           size = t.size ∙ f.size;
           same = λ j l. t.same j l ∙ f.same j l;
         }
 
-  pub sweeping_done : length a₀.marks ≤ i → AllRenewed alpha a₀ w₀ at n (arrays a₀.dim a₀.degree a₀.vectors targets edges a₀.versions a₀.marks)
-  sweeping_done h = let z : length a₀.marks - s ≡ 0 = omega (arith, f.equal) in record { rows = λ entry. rw z at (f.goes entry) }
+  pub sweeping_done : length a₀.marks ≤ s → AllRenewed alpha a₀ w₀ at n (arrays a₀.dim a₀.degree a₀.vectors targets edges a₀.versions a₀.marks)
+  sweeping_done h = let z : length a₀.marks - s ≡ 0 = omega arith in record { rows = λ entry. rw z at (f.goes entry); longs = f.longs }

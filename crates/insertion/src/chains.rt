@@ -1,33 +1,18 @@
 // What the plans of a chunk name, chained by slot: a head for each slot, and for each candidate the next one of its slot.
 ghost use Rattle.std.specs.Prelude.{◌≡◌, ℕ, ◌+◌, ◌≤◌, ◌<◌, length};
-ghost use Rattle.insertion.specs.Inner.Chains.{head, Repeated, Chainable, Chained, Takeable, Took};
+ghost use Rattle.insertion.specs.Inner.Chains.{head, Chainable, Chained, Takeable, Took};
 
 use super::layout::Layout;
-use slots::marks::wide;
 use slots::scratch::MARKS;
-
-// Writes `x` into the `k` words from `p` on.
-pub fn repeat(scratch: &mut [u32], p: usize, k: usize, x: u32)
-    requires { p + k ≤ length scratch.old }
-    ensures { Repeated scratch.old p k x scratch.new }
-{
-    let mut i: usize = 0;
-    while i < k {
-        scratch[p + i] = x;
-        i += 1;
-    }
-}
 
 // Links the `n` candidates of the plans, where every head is `n`.
 fn link(scratch: &mut [u32], at: Layout, n: u32, capacity: usize)
     requires { Chainable scratch.old at n capacity × ((t : ℕ) → t < capacity → head scratch.old t ≡ n) }
     ensures { Chained scratch.old at n capacity scratch.new }
 {
-    let mut k = n;
-    while 0 < k {
-        k -= 1;
-        let j = wide(k);
-        let head = MARKS + wide(candidates::id_at(scratch, at.plans, j));
+    for k in (0..n).rev() {
+        let j = k as usize;
+        let head = MARKS + candidates::id_at(scratch, at.plans, j) as usize;
         scratch[at.nexts + j] = scratch[head];
         scratch[head] = k;
     }
@@ -38,7 +23,7 @@ pub fn chain(scratch: &mut [u32], at: Layout, n: u32, capacity: usize)
     requires { Chainable scratch.old at n capacity }
     ensures { Chained scratch.old at n capacity scratch.new }
 {
-    repeat(scratch, MARKS, capacity, n);
+    scratch[MARKS..MARKS + capacity].fill(n);
     link(scratch, at, n, capacity);
 }
 
@@ -50,8 +35,9 @@ pub fn take_incoming(scratch: &mut [u32], at: Layout, n: u32, t: usize, m: usize
 {
     let mut r = m;
     let mut k = scratch[MARKS + t];
+    // A `for` is no plainer: the chain is followed from one candidate to the next, not counted.
     while k < n {
-        let j = wide(k);
+        let j = k as usize;
         let dist = candidates::dist_at(scratch, at.plans, j);
         let source = scratch[at.sources + j];
         candidates::put(scratch, at.list + 2 * r, dist, source);

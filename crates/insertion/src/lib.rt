@@ -8,6 +8,7 @@ mod filling;
 mod layout;
 mod outgoing;
 mod planning;
+mod seen;
 mod targets;
 
 pub use batch::insert_batch;

@@ -1,17 +1,15 @@
 // The outgoing rows of a chunk: those of the new slots that no plan names. A slot that one names gets its row as a target.
+ghost use Rattle.slots.specs.Lent.{SameSlices};
 ghost use Rattle.insertion.specs.Inner.Outgoing.{OwnRow, Unnamed, OutgoingRows, OutgoingWritten};
 
 use super::layout::Layout;
 use row::write_ids;
-use slots::marks::wide;
+use slots::RowsMut;
 use slots::scratch::MARKS;
 
 // Writes the slots of the `r` candidates at `p` as the row of slot `s`, unless one of the `n` candidates of the plans names it.
 fn write_unnamed(
-    degree: usize,
-    targets: &mut [u32],
-    edges: &mut [u16],
-    versions: &[u16],
+    rows: &mut RowsMut<'_>,
     s: u32,
     scratch: &mut [u32],
     p: usize,
@@ -19,39 +17,30 @@ fn write_unnamed(
     n: u32,
     to: usize,
 )
-    requires { OwnRow degree targets.old edges.old s scratch.old p r to }
-    ensures { Unnamed degree targets.old edges.old versions.now s scratch.old p r n to targets.new edges.new scratch.new }
+    requires { OwnRow rows.old.degree rows.old.targets.now rows.old.edges.now s scratch.old p r to }
+    ensures { Unnamed rows.old.degree rows.old.targets.now rows.old.edges.now rows.old.versions.now s scratch.old p r n to rows.new.targets.now rows.new.edges.now scratch.new × SameSlices rows.old rows.new }
 {
-    let head = MARKS + wide(s);
-    if scratch[head] < n {
-        return;
+    if n <= scratch[MARKS + s as usize] {
+        write_ids(rows, s, scratch, p, r, to);
     }
-    write_ids(degree, targets, edges, versions, s, scratch, p, r, to);
 }
 
 // Writes the rows of those slots of a chunk that no plan names.
 pub fn write_outgoing(
-    degree: usize,
-    targets: &mut [u32],
-    edges: &mut [u16],
-    versions: &[u16],
+    rows: &mut RowsMut<'_>,
     slots: &[u32],
     scratch: &mut [u32],
     at: Layout,
     n: u32,
 )
-    requires { OutgoingRows degree targets.old edges.old slots.now scratch.old at n }
-    ensures { OutgoingWritten degree targets.old edges.old versions.now slots.now scratch.old at n targets.new edges.new scratch.new }
+    requires { OutgoingRows rows.old.degree rows.old.targets.now rows.old.edges.now slots.now scratch.old at n }
+    ensures { OutgoingWritten rows.old.degree rows.old.targets.now rows.old.edges.now rows.old.versions.now slots.now scratch.old at n rows.new.targets.now rows.new.edges.now scratch.new × SameSlices rows.old rows.new }
 {
     let mut b: usize = 0;
-    let mut i: usize = 0;
-    while i < slots.len() {
-        let e = wide(scratch[at.ends + i]);
+    for i in 0..slots.len() {
+        let e = scratch[at.ends + i] as usize;
         write_unnamed(
-            degree,
-            targets,
-            edges,
-            versions,
+            rows,
             slots[i],
             scratch,
             at.plans + 2 * b,
@@ -60,6 +49,5 @@ pub fn write_outgoing(
             at.chosen,
         );
         b = e;
-        i += 1;
     }
 }

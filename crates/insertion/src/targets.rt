@@ -1,77 +1,63 @@
 // The rows of the slots that the plans of a chunk name.
 ghost use Rattle.std.specs.Prelude.{◌<◌, length};
-ghost use Rattle.slots.specs.Store.{arrays};
+ghost use Rattle.slots.specs.Lent.{rows_mut_of, SameSlices};
 ghost use Rattle.row.specs.Row.{Together};
 ghost use Rattle.insertion.specs.Inner.Targets.{Renewable, Renewed, AllRenewed};
 
 use super::chains::take_incoming;
 use super::layout::Layout;
+use super::seen::graph_at;
+use distances::Kept;
 use row::{live_scored, write_pruned};
-use slots::marks::wide;
+use slots::RowsMut;
 use slots::scratch::MARKS;
+use vectors::Space;
 
 // Where one of the `n` candidates of the plans names slot `s`: prunes its row from its live references, then those that come in.
-fn renew(
-    dim: usize,
-    degree: usize,
+fn renew<'a>(
     alpha: f32,
-    vectors: &[u8],
-    targets: &mut [u32],
-    edges: &mut [u16],
-    versions: &[u16],
-    marks: &[u8],
+    space: &Space<'a>,
+    rows: &mut RowsMut<'_>,
+    marks: &'a [u8],
     s: u32,
     scratch: &mut [u32],
     at: Layout,
     n: u32,
 )
-    requires together { Together (arrays dim degree vectors.now targets.old edges.old versions.now marks.now) }
-    requires s_in_bounds { (s < length marks.now) × Renewable degree (length marks.now) scratch.old at n }
-    ensures { Renewed alpha (arrays dim degree vectors.now targets.old edges.old versions.now marks.now) s scratch.old at n
-        (arrays dim degree vectors.now targets.new edges.new versions.now marks.now) scratch.new }
+    requires together { Together (rows_mut_of space.now.dim space.now.vectors.now rows.old marks.now) }
+    requires s_in_bounds { (s < length marks.now) × Renewable rows.old.degree (length marks.now) scratch.old at n }
+    ensures { Renewed alpha (rows_mut_of space.now.dim space.now.vectors.now rows.old marks.now) s scratch.old at n
+        (rows_mut_of space.now.dim space.now.vectors.now rows.new marks.now) scratch.new × SameSlices rows.old rows.new }
 {
-    let t = wide(s);
-    let head = MARKS + t;
-    if n <= scratch[head] {
+    let t = s as usize;
+    if n <= scratch[MARKS + t] {
         return;
     }
-    let k = live_scored(
-        dim, degree, vectors, targets, edges, versions, marks, s, scratch, at.list,
-    );
+    let graph = graph_at(*space, rows, marks);
+    let k = live_scored(&graph, s, scratch, at.list);
     let m = take_incoming(scratch, at, n, t, k);
-    let mut none = [0u32; 0];
+    let mut kept = Kept::<0>::new(*space);
     write_pruned(
-        dim, degree, alpha, vectors, &mut none, targets, edges, versions, marks, s, scratch,
-        at.list, m, at.chosen,
+        alpha, &mut kept, rows, marks, s, scratch, at.list, m, at.chosen,
     );
 }
 
 // Works out and writes the row of each slot that a plan names, in one sweep over the slots.
-pub fn write_named(
-    dim: usize,
-    degree: usize,
+pub fn write_named<'a>(
     alpha: f32,
-    vectors: &[u8],
-    targets: &mut [u32],
-    edges: &mut [u16],
-    versions: &[u16],
-    marks: &[u8],
+    space: &Space<'a>,
+    rows: &mut RowsMut<'_>,
+    marks: &'a [u8],
     scratch: &mut [u32],
     at: Layout,
     n: u32,
 )
-    requires together { Together (arrays dim degree vectors.now targets.old edges.old versions.now marks.now) }
-    requires renewable { Renewable degree (length marks.now) scratch.old at n }
-    ensures { AllRenewed alpha (arrays dim degree vectors.now targets.old edges.old versions.now marks.now) scratch.old at n
-        (arrays dim degree vectors.now targets.new edges.new versions.now marks.now) }
+    requires together { Together (rows_mut_of space.now.dim space.now.vectors.now rows.old marks.now) }
+    requires renewable { Renewable rows.old.degree (length marks.now) scratch.old at n }
+    ensures { AllRenewed alpha (rows_mut_of space.now.dim space.now.vectors.now rows.old marks.now) scratch.old at n
+        (rows_mut_of space.now.dim space.now.vectors.now rows.new marks.now) × SameSlices rows.old rows.new }
 {
-    let mut i: usize = 0;
-    let mut s: u32 = 0;
-    while i < marks.len() {
-        renew(
-            dim, degree, alpha, vectors, targets, edges, versions, marks, s, scratch, at, n,
-        );
-        s += 1;
-        i += 1;
+    for s in 0..marks.len() {
+        renew(alpha, space, rows, marks, s as u32, scratch, at, n);
     }
 }

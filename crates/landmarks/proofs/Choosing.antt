@@ -14,19 +14,20 @@ use Rattle.lists.proofs.Front.{front_snoc}
 use Rattle.candidates.specs.Candidates.{Candidate}
 use Rattle.candidates.specs.Inner.Words.{pair, cand, cands}
 use Rattle.candidates.proofs.Words.{cands_none, cands_cons, cands_length}
-use Rattle.landmarks.specs.Inner.Choices.{farthest_from, farthest, drawn, chosen, HasVector, Listed, Drew, Appended}
+use Rattle.vectors.specs.Lent.{HasVector}
+use Rattle.vectors.specs.declared.Space.{Space}
+use Rattle.landmarks.specs.Inner.Choices.{farthest_from, farthest, drawn, chosen, Listed, Drew, Appended}
 use Rattle.landmarks.proofs.Drawing.{all_drawn, drew_listed}
 
 -- ---- the farthest: of the candidates before place i it is the pair of best and id
 pub record Comparing (w : List ℕ) (a n best id i : ℕ) : Type 0 where
-  pub bound : i ≤ n
   pub goes : (farthest_from (pair best id) (cands w (a + 2 * i) (n - i))).id ≡ farthest (cands w a n)
 
 pub comparing_none : (w : List ℕ) (a n : ℕ) → Comparing w a n 0 0 0
 comparing_none w a n =
     let e : n - 0 ≡ n = omega arith in
     let g : a + 2 * 0 ≡ a = omega arith in
-    record { bound = omega arith; goes = rw (e, g) }
+    record { goes = rw (e, g) }
 
 pub step_farther : (a c : Candidate) (cs : List Candidate) → ltb c.dist a.dist ≡ false → farthest_from a (c ∷ cs) ≡ farthest_from c cs
 step_farther a c cs e = ap (λ (b : Bool). farthest_from (cond b a c) cs) e
@@ -42,7 +43,6 @@ module _ {w : List ℕ} {a n best id i : ℕ} (f : Comparing w a n best id i) wh
   comparing_farther {d} {s} h e g l =
       let k : best ≤ get_or w (a + 2 * i) 0 = omega arith in
       record {
-        bound = omega arith;
         goes = rw (e, g) (ap (λ (c : Candidate). c.id) (sym (step_farther (pair best id) (cand w (a + 2 * i)) (cands w (a + 2 * (i + 1)) (n - (i + 1))) (le-ltb (get_or w (a + 2 * i) 0) best k))) ∙ later h);
       }
 
@@ -50,7 +50,6 @@ module _ {w : List ℕ} {a n best id i : ℕ} (f : Comparing w a n best id i) wh
   comparing_nearer {d} h e l =
       let k : get_or w (a + 2 * i) 0 < best = omega arith in
       record {
-        bound = omega arith;
         goes = ap (λ (c : Candidate). c.id) (sym (step_nearer (pair best id) (cand w (a + 2 * i)) (cands w (a + 2 * (i + 1)) (n - (i + 1))) (lt-ltb (get_or w (a + 2 * i) 0) best k))) ∙ later h;
       }
 
@@ -69,17 +68,16 @@ farthest_in P [] h k = absurd (omega arith)
 farthest_in P (c ∷ cs) h k =
     subst (λ (x : Candidate). P x.id) (sym (step_farther (pair 0 0) c cs (le-ltb c.dist 0 (omega arith)))) (farthest_all (λ c. P c.id) c cs k.0 k.1)
 
-pub farthest_inside : {dim : ℕ} {vectors : List ℕ} {a : ℕ} {w : List ℕ} {m next : ℕ} → Listed dim vectors a w m → (m ≡ 0 → ⊥) → next ≡ farthest (cands w a m) → HasVector dim vectors next
-farthest_inside {dim} {vectors} {a} {w} {m} f h e = rw e (farthest_in (HasVector dim vectors) (cands w a m) (omega (arith, cands_length w a m, h)) f.inside)
+pub farthest_inside : {space : Space} {a : ℕ} {w : List ℕ} {m next : ℕ} → Listed space a w m → (m ≡ 0 → ⊥) → next ≡ farthest (cands w a m) → HasVector space next
+farthest_inside {space} {a} {w} {m} f h e = rw e (farthest_in (HasVector space) (cands w a m) (omega (arith, cands_length w a m, h)) f.inside)
 
 -- ---- k landmarks are chosen, m candidates left
-pub record Choosing (dim : ℕ) (vectors : List ℕ) (d : ℕ → ℕ → ℕ) (wanted at a n : ℕ) (l₀ w₀ l w : List ℕ) (m k : ℕ) : Type 0 where
+pub record Choosing (space : Space) (d : ℕ → ℕ → ℕ) (wanted at a n : ℕ) (l₀ w₀ l w : List ℕ) (m k : ℕ) : Type 0 where
   pub taken : List ℕ
   pub count : k ≡ length taken
   pub list : l ≡ put_front (take at l₀ ++ taken) l₀
   pub goes : taken ++ chosen d (wanted - k) (cands w a m) ≡ chosen d wanted (cands w₀ a n)
-  pub bound : k ≤ wanted
-  pub listed : Listed dim vectors a w m
+  pub listed : Listed space a w m
   pub list_size : length l ≡ length l₀
   pub size : length w ≡ length w₀
 
@@ -87,8 +85,8 @@ pub record Choosing (dim : ℕ) (vectors : List ℕ) (d : ℕ → ℕ → ℕ) (
 pub front_none : (k : ℕ) (l : List ℕ) → k ≤ length l → l ≡ put_front (take k l ++ []) l
 front_none k l h = rw (append-nil, length-take-le k l h) (sym (take-append-drop k l))
 
-pub choosing_none : {dim : ℕ} {vectors : List ℕ} (d : ℕ → ℕ → ℕ) (wanted at : ℕ) {a n : ℕ} (l : List ℕ) {w : List ℕ} → Listed dim vectors a w n → at + wanted ≤ length l
-    → Choosing dim vectors d wanted at a n l w l w n 0
+pub choosing_none : {space : Space} (d : ℕ → ℕ → ℕ) (wanted at : ℕ) {a n : ℕ} (l : List ℕ) {w : List ℕ} → Listed space a w n → at + wanted ≤ length l
+    → Choosing space d wanted at a n l w l w n 0
 choosing_none d wanted at {n} l {w} f h =
     let e : wanted - 0 ≡ wanted = omega arith in
     record {
@@ -96,7 +94,6 @@ choosing_none d wanted at {n} l {w} f h =
       count = refl;
       list = front_none at l (omega arith);
       goes = rw e;
-      bound = omega arith;
       listed = f;
       list_size = refl;
       size = refl;
@@ -119,9 +116,9 @@ chosen_next d wanted k (c ∷ cs) h l =
     let g : wanted - k ≡ suc (wanted - (k + 1)) = omega arith in
     rw g
 
-module _ {dim : ℕ} {vectors : List ℕ} {d : ℕ → ℕ → ℕ} {wanted at a n : ℕ} {l₀ w₀ l w : List ℕ} {m k : ℕ} (f : Choosing dim vectors d wanted at a n l₀ w₀ l w m k) where
+module _ {space : Space} {d : ℕ → ℕ → ℕ} {wanted at a n : ℕ} {l₀ w₀ l w : List ℕ} {m k : ℕ} (f : Choosing space d wanted at a n l₀ w₀ l w m k) where
   pub choosing_more : {next r : ℕ} {w' : List ℕ} → at + wanted ≤ length l₀ → k < wanted → (m ≡ 0 → ⊥) → next ≡ farthest (cands w a m)
-      → Drew w a m (drawn d next (cands w a m)) w' r → Choosing dim vectors d wanted at a n l₀ w₀ (set l (at + k) next) w' r (k + 1)
+      → Drew w a m (drawn d next (cands w a m)) w' r → Choosing space d wanted at a n l₀ w₀ (set l (at + k) next) w' r (k + 1)
   choosing_more {next} {r} {w'} room h some e g =
       let c : length (f.taken ++ (next ∷ [])) ≡ length f.taken + 1 = length-append f.taken (next ∷ []) in
       let j : length (take at l₀ ++ f.taken) ≡ at + k = omega (arith, length-append (take at l₀) f.taken, length-take-le at l₀ (omega arith), f.count) in
@@ -131,7 +128,6 @@ module _ {dim : ℕ} {vectors : List ℕ} {d : ℕ → ℕ → ℕ} {wanted at a
         count = omega (arith, f.count, c);
         list = rw (f.list, ← j) (front_snoc (take at l₀ ++ f.taken) next l₀ (omega arith) ∙ ap (λ (xs : List ℕ). put_front xs l₀) (append_assoc (take at l₀) f.taken (next ∷ [])));
         goes = rw (g.list, append_assoc) o;
-        bound = omega arith;
         listed = drew_listed d next f.listed g;
         list_size = length-set l (at + k) next ∙ f.list_size;
         size = g.size ∙ f.size;
@@ -143,10 +139,11 @@ module _ {dim : ℕ} {vectors : List ℕ} {d : ℕ → ℕ → ℕ} {wanted at a
   pub choosing_empty : m ≡ 0 → Appended (chosen d wanted (cands w₀ a n)) at l₀ l k
   choosing_empty z = done (rw (cands_none w a m z, chosen_none d (wanted - k), append-nil) at f.goes)
 
-  pub choosing_done : wanted ≤ k → Appended (chosen d wanted (cands w₀ a n)) at l₀ l k
-  choosing_done h =
+  pub choosing_done : k ≤ wanted → wanted ≤ k → Appended (chosen d wanted (cands w₀ a n)) at l₀ l wanted
+  choosing_done b h =
       let z : wanted - k ≡ 0 = omega arith in
-      done (rw (z, chosen_zero d (cands w a m), append-nil) at f.goes)
+      let e : k ≡ wanted = omega arith in
+      rw e at (done (rw (z, chosen_zero d (cands w a m), append-nil) at f.goes))
 
 -- ---- how many are chosen, and what holds of them
 pub chosen_few : (d : ℕ → ℕ → ℕ) (n : ℕ) (cs : List Candidate) → length (chosen d n cs) ≤ n

@@ -6,19 +6,21 @@ use mathlib.Core.List.{List, [], ◌∷◌, ◌++◌, append_assoc, append-nil}
 use native.Mathlib.Omega.{arith}
 use borrow.Author.Tests.{eq-eqb, ne_eqb}
 use lib.Dec.{eqb}
-use lib.ListN.{length, take, drop, get_or}
+use lib.ListN.{length, drop, get_or}
 use Rattle.lists.specs.Lists.{All, filter, elem, least_of}
 use Rattle.lists.proofs.All.{by_cases, all_append}
 use Rattle.lists.proofs.Filtered.{filter_all}
 use Rattle.lists.proofs.Least.{least_with, least_cons, least_min}
-use Rattle.lists.proofs.Taking.{left_cons, left_none}
+use Rattle.std.proofs.lemmas.List.{at_drop_more, drop_all}
 use Rattle.lists.proofs.Unique.{or_false_l, or_false_r}
 use Rattle.vectors.specs.Space.{Measured}
 use Rattle.candidates.specs.Candidates.{Candidate, scored}
 use Rattle.candidates.specs.Inner.Words.{pair, cands, put}
 use Rattle.candidates.proofs.Words.{cands_none, cands_cons, cands_put, cands_push, put_length}
 use Rattle.landmarks.specs.Inner.Samples.{far}
-use Rattle.landmarks.specs.Inner.Choices.{drawn, drawn_all, HasVector, Listed, Drew}
+use Rattle.vectors.specs.Lent.{HasVector}
+use Rattle.vectors.specs.declared.Space.{Space}
+use Rattle.landmarks.specs.Inner.Choices.{drawn, drawn_all, Listed, Drew}
 
 pub all_drawn : (P : ℕ → Type 0) (d : ℕ → ℕ → ℕ) (next : ℕ) (cs : List Candidate) → All (λ c. P c.id) cs → All (λ c. P c.id) (drawn d next cs)
 all_drawn P d next [] h = tt
@@ -27,102 +29,93 @@ all_drawn P d next (c ∷ cs) h =
     by_cases (All (λ c. P c.id)) (eqb c.id next) (λ e. rest) (λ e. (h.0, rest))
 
 -- ---- one reference: k candidates are looked at, m of them kept
-pub record Drawing (dim : ℕ) (vectors : List ℕ) (d : ℕ → ℕ → ℕ) (next a : ℕ) (w₀ : List ℕ) (n : ℕ) (w : List ℕ) (m k : ℕ) : Type 0 where
+pub record Drawing (space : Space) (d : ℕ → ℕ → ℕ) (next a : ℕ) (w₀ : List ℕ) (n : ℕ) (w : List ℕ) (m k : ℕ) : Type 0 where
   pub within : m ≤ k
-  pub bound : k ≤ n
   pub goes : cands w a m ++ drawn d next (cands w (a + 2 * k) (n - k)) ≡ drawn d next (cands w₀ a n)
-  pub inside : All (λ c. HasVector dim vectors c.id) (cands w (a + 2 * k) (n - k))
+  pub inside : All (λ c. HasVector space c.id) (cands w (a + 2 * k) (n - k))
   pub near : All (λ c. c.dist ≤ 16646400) (cands w a m)
   pub size : length w ≡ length w₀
 
-pub drawing_none : {dim : ℕ} {vectors : List ℕ} (d : ℕ → ℕ → ℕ) (next : ℕ) {a : ℕ} {w : List ℕ} {n : ℕ} → Listed dim vectors a w n
-    → Drawing dim vectors d next a w n w 0 0
+pub drawing_none : {space : Space} (d : ℕ → ℕ → ℕ) (next : ℕ) {a : ℕ} {w : List ℕ} {n : ℕ} → Listed space a w n
+    → Drawing space d next a w n w 0 0
 drawing_none d next {a} {w} {n} f =
     let e : n - 0 ≡ n = omega arith in
     let g : a + 2 * 0 ≡ a = omega arith in
-    record { within = omega arith; bound = omega arith; goes = rw (cands_none w a 0 refl, e, g); inside = rw (e, g) f.inside; near = rw (cands_none w a 0 refl) tt; size = refl }
+    record { within = omega arith; goes = rw (cands_none w a 0 refl, e, g); inside = rw (e, g) f.inside; near = rw (cands_none w a 0 refl) tt; size = refl }
 
-module _ {dim : ℕ} {vectors : List ℕ} {d : ℕ → ℕ → ℕ} {next a : ℕ} {w₀ : List ℕ} {n : ℕ} {w : List ℕ} {m k : ℕ} (f : Drawing dim vectors d next a w₀ n w m k) where
-  pub drawing_inside : {id s : ℕ} → k < n → id ≡ get_or w (a + 2 * k + 1) 0 → s ≡ id → HasVector dim vectors s
-  drawing_inside h e g = rw (g, e) (rw (cands_cons w a n k h) at f.inside).0
+module _ {space : Space} {d : ℕ → ℕ → ℕ} {next a : ℕ} {w₀ : List ℕ} {n : ℕ} {w : List ℕ} {m k : ℕ} (f : Drawing space d next a w₀ n w m k) where
+  pub drawing_inside : {id : ℕ} → k < n → id ≡ get_or w (a + 2 * k + 1) 0 → HasVector space id
+  drawing_inside h e = rw e (rw (cands_cons w a n k h) at f.inside).0
 
-  pub drawing_take : {dist id y x s t : ℕ} → a + 2 * n ≤ length w₀ → k < n → dist ≡ get_or w (a + 2 * k) 0 → id ≡ get_or w (a + 2 * k + 1) 0 → (id ≡ next → ⊥)
-      → s ≡ id → t ≡ next → Measured (d s t) y → x ≡ min dist y → Drawing dim vectors d next a w₀ n (put w (a + 2 * m) x id) (m + 1) (k + 1)
-  drawing_take {dist} {id} {y} {x} {s} {t} l h e g q u v p r =
+  pub drawing_take : {dist id y x : ℕ} → a + 2 * n ≤ length w₀ → k < n → dist ≡ get_or w (a + 2 * k) 0 → id ≡ get_or w (a + 2 * k + 1) 0 → (id ≡ next → ⊥)
+      → Measured (d id next) y → x ≡ min dist y → Drawing space d next a w₀ n (put w (a + 2 * m) x id) (m + 1) (k + 1)
+  drawing_take {dist} {id} {y} {x} l h e g q p r =
       let i : a + 2 * m + 1 < length w = omega (arith, f.within, f.size) in
       let z : eqb (get_or w (a + 2 * k + 1) 0) next ≡ false = ne_eqb _ next (λ o. q (g ∙ o)) in
-      let y_is : y ≡ d (get_or w (a + 2 * k + 1) 0) next = p.equals ∙ rw (u, v, g) in
+      let y_is : y ≡ d (get_or w (a + 2 * k + 1) 0) next = p.equals ∙ rw g in
       let x_is : x ≡ min (get_or w (a + 2 * k) 0) (d (get_or w (a + 2 * k + 1) 0) next) = rw (r, y_is, e) in
       let small : x ≤ 16646400 = omega (arith, p.bound) in
       let o : cands (put w (a + 2 * m) x id) (a + 2 * (k + 1)) (n - (k + 1)) ≡ cands w (a + 2 * (k + 1)) (n - (k + 1)) = cands_put w (a + 2 * m) x id (a + 2 * (k + 1)) (n - (k + 1)) (λ _. omega (arith, f.within)) in
       record {
         within = omega (arith, f.within);
-        bound = omega arith;
         goes = rw (cands_push w x id a m i, append_assoc, o, x_is, g) (rw (cands_cons w a n k h, z) at f.goes);
         inside = rw o (rw (cands_cons w a n k h) at f.inside).1;
         near = rw (cands_push w x id a m i) (all_append (λ c. c.dist ≤ 16646400) (cands w a m) (pair x id ∷ []) f.near (small, tt));
         size = put_length w (a + 2 * m) x id ∙ f.size;
       }
 
-  pub drawing_skip : {id : ℕ} → k < n → id ≡ get_or w (a + 2 * k + 1) 0 → id ≡ next → Drawing dim vectors d next a w₀ n w m (k + 1)
+  pub drawing_skip : {id : ℕ} → k < n → id ≡ get_or w (a + 2 * k + 1) 0 → id ≡ next → Drawing space d next a w₀ n w m (k + 1)
   drawing_skip {id} h g q =
       let z : eqb (get_or w (a + 2 * k + 1) 0) next ≡ true = eq-eqb _ next (sym g ∙ q) in
       record {
         within = omega (arith, f.within);
-        bound = omega arith;
         goes = rw (cands_cons w a n k h, z) at f.goes;
         inside = (rw (cands_cons w a n k h) at f.inside).1;
         near = f.near;
         size = f.size;
       }
 
-  pub drawing_done : n ≤ k → Drew w₀ a n (drawn d next (cands w₀ a n)) w m
-  drawing_done h =
+  pub drawing_done : k ≤ n → n ≤ k → Drew w₀ a n (drawn d next (cands w₀ a n)) w m
+  drawing_done b h =
       let z : n - k ≡ 0 = omega arith in
-      record { list = rw (cands_none w (a + 2 * k) (n - k) z, append-nil) at f.goes; within = omega (arith, f.within, f.bound); near = f.near; size = f.size }
+      record { list = rw (cands_none w (a + 2 * k) (n - k) z, append-nil) at f.goes; within = omega (arith, f.within); near = f.near; size = f.size }
 
 -- what is left can be drawn to the next one
-pub drew_listed : {dim : ℕ} {vectors : List ℕ} (d : ℕ → ℕ → ℕ) (next : ℕ) {a : ℕ} {w : List ℕ} {n : ℕ} {w' : List ℕ} {r : ℕ} → Listed dim vectors a w n
-    → Drew w a n (drawn d next (cands w a n)) w' r → Listed dim vectors a w' r
-drew_listed {dim} {vectors} d next {a} {w} {n} f g =
-    record { small = f.small; room = omega (arith, f.room, g.within, g.size); inside = rw g.list (all_drawn (HasVector dim vectors) d next (cands w a n) f.inside) }
+pub drew_listed : {space : Space} (d : ℕ → ℕ → ℕ) (next : ℕ) {a : ℕ} {w : List ℕ} {n : ℕ} {w' : List ℕ} {r : ℕ} → Listed space a w n
+    → Drew w a n (drawn d next (cands w a n)) w' r → Listed space a w' r
+drew_listed {space} d next {a} {w} {n} f g =
+    record { small = f.small; room = omega (arith, f.room, g.within, g.size); inside = rw g.list (all_drawn (HasVector space) d next (cands w a n) f.inside) }
 
--- ---- all references: those of the first k before place i have drawn near
-pub record DrawingAll (dim : ℕ) (vectors : List ℕ) (d : ℕ → ℕ → ℕ) (l : List ℕ) (k a : ℕ) (w₀ : List ℕ) (n : ℕ) (w : List ℕ) (m i : ℕ) : Type 0 where
-  pub bound : i ≤ k
-  pub goes : drawn_all d (drop i (take k l)) (cands w a m) ≡ drawn_all d (take k l) (cands w₀ a n)
-  pub listed : Listed dim vectors a w m
+-- ---- all references: the first one, and those of the list before place i, have drawn near
+pub record DrawingAll (space : Space) (d : ℕ → ℕ → ℕ) (l : List ℕ) (a : ℕ) (w₀ : List ℕ) (n : ℕ) (w : List ℕ) (m i : ℕ) : Type 0 where
+  pub goes : drawn_all d (drop i l) (cands w a m) ≡ drawn_all d l (cands w₀ a n)
+  pub listed : Listed space a w m
   pub within : m ≤ n
   pub near : All (λ c. c.dist ≤ 16646400) (cands w a m)
   pub size : length w ≡ length w₀
 
 -- the first reference has
-pub drawing_first : {dim : ℕ} {vectors : List ℕ} (d : ℕ → ℕ → ℕ) (l : List ℕ) (k next : ℕ) {a : ℕ} {w : List ℕ} {n : ℕ} {w' : List ℕ} {r : ℕ} → Listed dim vectors a w n
-    → Drew w a n (drawn d next (cands w a n)) w' r → DrawingAll dim vectors d l k a w' r w' r 0
-drawing_first d l k next f g = record { bound = omega arith; goes = refl; listed = drew_listed d next f g; within = omega arith; near = g.near; size = refl }
+pub drawing_first : {space : Space} (d : ℕ → ℕ → ℕ) (l : List ℕ) (next : ℕ) {a : ℕ} {w : List ℕ} {n : ℕ} {w' : List ℕ} {r : ℕ} → Listed space a w n
+    → Drew w a n (drawn d next (cands w a n)) w' r → DrawingAll space d l a w' r w' r 0
+drawing_first d l next f g = record { goes = refl; listed = drew_listed d next f g; within = omega arith; near = g.near; size = refl }
 
-module _ {dim : ℕ} {vectors : List ℕ} {d : ℕ → ℕ → ℕ} {l : List ℕ} {k a : ℕ} {w₀ : List ℕ} {n : ℕ} {w : List ℕ} {m i : ℕ}
-    (f : DrawingAll dim vectors d l k a w₀ n w m i) where
-  pub drawing_next : (next : ℕ) {w' : List ℕ} {r : ℕ} → k ≤ length l → i < k → next ≡ get_or l i 0 → Drew w a m (drawn d next (cands w a m)) w' r
-      → DrawingAll dim vectors d l k a w₀ n w' r (i + 1)
-  drawing_next next {w'} {r} h j e g =
-      let o : drawn_all d (drop (i + 1) (take k l)) (drawn d (get_or l i 0) (cands w a m)) ≡ drawn_all d (take k l) (cands w₀ a n) = rw (left_cons l k i h j) at f.goes in
-      let p : cands w' a r ≡ drawn d (get_or l i 0) (cands w a m) = g.list ∙ ap (λ (s : ℕ). drawn d s (cands w a m)) e in
+module _ {space : Space} {d : ℕ → ℕ → ℕ} {l : List ℕ} {a : ℕ} {w₀ : List ℕ} {n : ℕ} {w : List ℕ} {m i : ℕ} (f : DrawingAll space d l a w₀ n w m i) where
+  pub drawing_next : {w' : List ℕ} {r : ℕ} → i < length l → Drew w a m (drawn d (get_or l i 0) (cands w a m)) w' r → DrawingAll space d l a w₀ n w' r (i + 1)
+  drawing_next h g =
       record {
-        bound = omega arith;
-        goes = rw p o;
-        listed = drew_listed d next f.listed g;
+        goes = rw g.list (sym (at_drop_more (λ (z : List ℕ). drawn_all d z (cands w a m)) l i 0 h) ∙ f.goes);
+        listed = drew_listed d (get_or l i 0) f.listed g;
         within = omega (arith, f.within, g.within);
         near = g.near;
         size = g.size ∙ f.size;
       }
 
-  pub drawn_done : (entry : ℕ) {w₁ : List ℕ} {n₁ : ℕ} → Drew w₁ a n₁ (drawn d entry (cands w₁ a n₁)) w₀ n → k ≤ i
-      → Drew w₁ a n₁ (drawn_all d (entry ∷ take k l) (cands w₁ a n₁)) w m
-  drawn_done entry {w₁} {n₁} g h =
-      let e : cands w a m ≡ drawn_all d (take k l) (cands w₀ a n) = rw (left_none l k i h) at f.goes in
+  pub drawn_done : (entry : ℕ) {w₁ : List ℕ} {n₁ : ℕ} → Drew w₁ a n₁ (drawn d entry (cands w₁ a n₁)) w₀ n → length l ≤ i
+      → Drew w₁ a n₁ (drawn_all d (entry ∷ l) (cands w₁ a n₁)) w m
+  drawn_done entry g h =
+      let e : cands w a m ≡ drawn_all d l (cands w₀ a n) = rw (drop_all i l h) at f.goes in
       record {
-        list = e ∙ ap (drawn_all d (take k l)) g.list;
+        list = e ∙ ap (drawn_all d l) g.list;
         within = omega (arith, f.within, g.within);
         near = f.near;
         size = f.size ∙ g.size;

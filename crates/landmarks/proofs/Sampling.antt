@@ -19,36 +19,33 @@ use Rattle.landmarks.specs.Inner.Samples.{far, sampled, sample_by, sample_words,
 -- ---- the slots before s are looked at, m candidates are there
 pub record Sampling (p : ℕ → Bool) (capacity a : ℕ) (w₀ : List ℕ) (n : ℕ) (w : List ℕ) (m s : ℕ) : Type 0 where
   pub within : m ≤ n + s
-  pub bound : s ≤ capacity
   pub goes : cands w a m ++ scored far (filter p (range s (capacity - s))) ≡ cands w₀ a n ++ scored far (filter p (range 0 capacity))
   pub size : length w ≡ length w₀
 
 pub sampling_none : (p : ℕ → Bool) (capacity a : ℕ) (w : List ℕ) (n : ℕ) → Sampling p capacity a w n w n 0
 sampling_none p capacity a w n =
     let e : capacity - 0 ≡ capacity = omega arith in
-    record { within = omega arith; bound = omega arith; goes = rw e; size = refl }
+    record { within = omega arith; goes = rw e; size = refl }
 
 module _ {p : ℕ → Bool} {capacity a : ℕ} {w₀ : List ℕ} {n : ℕ} {w : List ℕ} {m s : ℕ} (f : Sampling p capacity a w₀ n w m s) where
-  pub sampling_take : {id : ℕ} {t : Bool} → a + 2 * (n + capacity) ≤ length w₀ → s < capacity → t ≡ p s → t ≡ true → id ≡ s
-      → Sampling p capacity a w₀ n (put w (a + 2 * m) 4294967295 id) (m + 1) (s + 1)
-  sampling_take {id} l h v g i =
+  pub sampling_take : {t : Bool} → a + 2 * (n + capacity) ≤ length w₀ → s < capacity → t ≡ p s → t ≡ true → Sampling p capacity a w₀ n (put w (a + 2 * m) 4294967295 s) (m + 1) (s + 1)
+  sampling_take l h v g =
       let e : p s ≡ true = sym v ∙ g in
       let k : a + 2 * m + 1 < length w = omega (arith, f.within, f.size) in
       record {
         within = omega (arith, f.within);
-        bound = omega arith;
-        goes = rw (cands_push w 4294967295 id a m k, append_assoc, i) (rw (range_cons capacity s h, e) at f.goes);
-        size = put_length w (a + 2 * m) 4294967295 id ∙ f.size;
+        goes = rw (cands_push w 4294967295 s a m k, append_assoc) (rw (range_cons capacity s h, e) at f.goes);
+        size = put_length w (a + 2 * m) 4294967295 s ∙ f.size;
       }
 
   pub sampling_skip : {t : Bool} → s < capacity → t ≡ p s → t ≡ false → Sampling p capacity a w₀ n w m (s + 1)
   sampling_skip h v g =
       let e : p s ≡ false = sym v ∙ g in
-      record { within = omega (arith, f.within); bound = omega arith; goes = rw (range_cons capacity s h, e) at f.goes; size = f.size }
+      record { within = omega (arith, f.within); goes = rw (range_cons capacity s h, e) at f.goes; size = f.size }
 
-  pub sampling_done : capacity ≤ s → Sampled p capacity a w₀ n w m
-  sampling_done h =
-      record { list = rw (range_none capacity s h, append-nil) at f.goes; within = omega (arith, f.within, f.bound); size = f.size }
+  pub sampling_done : s ≤ capacity → capacity ≤ s → Sampled p capacity a w₀ n w m
+  sampling_done b h =
+      record { list = rw (range_none capacity s h, append-nil) at f.goes; within = omega (arith, f.within); size = f.size }
 
 -- ---- the slots of the stride, and the others
 abbrev strided : ℕ → (ℕ → Bool) → ℕ → List ℕ

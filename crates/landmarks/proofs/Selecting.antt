@@ -13,7 +13,9 @@ use Rattle.lists.proofs.Parts.{fits_in}
 use Rattle.candidates.specs.Candidates.{scored}
 use Rattle.candidates.specs.Inner.Words.{cands}
 use Rattle.landmarks.specs.Inner.Samples.{far, free, on_stride, sampled, stride_of, sample_by, Taken}
-use Rattle.landmarks.specs.Inner.Choices.{drawn_all, chosen, landmarks_by, HasVector, Listed, Selectable, Drew, Appended}
+use Rattle.vectors.specs.Lent.{HasVector}
+use Rattle.vectors.specs.declared.Space.{Space}
+use Rattle.landmarks.specs.Inner.Choices.{drawn_all, chosen, landmarks_by, Listed, Selectable, Drew, Appended}
 use Rattle.landmarks.proofs.Sampling.{sample_all, sample_inside}
 use Rattle.landmarks.proofs.Drawing.{drawn_sample}
 use Rattle.landmarks.proofs.Choosing.{front_none, chosen_few, chosen_all}
@@ -30,22 +32,22 @@ sample_free stays references capacity stride wanted =
     (λ b. all_map (λ s. sampled stride b (free stays references) s ≡ true) (λ s. elem s references ≡ false) (λ s e. not-true (elem s references) (and_both (stays s) (not (elem s references)) (and_both (on_stride stride b s) (free stays references s) e).1).1) (filter (sampled stride b (free stays references)) (range 0 capacity)) (filter_test (sampled stride b (free stays references)) (range 0 capacity)))
 
 -- ---- what is asked
-module _ {dim : ℕ} {vectors marks : List ℕ} {entry wanted sample : ℕ} {list : List ℕ} {kept : ℕ} {w : List ℕ} (f : Selectable dim vectors marks entry wanted sample list kept w) where
-  has_vector : (s : ℕ) → s < length marks → HasVector dim vectors s
-  has_vector s h = fits_in dim (length marks) s (length vectors) h f.bytes.long
+module _ {space : Space} {marks : List ℕ} {entry wanted sample : ℕ} {list : List ℕ} {kept : ℕ} {w : List ℕ} (f : Selectable space marks entry wanted sample list kept w) where
+  has_vector : (s : ℕ) → s < length marks → HasVector space s
+  has_vector s h = fits_in space.dim (length marks) s (length space.vectors.now) h f.bytes.long
 
-  pub selectable_entry : HasVector dim vectors entry
+  pub selectable_entry : HasVector space entry
   selectable_entry = has_vector entry f.references.entry_inside
 
-  pub selectable_list : All (HasVector dim vectors) (take kept list)
-  selectable_list = all_map (λ s. s < length marks) (HasVector dim vectors) has_vector (take kept list) f.references.inside
+  pub selectable_list : All (HasVector space) (take kept list)
+  selectable_list = all_map (λ s. s < length marks) (HasVector space) has_vector (take kept list) f.references.inside
 
-  sample_vectors : (near : ℕ → ℕ) (p : ℕ → Bool) (stride : ℕ) → All (λ c. HasVector dim vectors c.id) (scored near (sample_by p (length marks) stride wanted))
+  sample_vectors : (near : ℕ → ℕ) (p : ℕ → Bool) (stride : ℕ) → All (λ c. HasVector space c.id) (scored near (sample_by p (length marks) stride wanted))
   sample_vectors near p stride =
-      scored_all (HasVector dim vectors) near (sample_by p (length marks) stride wanted)
-      (all_map (λ s. s < length marks) (HasVector dim vectors) has_vector (sample_by p (length marks) stride wanted) (sample_inside p (length marks) stride wanted))
+      scored_all (HasVector space) near (sample_by p (length marks) stride wanted)
+      (all_map (λ s. s < length marks) (HasVector space) has_vector (sample_by p (length marks) stride wanted) (sample_inside p (length marks) stride wanted))
 
-  pub taken_listed : {p : ℕ → Bool} {stride a : ℕ} {w₀ w' : List ℕ} {r : ℕ} → Taken p (length marks) stride wanted a w₀ w' r → Listed dim vectors a w' r
+  pub taken_listed : {p : ℕ → Bool} {stride a : ℕ} {w₀ w' : List ℕ} {r : ℕ} → Taken p (length marks) stride wanted a w₀ w' r → Listed space a w' r
   taken_listed {p} {stride} g = record { small = f.bytes.small; room = omega (arith, g.room, g.size); inside = rw g.list (sample_vectors far p stride) }
 
   -- ---- what is left
@@ -61,7 +63,7 @@ module _ {dim : ℕ} {vectors marks : List ℕ} {entry wanted sample : ℕ} {lis
           drawn_sample d entry (take kept list) (sample_by (free stays (entry ∷ take kept list)) (length marks) (stride_of (length marks) sample) wanted)
           (sample_free stays (entry ∷ take kept list) (length marks) (stride_of (length marks) sample) wanted) g.list h
 
-      pub drawn_listed : Listed dim vectors a w₂ m
+      pub drawn_listed : Listed space a w₂ m
       drawn_listed =
           record {
             small = f.bytes.small;

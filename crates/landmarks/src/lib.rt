@@ -7,4 +7,4 @@ mod select;
 mod staying;
 
 pub use select::select_landmarks;
-pub use staying::{narrow, stays};
+pub use staying::stays;

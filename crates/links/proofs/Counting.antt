@@ -1,7 +1,7 @@
 -- The number of a plan's links, summed up candidate by candidate. Assumes nothing.
 use Prim.Native.Nat.{ℕ, suc, ◌+◌, ◌-◌, ◌*◌, ◌≤◌, ◌<◌, min}
 use mathlib.Core.Path.{◌≡◌, ap, sym, ◌∙◌}
-use native.Mathlib.Nat.{add_assoc, add-zero, zero-add}
+use native.Mathlib.Nat.{add_assoc, add-zero}
 use native.Mathlib.Numerals.{add-one}
 use native.Mathlib.Omega.{arith}
 use Rattle.repair.proofs.Counting.{links_of, repair_length}
@@ -14,19 +14,17 @@ pub record Counting (degree n total k : ℕ) : Type 0 where
   pub small : total ≤ 32 * k
   pub goes : total + links_of degree k (n - k) ≡ links_of degree 1 (n - 1)
 
-pub counting_none : (degree n : ℕ) → Counting degree n 0 1
-counting_none degree n = record { low = omega arith; high = omega arith; small = omega arith; goes = zero-add (links_of degree 1 (n - 1)) }
-
-pub counting_more : {degree n total k r : ℕ} → degree ≤ 16 → k < n → r ≡ min degree k → Counting degree n total k → Counting degree n (total + (r + r)) (k + 1)
+pub counting_more : {degree n total k r : ℕ} → degree ≤ 16 → k < n → r ≡ min degree k → Counting degree n total k → Counting degree n (total + 2 * r) (k + 1)
 unfolding links_of
 counting_more {degree} {n} {total} {k} {r} h l e c =
     let s : n - k ≡ suc (n - (k + 1)) = omega arith in
     let b : r ≤ 16 = omega arith in
+    let d : total + 2 * r ≡ total + (r + r) = omega arith in
     record {
       low = omega arith;
       high = omega arith;
       small = omega (arith, c.small);
-      goes = rw (e, add_assoc total (min degree k + min degree k), add-one k) (rw (s, add-one k) at c.goes);
+      goes = rw (d, e, add_assoc total (min degree k + min degree k), add-one k) (rw (s, add-one k) at c.goes);
     }
 
 pub counting_done : {degree n total k : ℕ} → n ≤ 320 → n ≤ k → Counting degree n total k → Attempted degree n total

@@ -1,56 +1,44 @@
 -- Links applied to the stored rows: a row is read with distances, takes a target, is pruned and written; link follows link. Assumes nothing.
-use Prim.Native.Nat.{ℕ, ◌+◌, ◌-◌, ◌*◌, ◌≤◌, ◌<◌}
+use Prim.Native.Nat.{ℕ, ◌+◌, ◌*◌, ◌≤◌, ◌<◌}
 use mathlib.Core.Bool.{Bool, true, false, cond}
-use mathlib.Core.Path.{◌≡◌, refl, ap, sym, ◌∙◌}
-use mathlib.Core.Logic.{inl}
-use mathlib.Core.List.{List, [], ◌∷◌, ◌++◌}
+use mathlib.Core.Path.{◌≡◌, refl, ap, sym, ◌∙◌, subst}
+use mathlib.Core.List.{List, [], ◌∷◌, ◌++◌, map-append, append_assoc, append-nil}
 use native.Mathlib.Omega.{arith}
 use lib.Dec.{eqb}
 use lib.Ieee.{Float}
-use lib.ListN.{length}
-use Rattle.lists.specs.Lists.{elem, filter, foldl}
-use Rattle.lists.proofs.All.{all_append}
-use Rattle.lists.proofs.Parts.{fits_in}
+use lib.ListN.{length, take, get_or}
+use Rattle.lists.specs.Lists.{elem, filter, foldl, concat_map}
+use Rattle.lists.proofs.Places.{all_at}
 use Rattle.lists.proofs.Ranges.{foldl_append}
 use Rattle.vectors.specs.Space.{Measured, slot_distance, space}
 use Rattle.candidates.specs.Candidates.{Candidate, scored, ids}
-use Rattle.candidates.specs.Inner.Words.{pair, cand, cands, put, Small, Outside}
-use Rattle.candidates.proofs.Words.{cands_none, cands_cons, cands_push, cands_each, put_length, put_outside, outside_none, outside_then}
+use Rattle.candidates.specs.Inner.Words.{pair, cand, cands, put}
+use Rattle.candidates.proofs.Words.{cands_snoc, cands_push, put_length, put_outside, outside_none, outside_then}
 use Rattle.candidates.proofs.Scored.{ids_scored, scored_append}
+use Rattle.slots.proofs.Slices.{same_then}
 use Rattle.slots.specs.View.{live_neighbors}
-use Rattle.slots.specs.Store.{Arrays, Store, arrays, vector_of, store_view, store_ops}
+use Rattle.slots.specs.Store.{Arrays, Store, vector_of, store_view, store_ops, write_neighbors}
+use Rattle.slots.specs.Lent.{SameSlices}
+use Rattle.slots.specs.declared.graph.RowsMut.{RowsMut}
+use Rattle.slots.proofs.Writes.{Whole, after_write, store_writes}
 use Rattle.prune.specs.Prune.{prune}
-use Rattle.row.specs.Row.{Together, index_of, LiveScored, Prunable, WrotePruned}
+use Rattle.row.specs.Row.{Together, index_of, LiveScored, WrotePruned}
+use Rattle.row.proofs.Kept.{together_shaped}
 use Rattle.repair.specs.Repair.{Link, insert_and_prune}
 use Rattle.repair.proofs.Sources.{both_ways}
-use Rattle.links.specs.Inner.Linking.{between, apply_link, link, pairs_of, from, by_source, link_words, Room, Pairs, Joined, Applied, BySource}
+use Rattle.std.proofs.lemmas.List.{take_more}
+use Rattle.links.specs.declared.span.Pair.{Pair}
+use Rattle.links.specs.declared.linker.Linker.{Linker}
+use Rattle.links.specs.Inner.Linking.{held, between, apply_link, link, from, from_each, by_source, pairs_of, link_words, Room, Pairs, Joined, Applied, Made}
 
--- ---- a target is added; u and x are s and t as indices
-pub vectors_in : {a : Arrays} → Together a → (s t : ℕ) → s < length a.marks → t < length a.marks
-    → (s * a.dim + a.dim ≤ length a.vectors) × (t * a.dim + a.dim ≤ length a.vectors) × (a.dim ≤ 256)
-vectors_in {a} o s t hs ht =
-    (fits_in a.dim (length a.marks) s (length a.vectors) hs o.bytes.long, fits_in a.dim (length a.marks) t (length a.vectors) ht o.bytes.long, o.bytes.small)
-
-pub measured : (dim : ℕ) (vectors : List ℕ) {s t u x d : ℕ} → u ≡ s → x ≡ t → Measured (between dim vectors u x) d → d ≡ between dim vectors s t
-measured dim vectors e i m = rw (e, i) at m.equals
-
-module _ {dim : ℕ} {vectors : List ℕ} {s t u x d : ℕ} (e : u ≡ s) (i : x ≡ t) (m : Measured (between dim vectors u x) d) {w : List ℕ} {at n : ℕ} {b : Bool} (k : b ≡ elem t (ids (cands w at n))) where
-  pub joined_had : b ≡ true → Joined dim vectors s t w at n n w
-  joined_had h =
-      record {
-        list = rw (sym k ∙ h);
-        few = omega arith;
-        near = omega (arith, measured dim vectors e i m, m.bound);
-        size = refl;
-        same = outside_none (at + 2 * n) 2 w;
-      }
-
+-- ---- a target is added
+module _ {dim : ℕ} {vectors : List ℕ} {s t d : ℕ} (m : Measured (between dim vectors s t) d) {w : List ℕ} {at n : ℕ} {b : Bool} (k : b ≡ elem t (ids (cands w at n))) where
   pub joined_new : b ≡ false → at + 2 * n + 2 ≤ length w → Joined dim vectors s t w at n (n + 1) (put w (at + 2 * n) d t)
   joined_new h l =
       record {
-        list = rw (sym k ∙ h, cands_push w d t at n (omega arith), measured dim vectors e i m);
+        list = rw (sym k ∙ h, cands_push w d t at n (omega arith), m.equals);
         few = omega arith;
-        near = omega (arith, measured dim vectors e i m, m.bound);
+        near = omega (arith, m.equals, m.bound);
         size = put_length w (at + 2 * n) d t;
         same = put_outside w (at + 2 * n) d t;
       }
@@ -71,27 +59,8 @@ pub view_between : (alpha : Float) (entry : ℕ) (a : Arrays) → between a.dim 
 unfolding slot_distance space store_view vector_of
 view_between alpha entry a = refl
 
-module _ {a : Arrays} {s : ℕ} {w : List ℕ} {at n : ℕ} {w₁ : List ℕ} (l : Room a.degree w at) (f : LiveScored a s w at n w₁) where
-  pub link_row : at + 2 * n + 2 ≤ length w₁
-  link_row = omega (arith, f.size, f.few, l.inside)
-
+module _ {a : Arrays} {s : ℕ} {w : List ℕ} {at n : ℕ} {w₁ : List ℕ} (f : LiveScored a s w at n w₁) where
   module _ {t m : ℕ} {w₂ : List ℕ} (j : Joined a.dim a.vectors s t w₁ at n m w₂) where
-    joined_small : Small (cands w₂ at m)
-    joined_small = rw j.list (go (elem t (ids (cands w₁ at n))))
-      where
-        go : (b : Bool) → Small (cond b (cands w₁ at n) (cands w₁ at n ++ (pair (between a.dim a.vectors s t) t ∷ [])))
-        go true = f.small
-        go false = all_append (λ x. x.dist ≤ 16777216) (cands w₁ at n) _ f.small (j.near, tt)
-
-    pub link_prunable : Prunable a.degree w₂ at m (at + 2 * a.degree + 2)
-    link_prunable =
-        record {
-          inside = omega (arith, j.size, j.few, f.size, f.few, l.inside);
-          small = joined_small;
-          room = record { inside = omega (arith, j.size, f.size, l.inside); apart = inl (omega (arith, j.few, f.few)) };
-          below = omega (arith, l.below);
-        }
-
     joined_list : (alpha : Float) (entry : ℕ) → let v = store_view (index_of alpha entry a) in cands w₂ at m ≡ scored (slot_distance v.space s) (with_target t (live_neighbors v s))
     joined_list alpha entry =
         let v = store_view (index_of alpha entry a) in
@@ -126,9 +95,80 @@ applied_then {alpha} {a} {ls = ls} {ls₁ = ls₁} {w = w} {at = at} {k = k} {w�
       same = outside_then at k w w₁ w₂ f.same h.same;
     }
 
--- arrays with other rows
-abbrev pub with_rows : Arrays → List ℕ → List ℕ → Arrays
-with_rows a targets edges = arrays a.dim a.degree a.vectors targets edges a.versions a.marks
+pub applied_none : (alpha : Float) (a : Arrays) (w : List ℕ) (at k : ℕ) → Applied alpha a [] a w at k w
+applied_none alpha a w at k = record { does = λ entry. refl; size = refl; same = outside_none at k w }
+
+-- what links leave as it is: the sizes of all slices
+record Framed (a : Arrays) (b : Store) : Type 0 where
+  whole : Whole b
+  capacity : b.capacity ≡ length a.marks
+  dim : b.arrays.dim ≡ a.dim
+  degree : b.arrays.degree ≡ a.degree
+
+framed_link : (a : Arrays) (b : Store) (l : Link) → Framed a b → Framed a (apply_link b l)
+unfolding apply_link
+framed_link a b l f =
+    let v = store_view b in
+    let x = insert_and_prune v l.source (live_neighbors v l.source) l.target in
+    record {
+      whole = store_writes.ok b l.source x f.whole;
+      capacity = after_write (λ d. d.capacity ≡ length a.marks) b l.source x (λ h. f.capacity) f.capacity;
+      dim = after_write (λ d. d.arrays.dim ≡ a.dim) b l.source x (λ h. unfold write_neighbors in f.dim) f.dim;
+      degree = after_write (λ d. d.arrays.degree ≡ a.degree) b l.source x (λ h. unfold write_neighbors in f.degree) f.degree;
+    }
+
+framed_links : (a : Arrays) (b : Store) (ls : List Link) → Framed a b → Framed a (foldl apply_link b ls)
+framed_links a b [] f = f
+framed_links a b (l ∷ ls) f = framed_links a (apply_link b l) ls (framed_link a b l f)
+
+-- slices that belong together still do
+pub applied_together : {alpha : Float} {a a' : Arrays} {ls : List Link} {w : List ℕ} {at k : ℕ} {w' : List ℕ} → Together a → Applied alpha a ls a' w at k w' → Together a'
+applied_together {alpha} {a} {a'} {ls} o f =
+    let b = index_of alpha 0 a in
+    let start : Framed a b = record { whole = together_shaped o; capacity = refl; dim = refl; degree = refl } in
+    let g : Framed a (index_of alpha 0 a') = subst (Framed a) (sym (f.does 0)) (framed_links a b ls start) in
+    record {
+      bytes = record { long = g.whole.vectors_long; small = rw g.dim o.bytes.small };
+      rows =
+          record {
+            targets_long = g.whole.targets_long;
+            edges_long = g.whole.edges_long;
+            versions_long = g.whole.versions_long;
+            few = rw g.capacity o.rows.few;
+          };
+      degree_most = rw g.degree o.degree_most;
+    }
+
+pub made_none : (l : Linker) (w : List ℕ) (at : ℕ) (words : ℕ → ℕ) → Made l [] w at words l w
+made_none l w at words =
+    record {
+      applied = applied_none l.alpha (held l) w at (words l.rows.now.degree);
+      slices = record { degree = refl; targets = refl; edges = refl; versions = refl };
+      rows = refl;
+      alpha = refl;
+      marks = refl;
+      space = refl;
+    }
+
+module _ {l l₁ : Linker} {ls : List Link} {w w₁ : List ℕ} {at : ℕ} {words : ℕ → ℕ} (f : Made l ls w at words l₁ w₁) where
+  pub made_then : {ks : List Link} {l₂ : Linker} {w₂ : List ℕ} → Made l₁ ks w₁ at words l₂ w₂ → Made l (ls ++ ks) w at words l₂ w₂
+  made_then {ks} {l₂} {w₂} g =
+      let h : Applied l₁.alpha (held l₁) ks (held l₂) w₁ at (words l.rows.now.degree) w₂ =
+      subst (λ (d : ℕ). Applied l₁.alpha (held l₁) ks (held l₂) w₁ at (words d) w₂) f.slices.degree g.applied in
+      record {
+        applied = applied_then f.applied (subst (λ (x : Float). Applied x (held l₁) ks (held l₂) w₁ at (words l.rows.now.degree) w₂) f.alpha h);
+        slices = same_then f.slices g.slices;
+        rows = g.rows ∙ f.rows;
+        alpha = g.alpha ∙ f.alpha;
+        marks = g.marks ∙ f.marks;
+        space = g.space ∙ f.space;
+      }
+
+  pub made_marks : length l₁.marks.now ≡ length l.marks.now
+  made_marks = rw f.marks
+
+pub made_room : {l l₁ : Linker} {ls : List Link} {w w₁ : List ℕ} {at : ℕ} → Made l ls w at link_words l₁ w₁ → Room l.rows.now.degree w at → Room l₁.rows.now.degree w₁ at
+made_room f o = record { inside = rw f.slices.degree (omega (arith, o.inside, f.applied.size)); below = rw f.slices.degree o.below }
 
 -- ---- links of one source
 module _ (s : ℕ) where
@@ -139,101 +179,53 @@ module _ (s : ℕ) where
       go : (b : Bool) → from s (ks ++ ls) ≡ from s ks ++ from s ls → cond b (k ∷ from s (ks ++ ls)) (from s (ks ++ ls)) ≡ cond b (k ∷ from s ks) (from s ks) ++ from s ls
       go true r = ap (λ (l : List Link). k ∷ l) r
       go false r = r
+      -- a link from x
 
-  module _ {alpha : Float} {a a' : Arrays} {x p : ℕ} {w : List ℕ} {at k : ℕ} {w' : List ℕ} where
-    pub from_one : eqb x s ≡ true → Applied alpha a (link x p ∷ []) a' w at k w' → Applied alpha a (from s (link x p ∷ [])) a' w at k w'
-    from_one e f = rw e f
+-- lists in a row, and one more
+pub concat_append : {A B : Type 0} (f : A → List B) (xs ys : List A) → concat_map f (xs ++ ys) ≡ concat_map f xs ++ concat_map f ys
+concat_append f [] ys = refl
+concat_append f (x ∷ xs) ys = rw (concat_append f xs ys) (sym (append_assoc (f x) (concat_map f xs) (concat_map f ys)))
 
-  pub from_none : (alpha : Float) (a : Arrays) (x p : ℕ) (w : List ℕ) (at k : ℕ) → eqb x s ≡ false → Applied alpha a (from s (link x p ∷ [])) a w at k w
-  from_none alpha a x p w at k e = rw e (record { does = λ entry. refl; size = refl; same = outside_none at k w })
+pub concat_snoc : {A B : Type 0} (f : A → List B) (xs : List A) (x : A) → concat_map f (xs ++ (x ∷ [])) ≡ concat_map f xs ++ f x
+concat_snoc f xs x = concat_append f xs (x ∷ []) ∙ rw (append-nil (f x))
 
-  pub from_pair : {alpha : Float} {a a₁ a₂ : Arrays} (x p : ℕ) {w : List ℕ} {at k : ℕ} {w₁ w₂ : List ℕ}
-      → Applied alpha a (from s (link x p ∷ [])) a₁ w at k w₁ → Applied alpha a₁ (from s (link p x ∷ [])) a₂ w₁ at k w₂ → Applied alpha a (from s (both_ways x p)) a₂ w at k w₂
-  from_pair x p f g = rw (from_append (link x p ∷ []) (link p x ∷ [])) (applied_then f g)
+pub pairs_more : (s : ℕ) (ps : List Pair) (i : ℕ) (d : Pair) → i < length ps
+    → from s (pairs_of (take (i + 1) ps)) ≡ from s (pairs_of (take i ps)) ++ from s (both_ways (get_or ps i d).slot (get_or ps i d).parent)
+pairs_more s ps i d h =
+    ap (λ (l : List Pair). from s (pairs_of l)) (take_more ps i d h)
+    ∙ ap (from s) (concat_snoc (λ p. both_ways p.slot p.parent) (take i ps) (get_or ps i d))
+    ∙ from_append s (pairs_of (take i ps)) _
 
--- of the n pairs the links of the first i from s are applied
-pub record Linked (alpha : Float) (a : Arrays) (s : ℕ) (pairs : List ℕ) (n at : ℕ) (w₀ targets edges w : List ℕ) (i : ℕ) : Type 0 where
-  pub bound : i ≤ n
-  pub goes : (entry : ℕ) → foldl apply_link (index_of alpha entry (with_rows a targets edges)) (from s (pairs_of pairs (0 + 2 * i) (n - i))) ≡ foldl apply_link (index_of alpha entry a) (from s (pairs_of pairs 0 n))
-  pub targets_long : length targets ≡ length a.targets
-  pub edges_long : length edges ≡ length a.edges
-  pub size : length w ≡ length w₀
-  pub same : Outside at (link_words a.degree) w₀ w
+pub sources_more : (ls : List Link) (w : List ℕ) (at i : ℕ) → from_each ls (ids (cands w at (i + 1))) ≡ from_each ls (ids (cands w at i)) ++ from (cand w (at + 2 * i)).id ls
+sources_more ls w at i =
+    ap (λ (c : List Candidate). from_each ls (ids c)) (cands_snoc w at i)
+    ∙ ap (from_each ls) (map-append (λ c. c.id) (cands w at i) (cand w (at + 2 * i) ∷ []))
+    ∙ concat_snoc (λ s. from s ls) (ids (cands w at i)) (cand w (at + 2 * i)).id
 
-pub linked_none : (alpha : Float) (a : Arrays) (s : ℕ) (pairs : List ℕ) (n at : ℕ) (w : List ℕ) → Linked alpha a s pairs n at w a.targets a.edges w 0
-linked_none alpha a s pairs n at w =
-    let e : 0 + 2 * 0 ≡ 0 = omega arith in
-    let z : n - 0 ≡ n = omega arith in
-    record { bound = omega arith; goes = λ entry. rw (e, z); targets_long = refl; edges_long = refl; size = refl; same = outside_none at (link_words a.degree) w }
+-- one source after the other
+pub by_each : (b : Store) (ls : List Link) (ss : List ℕ) → foldl apply_link b (from_each ls ss) ≡ foldl (by_source ls) b ss
+by_each b ls [] = refl
+by_each b ls (s ∷ ss) = foldl_append apply_link b (from s ls) (from_each ls ss) ∙ by_each (by_source ls b s) ls ss
 
-module _ {alpha : Float} {a : Arrays} {s : ℕ} {pairs : List ℕ} {n at : ℕ} {w₀ targets edges w : List ℕ} {i : ℕ} (f : Linked alpha a s pairs n at w₀ targets edges w i) where
-  module _ (k : Pairs (length a.marks) pairs n) (h : i < n) {x p : ℕ} (ex : x ≡ (cand pairs (0 + 2 * i)).dist) (ep : p ≡ (cand pairs (0 + 2 * i)).id) where
-    pub linked_inside : (x < length a.marks) × (p < length a.marks)
-    linked_inside = rw (ex, ep) (cands_each (λ c. (c.dist < length a.marks) × (c.id < length a.marks)) pairs 0 n k.slots_in i h)
+-- ---- link after link, as the functions leave them
+pub from_both : (s x p : ℕ) → {l l₁ : Linker} {w w₁ : List ℕ} {at : ℕ} {words : ℕ → ℕ} → Made l (from s (link x p ∷ []) ++ from s (link p x ∷ [])) w at words l₁ w₁ → Made l (from s (both_ways x p)) w at words l₁ w₁
+from_both s x p f = rw (from_append s (link x p ∷ []) (link p x ∷ [])) f
 
-    pub linked_more : {targets' edges' w' : List ℕ} → length targets' ≡ length targets → length edges' ≡ length edges
-        → Applied alpha (with_rows a targets edges) (from s (both_ways x p)) (with_rows a targets' edges') w at (link_words a.degree) w' → Linked alpha a s pairs n at w₀ targets' edges' w' (i + 1)
-    linked_more {w' = w'} lt le g =
-        let rest = pairs_of pairs (0 + 2 * (i + 1)) (n - (i + 1)) in
-        let q : both_ways x p ++ rest ≡ pairs_of pairs (0 + 2 * i) (n - i) = rw (cands_cons pairs 0 n i h, ex, ep) in
-        record {
-          bound = omega arith;
-          goes = λ entry.
-              ap (λ (b : Store). foldl apply_link b (from s rest)) (g.does entry)
-              ∙ sym (foldl_append apply_link (index_of alpha entry (with_rows a targets edges)) (from s (both_ways x p)) (from s rest))
-              ∙ ap (foldl apply_link (index_of alpha entry (with_rows a targets edges))) (sym (from_append s (both_ways x p) rest) ∙ ap (from s) q)
-              ∙ f.goes entry;
-          targets_long = lt ∙ f.targets_long;
-          edges_long = le ∙ f.edges_long;
-          size = g.size ∙ f.size;
-          same = outside_then at (link_words a.degree) w₀ w w' f.same g.same;
-        }
+pub pair_inside : {slots : ℕ} (ps : List Pair) → Pairs slots ps → (i : ℕ) (d : Pair) → i < length ps → ((get_or ps i d).slot < slots) × ((get_or ps i d).parent < slots)
+pair_inside {slots} ps k i d h = all_at d (λ p. (p.slot < slots) × (p.parent < slots)) ps k i h
 
-  pub linked_done : n ≤ i → Applied alpha a (from s (pairs_of pairs 0 n)) (with_rows a targets edges) w₀ at (link_words a.degree) w
-  linked_done h =
-      let z : n - i ≡ 0 = omega arith in
-      record { does = λ entry. rw (cands_none pairs (0 + 2 * i) (n - i) z) at (f.goes entry); size = f.size; same = f.same }
+pub source_then : (s : ℕ) (ps : List Pair) (i : ℕ) (d : Pair) → i < length ps → {l l₁ l₂ : Linker} {w w₁ w₂ : List ℕ} {at : ℕ} {words : ℕ → ℕ}
+    → Made l (from s (pairs_of (take i ps))) w at words l₁ w₁ → Made l₁ (from s (both_ways (get_or ps i d).slot (get_or ps i d).parent)) w₁ at words l₂ w₂
+    → Made l (from s (pairs_of (take (i + 1) ps))) w at words l₂ w₂
+source_then s ps i d h f g = rw (pairs_more s ps i d h) (made_then f g)
 
-  pub linked_room : Room a.degree w₀ at → Room a.degree w at
-  linked_room l = record { inside = omega (arith, l.inside, f.size); below = l.below }
+pub each_none : (ls : List Link) (from : ℕ) (l : Linker) (w : List ℕ) {at : ℕ} {words : ℕ → ℕ} → Made l (from_each ls (ids (cands w from 0))) w at words l w
+unfolding cands
+each_none ls from l w = made_none l w _ _
 
--- ---- source after source: those of the first i of the m candidates at `from` are done
-pub record Sourced (alpha : Float) (a : Arrays) (ls : List Link) (w₀ : List ℕ) (from m at : ℕ) (targets edges w : List ℕ) (i : ℕ) : Type 0 where
-  pub bound : i ≤ m
-  pub goes : (entry : ℕ) → foldl (by_source ls) (index_of alpha entry (with_rows a targets edges)) (ids (cands w₀ (from + 2 * i) (m - i))) ≡ foldl (by_source ls) (index_of alpha entry a) (ids (cands w₀ from m))
-  pub targets_long : length targets ≡ length a.targets
-  pub edges_long : length edges ≡ length a.edges
-  pub size : length w ≡ length w₀
-  pub same : Outside at (link_words a.degree) w₀ w
-
-pub sourced_none : (alpha : Float) (a : Arrays) (ls : List Link) (w : List ℕ) (from m at : ℕ) → Sourced alpha a ls w from m at a.targets a.edges w 0
-sourced_none alpha a ls w from m at =
-    let e : from + 2 * 0 ≡ from = omega arith in
-    let z : m - 0 ≡ m = omega arith in
-    record { bound = omega arith; goes = λ entry. rw (e, z); targets_long = refl; edges_long = refl; size = refl; same = outside_none at (link_words a.degree) w }
-
-module _ {alpha : Float} {a : Arrays} {ls : List Link} {w₀ : List ℕ} {from m at : ℕ} {targets edges w : List ℕ} {i : ℕ} (f : Sourced alpha a ls w₀ from m at targets edges w i) where
-  pub sourced_more : from + 2 * m ≤ at → i < m → {s : ℕ} → s ≡ (cand w (from + 2 * i)).id → {targets' edges' w' : List ℕ} → length targets' ≡ length targets → length edges' ≡ length edges
-      → Applied alpha (with_rows a targets edges) (filter (λ l. eqb l.source s) ls) (with_rows a targets' edges') w at (link_words a.degree) w' → Sourced alpha a ls w₀ from m at targets' edges' w' (i + 1)
-  sourced_more l h {s} e {w' = w'} lt le g =
-      let z : s ≡ (cand w₀ (from + 2 * i)).id = e ∙ f.same (from + 2 * i + 1) (λ (k : at ≤ from + 2 * i + 1). absurd (omega arith)) in
-      record {
-        bound = omega arith;
-        goes = λ entry.
-            ap (λ (b : Store). foldl (by_source ls) b (ids (cands w₀ (from + 2 * (i + 1)) (m - (i + 1))))) (g.does entry)
-            ∙ ap (λ (t : ℕ). foldl (by_source ls) (index_of alpha entry (with_rows a targets edges)) (t ∷ ids (cands w₀ (from + 2 * (i + 1)) (m - (i + 1))))) z
-            ∙ ap (λ (c : List Candidate). foldl (by_source ls) (index_of alpha entry (with_rows a targets edges)) (ids c)) (sym (cands_cons w₀ from m i h))
-            ∙ f.goes entry;
-        targets_long = lt ∙ f.targets_long;
-        edges_long = le ∙ f.edges_long;
-        size = g.size ∙ f.size;
-        same = outside_then at (link_words a.degree) w₀ w w' f.same g.same;
-      }
-
-  pub sourced_done : m ≤ i → BySource alpha a ls (ids (cands w₀ from m)) (with_rows a targets edges) w₀ at (link_words a.degree) w
-  sourced_done h =
-      let z : m - i ≡ 0 = omega arith in
-      record { does = λ entry. rw (cands_none w₀ (from + 2 * i) (m - i) z) at (f.goes entry); size = f.size; same = f.same }
-
-  pub sourced_room : Room a.degree w₀ at → Room a.degree w at
-  sourced_room l = record { inside = omega (arith, l.inside, f.size); below = l.below }
+pub each_then : (ls : List Link) (from : ℕ) {m at i s : ℕ} → from + 2 * m ≤ at → i < m → {l l₁ l₂ : Linker} {w w₁ w₂ : List ℕ} {words : ℕ → ℕ} → s ≡ (cand w₁ (from + 2 * i)).id
+    → Made l (from_each ls (ids (cands w from i))) w at words l₁ w₁ → Made l₁ (filter (λ l. eqb l.source s) ls) w₁ at words l₂ w₂
+    → Made l (from_each ls (ids (cands w from (i + 1)))) w at words l₂ w₂
+each_then ls b {at = at} {i = i} o h {w = w} e f g =
+    let z = e ∙ f.applied.same (b + 2 * i + 1) (λ (k : at ≤ b + 2 * i + 1). absurd (omega arith)) in
+    rw (sources_more ls w b i, ← z) (made_then f g)

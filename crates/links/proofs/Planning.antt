@@ -2,33 +2,36 @@
 use Prim.Native.Nat.{ℕ, zero, suc, ◌+◌, ◌-◌, ◌*◌, ◌≤◌, ◌<◌}
 use mathlib.Core.Bool.{Bool, true, false, cond, not, ◌&&◌, ◌||◌}
 use mathlib.Core.Path.{◌≡◌, refl, ap, ap₂, sym, ◌∙◌, subst}
-use mathlib.Core.List.{List, [], ◌∷◌, map-id}
+use mathlib.Core.List.{List, [], ◌∷◌, ◌++◌, map-id}
+use native.Mathlib.Nat.{zero-add}
 use native.Mathlib.Numerals.{add-one}
 use native.Mathlib.Omega.{arith}
 use borrow.Author.Tests.{eq-eqb}
 use lib.Dec.{eqb}
 use lib.Ieee.{Float}
-use lib.ListN.{length}
+use lib.ListN.{length, take}
+use Rattle.lists.proofs.Ranges.{range_snoc}
 use Rattle.lists.specs.Lists.{All, elem, filter, foldl, concat_map, range, least_from, least_of}
 use Rattle.lists.proofs.All.{all_map, all_filter}
 use Rattle.lists.proofs.Filtered.{filter_among}
 use Rattle.lists.proofs.Parts.{fits_in}
-use Rattle.lists.proofs.Ranges.{foldl_append}
 use Rattle.lists.proofs.Unique.{Unique, unique_filter}
 use Rattle.candidates.specs.Candidates.{Candidate, scored, ids}
 use Rattle.candidates.specs.Inner.Words.{pair, cand, cands, put, kept, Left, Outside}
-use Rattle.candidates.proofs.Words.{cands_length, cands_each, cands_kept, put_cand, put_length, put_outside, outside_none, outside_then}
+use Rattle.candidates.proofs.Words.{cands_length, cands_each, cands_kept, put_cand, put_length, put_outside}
 use Rattle.candidates.proofs.Scored.{ids_scored, ids_length, all_scored, all_ids}
-use Rattle.slots.specs.Store.{Arrays, Store, is_valid}
+use Rattle.slots.specs.Store.{Arrays, is_valid}
 use Rattle.slots.proofs.Places.{live_inside}
 use Rattle.row.specs.Row.{Together, index_of}
 use Rattle.row.proofs.Kept.{together_shaped}
-use Rattle.repair.specs.Repair.{span, repair_links}
-use Rattle.repair.proofs.Sources.{both_ways, repair_sources}
+use Rattle.repair.specs.Repair.{Link, span, repair_links}
+use Rattle.repair.proofs.Sources.{repair_sources}
 use Rattle.repair.proofs.Span.{span_enough, others_fewer, repair_enough}
-use Rattle.links.specs.Inner.Linking.{between, apply_link, pairs_of, by_source, link_words, Room, Pairs, Applied, BySource}
+use Rattle.links.specs.declared.span.Pair.{Pair}
+use Rattle.links.specs.declared.linker.Linker.{Linker}
+use Rattle.links.specs.Inner.Linking.{between, apply_link, pairs_of, from_each, by_source, link_words, Room, Pairs, Applied, Made}
 use Rattle.links.specs.Inner.Planning.{Stored, Behind, Nearest, Scored, plan_words, Area, Plot, Planned, Spanned, Plan, count_at, Plans, plan_at, plans_at}
-use Rattle.links.proofs.Linking.{with_rows}
+use Rattle.links.proofs.Linking.{made_none, made_then, by_each, concat_snoc}
 use Rattle.links.proofs.Swapping.{unique_apart}
 use Rattle.links.proofs.Spanning.{least_ids}
 use Rattle.links.proofs.Order.{sources_in_turn}
@@ -96,9 +99,9 @@ unique_others : (p : ℕ → Bool) (l : List ℕ) → Unique l → Unique (filte
 unique_others p l u = rw (map-id (filter p l)) at (unique_filter (λ x. x) p l (rw (map-id l) u))
 
 -- ---- a plan
-pub plan_none : (alpha : Float) (a : Arrays) (d : ℕ → ℕ → ℕ) (repair_degree entry : ℕ) (w : List ℕ) (at n base k : ℕ) → n ≡ 0 → Applied alpha a (repair_links d repair_degree entry (ids (cands w at n))) a w base k w
+pub plan_none : (l : Linker) (d : ℕ → ℕ → ℕ) (repair_degree entry : ℕ) (w : List ℕ) (at n base : ℕ) (words : ℕ → ℕ) → n ≡ 0 → Made l (repair_links d repair_degree entry (ids (cands w at n))) w base words l w
 unfolding repair_links cands
-plan_none alpha a d repair_degree entry w at n base k e = record { does = λ entry. rw e; size = refl; same = outside_none base k w }
+plan_none l d repair_degree entry w at n base words e = rw e (made_none l w base words)
 
 stored_in : {a : Arrays} → Together a → {w : List ℕ} {at n : ℕ} → All (λ c. c.id < length a.marks) (cands w at n) → {y : ℕ} → y < length a.marks → at + 2 * n ≤ length w
     → Stored a.dim a.vectors y w at n
@@ -112,9 +115,9 @@ stored_in {a} o {w} {at} {n} h {y} k l =
     }
 
 -- both slots of a pair are sources
-pairs_sources : (P : ℕ → Type 0) (l : List Candidate) → All (λ e. P e.source) (concat_map (λ c. both_ways c.dist c.id) l) → All (λ c. P c.dist × P c.id) l
+pairs_sources : (P : ℕ → Type 0) (l : List Pair) → All (λ e. P e.source) (pairs_of l) → All (λ q. P q.slot × P q.parent) l
 pairs_sources P [] h = tt
-pairs_sources P (c ∷ l) h = ((h.0, h.1.0), pairs_sources P l h.1.1)
+pairs_sources P (q ∷ l) h = ((h.0, h.1.0), pairs_sources P l h.1.1)
 
 each_in : (l : List ℕ) → All (λ x. elem x l ≡ true) l
 each_in [] = tt
@@ -157,9 +160,6 @@ module _ {a : Arrays} {w : List ℕ} {entry at n base : ℕ} (o : Together a) (h
     plan_remain = (stored_in o (rw given₂ inside) start_inside (omega (arith, size₂, area.inside)), record { apart = omega arith; inside = omega (arith, size₂, area.inside, p.few) })
 
     module _ {w₃ : List ℕ} (g : Scored (λ x. between a.dim a.vectors x start) w₂ at n (base + 640) w₃) where
-      pub plan_kept : base + 640 + 2 * n ≤ length w₃
-      plan_kept = omega (arith, g.size, size₂, area.inside, p.few)
-
       module _ {m : ℕ} {w₄ : List ℕ} (l : Left w₃ (base + 640) n (filter (λ c. kept a.marks start c.id) (cands w₃ (base + 640) n)) m w₄) where
         abbrev others : List ℕ
         others = filter (λ x. not (eqb x start)) (ids (cands w at n))
@@ -217,23 +217,23 @@ module _ {a : Arrays} {w : List ℕ} {entry at n base : ℕ} (o : Together a) (h
               record { inside = omega (arith, area.inside, size₄); below = omega (arith, area.below) },
             )
 
-        module _ {repair_degree : ℕ} {w₅ pairs : List ℕ} {r : ℕ} (t : Spanned a.dim a.vectors repair_degree w₄ base m w₅ pairs r) where
+        module _ {repair_degree : ℕ} {w₅ : List ℕ} {pairs : List Pair} {r : ℕ} (t : Spanned a.dim a.vectors repair_degree w₄ base m w₅ pairs r) where
           abbrev ss : List ℕ
           ss = ids (cands w at n)
 
-          plan_list : pairs_of pairs 0 r ≡ repair_links (between a.dim a.vectors) repair_degree entry ss
+          plan_list : pairs_of (take r pairs) ≡ repair_links (between a.dim a.vectors) repair_degree entry ss
           plan_list =
               let q = plan_first (between a.dim a.vectors) repair_degree entry w₁ (base + 1280) n i m dists s in
               let long : length (filter (λ y. not (eqb y (cand w₁ (base + 1280 + 2 * i)).id)) (ids (cands w₁ (base + 1280) n))) ≤ m = rw (same₁, ← e) (omega (arith, rest_long)) in
               let k : span (between a.dim a.vectors) repair_degree m (start ∷ []) others ≡ repair_links (between a.dim a.vectors) repair_degree entry ss = rw (same₁, ← e) at (q long) in
               t.paired ∙ ap₂ (λ (u v : List ℕ). span (between a.dim a.vectors) repair_degree m u v) (ap ids first₄) rest_ids ∙ k
 
-          plan_sources : (P : ℕ → Type 0) → All P ss → All (λ l. P l.source) (pairs_of pairs 0 r)
+          plan_sources : (P : ℕ → Type 0) → All P ss → All (λ l. P l.source) (pairs_of (take r pairs))
           plan_sources P h = rw plan_list (repair_sources P (between a.dim a.vectors) repair_degree entry ss h)
 
-          pub plan_pairs : length pairs ≡ 10240 → Pairs (length a.marks) pairs r × Room a.degree w₅ (base + 1920) × (at + 2 * n ≤ base + 1920)
-          plan_pairs long = (
-            record { inside = omega (arith, t.few); slots_in = pairs_sources (λ x. x < length a.marks) (cands pairs 0 r) (plan_sources (λ x. x < length a.marks) (all_ids (λ x. x < length a.marks) (cands w at n) inside)) },
+          pub plan_pairs : Pairs (length a.marks) (take r pairs) × Room a.degree w₅ (base + 1920) × (at + 2 * n ≤ base + 1920)
+          plan_pairs = (
+            pairs_sources (λ x. x < length a.marks) (take r pairs) (plan_sources (λ x. x < length a.marks) (all_ids (λ x. x < length a.marks) (cands w at n) inside)),
             record { inside = omega (arith, area.inside, t.size, size₄); below = omega (arith, area.below) },
             omega arith,
           )
@@ -245,15 +245,16 @@ module _ {a : Arrays} {w : List ℕ} {entry at n base : ℕ} (o : Together a) (h
               ∙ cands_kept (base + 640) (2 * n) w₂ w₃ g.same at n (λ u. absurd (omega arith))
               ∙ given₂
 
-          pub plan_done : {alpha : Float} {a' : Arrays} {w₆ : List ℕ} → BySource alpha a (pairs_of pairs 0 r) (ids (cands w₅ at n)) a' w₅ (base + 1920) (link_words a.degree) w₆
+          pub plan_done : {alpha : Float} {a' : Arrays} {w₆ : List ℕ} → Applied alpha a (from_each (pairs_of (take r pairs)) (ids (cands w₅ at n))) a' w₅ (base + 1920) (link_words a.degree) w₆
               → Applied alpha a (repair_links (between a.dim a.vectors) repair_degree entry ss) a' w base (plan_words a.degree) w₆
           plan_done {alpha} v =
               record {
                 does = λ en.
                     let b = index_of alpha en a in
                     v.does en
-                    ∙ ap (λ (c : List Candidate). foldl (by_source (pairs_of pairs 0 r)) b (ids c)) given₅
-                    ∙ sources_in_turn b (pairs_of pairs 0 r) ss (together_shaped o) o.rows.few p.once (plan_sources (λ x. elem x ss ≡ true) (each_in ss))
+                    ∙ by_each b (pairs_of (take r pairs)) (ids (cands w₅ at n))
+                    ∙ ap (λ (c : List Candidate). foldl (by_source (pairs_of (take r pairs))) b (ids c)) given₅
+                    ∙ sources_in_turn b (pairs_of (take r pairs)) ss (together_shaped o) o.rows.few p.once (plan_sources (λ x. elem x ss ≡ true) (each_in ss))
                     ∙ ap (foldl apply_link b) plan_list;
                 size = v.size ∙ t.size ∙ size₄;
                 same = λ j h.
@@ -266,61 +267,35 @@ module _ {a : Arrays} {w : List ℕ} {entry at n base : ℕ} (o : Together a) (h
               }
 
 -- ---- plan after plan
-pub record Applying (alpha : Float) (a : Arrays) (repair_degree entry : ℕ) (w₀ : List ℕ) (stats plans p base : ℕ) (targets edges w : List ℕ) (j : ℕ) : Type 0 where
-  pub bound : j ≤ p
-  pub goes : (en : ℕ) → foldl apply_link (index_of alpha en (with_rows a targets edges)) (concat_map (plan_at (between a.dim a.vectors) repair_degree entry w₀ stats plans) (range j (p - j)))
-      ≡ foldl apply_link (index_of alpha en a) (plans_at (between a.dim a.vectors) repair_degree entry w₀ stats plans p)
-  pub targets_long : length targets ≡ length a.targets
-  pub edges_long : length edges ≡ length a.edges
-  pub size : length w ≡ length w₀
-  pub same : Outside base (plan_words a.degree) w₀ w
+pub made_area : {l l₁ : Linker} {ls : List Link} {w w₁ : List ℕ} {base : ℕ} → Made l ls w base plan_words l₁ w₁ → Area l.rows.now.degree w base → Area l₁.rows.now.degree w₁ base
+made_area f g = record { inside = rw f.slices.degree (omega (arith, g.inside, f.applied.size)); below = rw f.slices.degree g.below }
 
-pub applying_none : (alpha : Float) (a : Arrays) (repair_degree entry : ℕ) (w : List ℕ) (stats plans p base : ℕ) → Applying alpha a repair_degree entry w stats plans p base a.targets a.edges w 0
-applying_none alpha a repair_degree entry w stats plans p base =
-    let z : p - 0 ≡ p = omega arith in
-    record { bound = omega arith; goes = λ en. rw z; targets_long = refl; edges_long = refl; size = refl; same = outside_none base (plan_words a.degree) w }
+module _ {l l₁ : Linker} {w w₁ : List ℕ} (repair_degree entry : ℕ) {stats plans count base j : ℕ}
+    (f : Made l (plans_at (between l.kept.space.dim l.kept.space.vectors.now) repair_degree entry w stats plans j) w base plan_words l₁ w₁) (b : Plans l.marks.now w stats plans count base) (h : j < count) where
+  number : count_at w₁ stats j ≡ count_at w stats j
+  number = f.applied.same (stats + 4 * j + 2) (λ (u : base ≤ stats + 4 * j + 2). absurd (omega (arith, b.counted)))
 
-module _ {alpha : Float} {a : Arrays} {repair_degree entry : ℕ} {w₀ : List ℕ} {stats plans p base : ℕ} {targets edges w : List ℕ} {j : ℕ}
-    (f : Applying alpha a repair_degree entry w₀ stats plans p base targets edges w j) (b : Plans a.marks w₀ stats plans p base) where
-  pub applying_area : Area a.degree w₀ base → Area a.degree w base
-  applying_area g = record { inside = omega (arith, g.inside, f.size); below = g.below }
+  few : count_at w₁ stats j ≤ 320
+  few = rw number (b.each j h).few
 
-  pub applying_done : p ≤ j → Applied alpha a (plans_at (between a.dim a.vectors) repair_degree entry w₀ stats plans p) (with_rows a targets edges) w₀ base (plan_words a.degree) w
-  applying_done h =
-      let z : p - j ≡ 0 = omega arith in
-      record { does = λ en. rw z at (f.goes en); size = f.size; same = f.same }
+  below : plans + 640 * j + 2 * count_at w₁ stats j ≤ base
+  below = omega (arith, few, b.placed)
 
-  module _ (h : j < p) {n : ℕ} (e : n ≡ count_at w stats j) where
-    count : n ≡ count_at w₀ stats j
-    count = e ∙ f.same (stats + 4 * j + 2) (λ (u : base ≤ stats + 4 * j + 2). absurd (omega (arith, b.counted)))
+  given : cands w₁ (plans + 640 * j) (count_at w₁ stats j) ≡ cands w (plans + 640 * j) (count_at w stats j)
+  given =
+      cands_kept base (plan_words l.rows.now.degree) w w₁ f.applied.same (plans + 640 * j) (count_at w₁ stats j) (λ u. absurd (omega (arith, below)))
+      ∙ ap (cands w (plans + 640 * j)) number
 
-    few : n ≤ 320
-    few = rw count (b.each j h).few
+  pub plans_next : Plan l₁.marks.now w₁ (plans + 640 * j) (count_at w₁ stats j) × (plans + 640 * j + 2 * count_at w₁ stats j ≤ base)
+  plans_next = (record { few = few; live = rw (f.marks, given) (b.each j h).live; once = rw given (b.each j h).once }, below)
 
-    below : plans + 640 * j + 2 * n ≤ base
-    below = omega (arith, few, b.placed)
-
-    given : cands w (plans + 640 * j) n ≡ cands w₀ (plans + 640 * j) (count_at w₀ stats j)
-    given = cands_kept base (plan_words a.degree) w₀ w f.same (plans + 640 * j) n (λ u. absurd (omega (arith, below))) ∙ ap (cands w₀ (plans + 640 * j)) count
-
-    pub applying_plan : Plan a.marks w (plans + 640 * j) n × (plans + 640 * j + 2 * n ≤ base)
-    applying_plan = (record { few = few; live = rw given (b.each j h).live; once = rw given (b.each j h).once }, below)
-
-    pub applying_more : {targets' edges' w' : List ℕ} → length targets' ≡ length targets → length edges' ≡ length edges
-        → Applied alpha (with_rows a targets edges) (repair_links (between a.dim a.vectors) repair_degree entry (ids (cands w (plans + 640 * j) n))) (with_rows a targets' edges') w base (plan_words a.degree) w'
-        → Applying alpha a repair_degree entry w₀ stats plans p base targets' edges' w' (j + 1)
-    applying_more {w' = w'} lt le g =
-        let d = between a.dim a.vectors in
-        let rest = concat_map (plan_at d repair_degree entry w₀ stats plans) (range (j + 1) (p - (j + 1))) in
-        let z : p - j ≡ suc (p - (j + 1)) = omega arith in
-        record {
-          bound = omega arith;
-          goes = λ en.
-              ap (λ (c : Store). foldl apply_link c rest) (g.does en ∙ ap (λ (cs : List Candidate). foldl apply_link (index_of alpha en (with_rows a targets edges)) (repair_links d repair_degree entry (ids cs))) given)
-              ∙ sym (foldl_append apply_link (index_of alpha en (with_rows a targets edges)) (plan_at d repair_degree entry w₀ stats plans j) rest)
-              ∙ (rw (z, ← add-one j) at (f.goes en));
-          targets_long = lt ∙ f.targets_long;
-          edges_long = le ∙ f.edges_long;
-          size = g.size ∙ f.size;
-          same = outside_then base (plan_words a.degree) w₀ w w' f.same g.same;
-        }
+  pub plans_more : {l₂ : Linker} {w₂ : List ℕ}
+      → Made l₁ (repair_links (between l₁.kept.space.dim l₁.kept.space.vectors.now) repair_degree entry (ids (cands w₁ (plans + 640 * j) (count_at w₁ stats j)))) w₁ base plan_words l₂ w₂
+      → Made l (plans_at (between l.kept.space.dim l.kept.space.vectors.now) repair_degree entry w stats plans (j + 1)) w base plan_words l₂ w₂
+  plans_more g =
+      let d = between l.kept.space.dim l.kept.space.vectors.now in
+      let s : repair_links (between l₁.kept.space.dim l₁.kept.space.vectors.now) repair_degree entry (ids (cands w₁ (plans + 640 * j) (count_at w₁ stats j))) ≡ plan_at d repair_degree entry w stats plans j =
+      rw (f.space, given) in
+      let k : plans_at d repair_degree entry w stats plans (j + 1) ≡ plans_at d repair_degree entry w stats plans j ++ plan_at d repair_degree entry w stats plans j =
+      ap (concat_map (plan_at d repair_degree entry w stats plans)) (rw (add-one j) (sym (rw (zero-add j) at (range_snoc 0 j)))) ∙ concat_snoc (plan_at d repair_degree entry w stats plans) (range 0 j) j in
+      rw k (made_then f (rw s at g))

@@ -5,10 +5,11 @@ use mathlib.Core.Bool.{Bool, true, false, cond, true≢false}
 use mathlib.Core.Path.{◌≡◌, refl, ap, sym, ◌∙◌, fun_ext, subst}
 use mathlib.Core.List.{List, [], ◌∷◌, ◌++◌, map, map-append, append_assoc, append-nil}
 use native.Mathlib.Omega.{arith}
-use native.Mathlib.Decide.{dec_lt}
 use lib.Dec.{ltb}
-use lib.ListN.{length, get_or, set, take}
-use lib.Seq.{take_all}
+use lib.ListN.{length, get_or, set, take, drop}
+use borrow.Rule.Slice.PartMut.{put_mid}
+use lib.Seq.{take-append_seam, take-append-add}
+use Rattle.std.proofs.lemmas.List.{take-map, map-set, get_or-map, take_min, take_more_set, take-append-le, length-take-le}
 use Rattle.lists.specs.Lists.{All, concat_map, least_from, least_of, sort_by}
 use Rattle.lists.proofs.All.{all_append, all_take}
 use Rattle.lists.proofs.Least.{least_cons, least_snoc}
@@ -16,46 +17,21 @@ use Rattle.vectors.specs.Space.{slot_distance, space}
 use Rattle.vectors.proofs.Distances.{distance_sym}
 use Rattle.candidates.specs.Candidates.{Candidate, nearer, scored, ids}
 use Rattle.candidates.specs.Inner.Words.{pair, cand, cands, put, Holds, Outside}
-use Rattle.candidates.proofs.Words.{cands_length, cands_at, cands_take, cands_each, cands_kept, cands_put, cands_push, cands_none, cands_cons, put_cand, put_length, put_outside, outside_none, outside_then}
+use Rattle.candidates.proofs.Words.{cands_length, cands_at, cands_take, cands_each, cands_kept, cands_put, cands_push, cands_snoc, put_cand, put_length, put_outside, outside_then}
 use Rattle.candidates.proofs.Scored.{ids_length}
 use Rattle.repair.specs.Repair.{Link, swap_remove, links, span}
 use Rattle.repair.proofs.Sources.{both_ways}
+use Rattle.links.specs.declared.span.Pair.{Pair}
 use Rattle.links.specs.Inner.Linking.{between, links_at, pairs_of}
-use Rattle.links.specs.Inner.Planning.{Stored, Behind, Nearest, Scored, lower_to, Lowered, Distinct, Plot, Vacant, PairedNearest, Planned, span_at, Connected, Spanned}
+use Rattle.links.specs.Inner.Planning.{Stored, Nearest, Scored, lower_to, Lowered, Distinct, Plot, PairedNearest, Planned, span_at, Connected, Spanned}
+use Rattle.links.proofs.Linking.{concat_snoc, concat_append}
 use Rattle.links.proofs.Swapping.{swap_is, distinct_swap}
 
 -- ---- lists
-module _ {A B : Type 0} (f : A → B) where
-  map_take : (n : ℕ) (l : List A) → map f (take n l) ≡ take n (map f l)
-  map_take zero l = refl
-  map_take (suc n) [] = refl
-  map_take (suc n) (x ∷ l) = ap (λ (t : List B). f x ∷ t) (map_take n l)
-
-  map_set : (l : List A) (i : ℕ) (y : A) → map f (set l i y) ≡ set (map f l) i (f y)
-  map_set [] i y = refl
-  map_set (x ∷ l) zero y = refl
-  map_set (x ∷ l) (suc i) y = ap (λ (t : List B). f x ∷ t) (map_set l i y)
-
-  map_at : (l : List A) (i : ℕ) (a : A) (b : B) → i < length l → get_or (map f l) i b ≡ f (get_or l i a)
-  map_at [] i a b h = absurd (omega arith)
-  map_at (x ∷ l) zero a b h = refl
-  map_at (x ∷ l) (suc i) a b h = map_at l i a b (omega arith)
-
 all_set : {A : Type 0} (P : A → Type 0) (l : List A) (i : ℕ) (y : A) → P y → All P l → All P (set l i y)
 all_set P [] i y k h = tt
 all_set P (x ∷ l) zero y k h = (k, h.1)
 all_set P (x ∷ l) (suc i) y k h = (h.0, all_set P l i y k h.1)
-
-take_min : {A : Type 0} (n k : ℕ) (l : List A) → length l ≡ k → take (min n k) l ≡ take n l
-take_min n k l e = go (dec_lt n k)
-  where
-    go : Dec (n < k) → take (min n k) l ≡ take n l
-    go (yes h) = let z : min n k ≡ n = omega arith in rw z
-    go (no h) =
-        let z : min n k ≡ k = omega arith in
-        let y : length l ≤ n = omega arith in
-        let x : length l ≤ k = omega arith in
-        rw (z, take_all k l x, take_all n l y)
 
 -- the nearest candidate is the slot with the least measure
 pub least_ids : (g : ℕ → ℕ) (c : Candidate) (cs : List Candidate) → c.dist ≡ g c.id → All (λ a. a.dist ≡ g a.id) cs → (least_from (λ a. a.dist) c cs).id ≡ least_from g c.id (ids cs)
@@ -91,81 +67,49 @@ between_sym : (dim : ℕ) (vectors : List ℕ) (x y : ℕ) → between dim vecto
 unfolding slot_distance space
 between_sym dim vectors x y = distance_sym _ _
 
-module _ {dim : ℕ} {vectors w : List ℕ} {base k x : ℕ} (o : Stored dim vectors x w base k) (few : k ≤ 320) (plot : Plot w base) where
-  pub near_ready : Stored dim vectors x w base k × Behind w base k (base + 1280)
-  near_ready = (o, record { apart = omega arith; inside = omega (arith, plot.inside) })
+module _ (dim : ℕ) (vectors : List ℕ) (x repair_degree : ℕ) {w : List ℕ} {base k : ℕ} {w₁ w₂ : List ℕ} (f : Scored (λ c. between dim vectors c x) w base k (base + 1280) w₁)
+    (h : Holds w₁ (base + 1280) k (sort_by nearer (cands w₁ (base + 1280) k)) w₂) {n : ℕ} (e : n ≡ min repair_degree k) where
+  abbrev by_distance : List Candidate
+  by_distance = sort_by nearer (scored (between dim vectors x) (ids (cands w base k)))
 
-  module _ {w₁ w₂ : List ℕ} (f : Scored (λ c. between dim vectors c x) w base k (base + 1280) w₁) (h : Holds w₁ (base + 1280) k (sort_by nearer (cands w₁ (base + 1280) k)) w₂)
-      {repair_degree : ℕ} {pairs : List ℕ} {t : ℕ} (v : Vacant repair_degree pairs t) {n : ℕ} (e : n ≡ min repair_degree k) where
-    abbrev by_distance : List Candidate
-    by_distance = sort_by nearer (scored (between dim vectors x) (ids (cands w base k)))
+  near_list : cands w₂ (base + 1280) n ≡ take repair_degree by_distance
+  near_list =
+      let s : (λ c. between dim vectors c x) ≡ between dim vectors x = fun_ext (λ c. between_sym dim vectors c x) in
+      let l : n ≡ min repair_degree (length (cands w₂ (base + 1280) k)) = rw (cands_length w₂ (base + 1280) k) e in
+      sym (cands_take w₂ (base + 1280) k n (omega arith))
+      ∙ ap (λ (j : ℕ). take j (cands w₂ (base + 1280) k)) l
+      ∙ take_min repair_degree (cands w₂ (base + 1280) k)
+      ∙ ap (take repair_degree) (h.list ∙ ap (sort_by nearer) (f.list ∙ ap (λ (m : ℕ → ℕ). scored m (ids (cands w base k))) s))
 
-    near_list : cands w₂ (base + 1280) n ≡ take repair_degree by_distance
-    near_list =
-        let s : (λ c. between dim vectors c x) ≡ between dim vectors x = fun_ext (λ c. between_sym dim vectors c x) in
-        let l : length (cands w₂ (base + 1280) k) ≡ k = cands_length w₂ (base + 1280) k in
-        sym (cands_take w₂ (base + 1280) k n (omega arith))
-        ∙ ap (λ (j : ℕ). take j (cands w₂ (base + 1280) k)) e
-        ∙ take_min repair_degree k (cands w₂ (base + 1280) k) l
-        ∙ ap (take repair_degree) (h.list ∙ ap (sort_by nearer) (f.list ∙ ap (λ (m : ℕ → ℕ). scored m (ids (cands w base k))) s))
-
-    near_few : n ≤ 16
-    near_few = omega (arith, v.few)
-
-    pub near_fits : (base + 1280 + 2 * n ≤ length w₂) × (2 * t + 2 * n ≤ length pairs) × (2 * t + 2 * n ≤ 8388608)
-    near_fits = (omega (arith, near_few, h.size, f.size, plot.inside), omega (arith, near_few, v.inside), omega (arith, near_few, v.below))
-
-    pub near_paired : {pairs' : List ℕ} → pairs_of pairs' 0 (t + n) ≡ pairs_of pairs 0 t ++ links_at x w₂ (base + 1280) n
-        → PairedNearest (links (between dim vectors) repair_degree (ids (cands w base k)) x) w base pairs t w₂ pairs' (t + n)
-    unfolding links
-    near_paired g =
-        record {
-          added = g ∙ ap (λ (l : List Candidate). pairs_of pairs 0 t ++ concat_map (both_ways x) (ids l)) near_list;
-          more = omega (arith, near_few);
-          size = h.size ∙ f.size;
-          same = λ j i. h.same j (λ u. omega (arith, i (omega arith))) ∙ f.same j (λ u. omega (arith, i (omega arith)));
-        }
-
--- ---- pairs: those of x and the first i of the n candidates at `to` are added to t
-pub record Pairing (x : ℕ) (w : List ℕ) (to n : ℕ) (pairs₀ : List ℕ) (t : ℕ) (pairs : List ℕ) (i : ℕ) : Type 0 where
-  pub bound : i ≤ n
-  pub goes : pairs_of pairs 0 (t + i) ++ links_at x w (to + 2 * i) (n - i) ≡ pairs_of pairs₀ 0 t ++ links_at x w to n
-  pub size : length pairs ≡ length pairs₀
-
-pub pairing_none : (x : ℕ) (w : List ℕ) (to n : ℕ) (pairs : List ℕ) (t : ℕ) → Pairing x w to n pairs t pairs 0
-pairing_none x w to n pairs t =
-    let e : to + 2 * 0 ≡ to = omega arith in
-    let z : n - 0 ≡ n = omega arith in
-    let y : t + 0 ≡ t = omega arith in
-    record { bound = omega arith; goes = rw (e, z, y); size = refl }
-
-pairs_snoc : (l : List Candidate) (c : Candidate) → concat_map (λ c. both_ways c.dist c.id) (l ++ (c ∷ [])) ≡ concat_map (λ c. both_ways c.dist c.id) l ++ both_ways c.dist c.id
-pairs_snoc [] c = refl
-pairs_snoc (a ∷ l) c = ap (λ (m : List Link). both_ways a.dist a.id ++ m) (pairs_snoc l c)
-
-module _ {x : ℕ} {w : List ℕ} {to n : ℕ} {pairs₀ : List ℕ} {t : ℕ} {pairs : List ℕ} {i : ℕ} (f : Pairing x w to n pairs₀ t pairs i) where
-  pub pairing_more : 2 * t + 2 * n ≤ length pairs₀ → i < n → {p : ℕ} → p ≡ (cand w (to + 2 * i)).id → {pairs' : List ℕ} → pairs' ≡ put pairs (2 * (t + i)) x p → Pairing x w to n pairs₀ t pairs' (i + 1)
-  pairing_more l h {p} e {pairs'} g =
-      let y : t + (i + 1) ≡ t + i + 1 = omega arith in
-      let q : 0 + 2 * (t + i) ≡ 2 * (t + i) = omega arith in
-      let c : cands pairs' 0 (t + (i + 1)) ≡ cands pairs 0 (t + i) ++ (pair x p ∷ []) = rw (g, y) (rw q at (cands_push pairs x p 0 (t + i) (omega (arith, f.size)))) in
-      let rest = links_at x w (to + 2 * (i + 1)) (n - (i + 1)) in
+  pub near_paired : repair_degree ≤ 16 → k ≤ 320 → (part l : List Pair) → length part ≡ n → pairs_of part ≡ links_at x w₂ (base + 1280) (length part)
+      → PairedNearest (links (between dim vectors) repair_degree (ids (cands w base k)) x) w base w₂ (part ++ l) n
+  unfolding links
+  near_paired d few part l s g =
       record {
-        bound = omega arith;
-        goes =
-            ap (λ (k : List Candidate). concat_map (λ c. both_ways c.dist c.id) k ++ rest) c
-            ∙ ap (λ (k : List Link). k ++ rest) (pairs_snoc (cands pairs 0 (t + i)) (pair x p))
-            ∙ append_assoc (pairs_of pairs 0 (t + i)) (both_ways x p) rest
-            ∙ ap (λ (k : List Link). pairs_of pairs 0 (t + i) ++ k) (rw e (ap (λ (k : List Candidate). concat_map (both_ways x) (ids k)) (sym (cands_cons w to n i h))))
-            ∙ f.goes;
-        size = rw g (put_length pairs (2 * (t + i)) x p) ∙ f.size;
+        added = ap pairs_of (rw (← s) (take-append_seam part l))
+            ∙ (rw s at g)
+            ∙ ap (λ (cs : List Candidate). concat_map (both_ways x) (ids cs)) near_list;
+        more = omega arith;
+        size = h.size ∙ f.size;
+        same = λ j i. h.same j (λ u. omega (arith, i (omega arith))) ∙ f.same j (λ u. omega (arith, i (omega arith)));
       }
 
-  pub pairing_done : n ≤ i → pairs_of pairs 0 (t + n) ≡ pairs_of pairs₀ 0 t ++ links_at x w to n
-  pairing_done h =
-      let z : n - i ≡ 0 = omega arith in
-      let y : i ≡ n = omega (arith, f.bound) in
-      sym (append-nil _) ∙ (rw (y) at (rw (cands_none w (to + 2 * i) (n - i) z) at f.goes))
+-- the pairs of x so far
+pub pairing_none : (x : ℕ) (w : List ℕ) (to : ℕ) → [] ≡ links_at x w to 0
+unfolding cands
+pairing_none x w to = refl
+
+pub pairing_more : (x : ℕ) (w : List ℕ) (to : ℕ) (pairs : List Pair) {i : ℕ} → pairs_of (take i pairs) ≡ links_at x w to i → i < length pairs → {p : ℕ} → p ≡ (cand w (to + 2 * i)).id
+    → pairs_of (take (i + 1) (set pairs i (record { slot = x; parent = p }))) ≡ links_at x w to (i + 1)
+pairing_more x w to pairs {i} f h {p} e =
+    ap pairs_of (take_more_set pairs i (record { slot = x; parent = p }) h)
+    ∙ concat_snoc (λ q. both_ways q.slot q.parent) (take i pairs) (record { slot = x; parent = p })
+    ∙ ap (λ (l : List Link). l ++ both_ways x p) f
+    ∙ rw e (sym (
+    ap (λ (l : List Candidate). concat_map (both_ways x) (ids l)) (cands_snoc w to i)
+    ∙ ap (concat_map (both_ways x)) (map-append (λ c. c.id) (cands w to i) (cand w (to + 2 * i) ∷ []))
+    ∙ concat_snoc (both_ways x) (ids (cands w to i)) (cand w (to + 2 * i)).id
+    ))
 
 -- ---- one more is connected
 least_more : (m : ℕ → ℕ) (cs : List ℕ) (y : ℕ) → 0 < length cs → least_of m (cs ++ (y ∷ [])) ≡ min (least_of m cs) (m y)
@@ -223,12 +167,12 @@ module _ {dim : ℕ} {vectors w : List ℕ} {base k m : ℕ} (p : Planned dim ve
   xs_long = ids_length (cands w (base + 640) m) ∙ cands_length w (base + 640) m ∙ omega arith
 
   xs_at : (j : ℕ) → j < m → get_or xs j 0 ≡ (cand w (base + 640 + 2 * j)).id
-  xs_at j h = map_at (λ c. c.id) (cands w (base + 640) m) j (pair 0 0) 0 (omega (arith, cands_length w (base + 640) m)) ∙ ap (λ (c : Candidate). c.id) (cands_at w (base + 640) m j h)
+  xs_at j h = get_or-map (λ c. c.id) (cands w (base + 640) m) j (pair 0 0) 0 (omega (arith, cands_length w (base + 640) m)) ∙ ap (λ (c : Candidate). c.id) (cands_at w (base + 640) m j h)
 
   left_ids : ids left ≡ take (m - 1) (set xs i (get_or xs (m - 1) 0))
   left_ids =
-      map_take (λ c. c.id) (m - 1) (set (cands w (base + 640) m) i end)
-      ∙ ap (take (m - 1)) (map_set (λ c. c.id) (cands w (base + 640) m) i end ∙ ap (λ (x : ℕ). set xs i x) (sym (xs_at (m - 1) (omega arith))))
+      sym (take-map (λ c. c.id) (m - 1) (set (cands w (base + 640) m) i end))
+      ∙ ap (take (m - 1)) (map-set (λ c. c.id) (cands w (base + 640) m) i end ∙ ap (λ (x : ℕ). set xs i x) (sym (xs_at (m - 1) (omega arith))))
 
   left_swap : swap_remove (cand w (base + 640 + 2 * i)).id xs ≡ ids left
   left_swap =
@@ -242,7 +186,7 @@ module _ {dim : ℕ} {vectors w : List ℕ} {base k m : ℕ} (p : Planned dim ve
   left_all : (P : Candidate → Type 0) → All P (cands w (base + 640) m) → All P left
   left_all P h = all_take P (m - 1) _ (all_set P (cands w (base + 640) m) i end (cands_each P w (base + 640) m h (m - 1) (omega arith)) h)
 
-  module _ (repair_degree : ℕ) {pairs : List ℕ} {t : ℕ} {w₁ pairs' : List ℕ} {r : ℕ} (s : PairedNearest (links (between dim vectors) repair_degree con next) w base pairs t w₁ pairs' r)
+  module _ (repair_degree : ℕ) {w₁ : List ℕ} {pairs' : List Pair} {r : ℕ} (s : PairedNearest (links (between dim vectors) repair_degree con next) w base w₁ pairs' r)
       {w₂ : List ℕ} (e₂ : w₂ ≡ put w₁ (base + 2 * k) 0 next) where
     low : (b n : ℕ) → b + 2 * n ≤ base + 1280 → cands w₁ b n ≡ cands w b n
     low b n h = cands_kept (base + 1280) 640 w w₁ s.same b n (λ u. absurd (omega arith))
@@ -260,12 +204,6 @@ module _ {dim : ℕ} {vectors w : List ℕ} {base k m : ℕ} (p : Planned dim ve
     rem₂ = rw e₂ (cands_put w₁ (base + 2 * k) 0 next (base + 640) m (λ u. omega (arith, p.few)) ∙ low (base + 640) m (omega (arith, p.few)))
 
     -- the last of those that remain can be read, and the place of the next written
-    pub connect_last : base + 640 + 2 * (m - 1) + 1 < length w₂
-    connect_last = omega (arith, long₂, area.inside, p.few)
-
-    pub connect_place : base + 640 + 2 * i + 1 < length w₂
-    connect_place = omega (arith, long₂, area.inside, p.few, f.within)
-
     module _ {d x : ℕ} (ed : d ≡ (cand w₂ (base + 640 + 2 * (m - 1))).dist) (ex : x ≡ (cand w₂ (base + 640 + 2 * (m - 1))).id) {w₃ : List ℕ} (e₃ : w₃ ≡ put w₂ (base + 640 + 2 * i) d x) where
       out₃ : Outside (base + 640 + 2 * i) 2 w₂ w₃
       out₃ = rw e₃ (put_outside w₂ (base + 640 + 2 * i) d x)
@@ -314,7 +252,7 @@ module _ {dim : ℕ} {vectors w : List ℕ} {base k m : ℕ} (p : Planned dim ve
             span_first (between dim vectors) repair_degree con w (base + 640) m i p.least f n
             ∙ rw (con_ids, rem_ids, ← left_swap, e)
 
-        pub connect_done : Connected dim vectors repair_degree w base k m pairs t w₄ pairs' r
+        pub connect_done : Connected dim vectors repair_degree w base k m w₄ pairs' r
         connect_done =
             record {
               planned = record {
@@ -326,10 +264,7 @@ module _ {dim : ℕ} {vectors w : List ℕ} {base k m : ℕ} (p : Planned dim ve
                 least = rw (rem₄, con_ids) (least_lowered (between dim vectors) con next some_con left (left_all (λ c. c.dist ≡ least_of (between dim vectors c.id) con) p.least));
                 distinct = rw rem_ids left_distinct;
               };
-              goes = λ n.
-                  ap (λ (l : List Link). pairs_of pairs 0 t ++ l) (turn n)
-                  ∙ sym (append_assoc (pairs_of pairs 0 t) (links (between dim vectors) repair_degree con next) _)
-                  ∙ ap (λ (l : List Link). l ++ span_at dim vectors repair_degree w₄ base (k + 1) (m - 1) n) (sym s.added);
+              goes = λ n. turn n ∙ ap (λ (l : List Link). l ++ span_at dim vectors repair_degree w₄ base (k + 1) (m - 1) n) (sym s.added);
               more = s.more;
               size = l.size ∙ long₃;
               same = λ j h.
@@ -339,47 +274,47 @@ module _ {dim : ℕ} {vectors w : List ℕ} {base k m : ℕ} (p : Planned dim ve
                   ∙ s.same j (λ u. omega (arith, h (omega arith)));
             }
 
--- ---- until none remains
-pub record Spanning (dim : ℕ) (vectors : List ℕ) (repair_degree : ℕ) (w₀ : List ℕ) (base n : ℕ) (pairs₀ w pairs : List ℕ) (t k m : ℕ) : Type 0 where
-  pub planned : Planned dim vectors w base k m
-  pub goes : pairs_of pairs 0 t ++ span_at dim vectors repair_degree w base k m m ≡ span_at dim vectors repair_degree w₀ base 1 n n
-  pub few : t + 16 ≤ 16 * k
+-- ---- until none remains: i are connected to the first, by t pairs
+pub record Spanning (dim : ℕ) (vectors : List ℕ) (repair_degree : ℕ) (w₀ : List ℕ) (base n : ℕ) (pairs₀ : List Pair) (w : List ℕ) (pairs : List Pair) (t i : ℕ) : Type 0 where
+  pub planned : Planned dim vectors w base (i + 1) (n - i)
+  pub goes : pairs_of (take t pairs) ++ span_at dim vectors repair_degree w base (i + 1) (n - i) (n - i) ≡ span_at dim vectors repair_degree w₀ base 1 n n
+  pub few : t ≤ 16 * i
   pub pairs_long : length pairs ≡ length pairs₀
   pub size : length w ≡ length w₀
   pub same : Outside base 1920 w₀ w
 
-pub spanning_none : (dim : ℕ) (vectors : List ℕ) (repair_degree : ℕ) (w : List ℕ) (base n : ℕ) (pairs : List ℕ) → Planned dim vectors w base 1 n → Spanning dim vectors repair_degree w base n pairs w pairs 0 1 n
-unfolding cands
-spanning_none dim vectors repair_degree w base n pairs p =
-    record { planned = p; goes = refl; few = omega arith; pairs_long = refl; size = refl; same = outside_none base 1920 w }
-
-module _ {dim : ℕ} {vectors : List ℕ} {repair_degree : ℕ} {w₀ : List ℕ} {base n : ℕ} {pairs₀ w pairs : List ℕ} {t k m : ℕ} (f : Spanning dim vectors repair_degree w₀ base n pairs₀ w pairs t k m) where
-  pub spanning_room : Plot w₀ base → repair_degree ≤ 16 → length pairs₀ ≡ 10240 → 0 < m → Plot w base × Vacant repair_degree pairs t
-  spanning_room g d l h = (
-    record { inside = omega (arith, g.inside, f.size); below = g.below },
-    record { few = d; inside = omega (arith, f.few, f.planned.few, f.pairs_long); below = omega (arith, f.few, f.planned.few) },
-  )
-
-  pub spanning_more : 0 < m → {w' pairs' : List ℕ} {r : ℕ} → length pairs' ≡ length pairs → Connected dim vectors repair_degree w base k m pairs t w' pairs' r
-      → Spanning dim vectors repair_degree w₀ base n pairs₀ w' pairs' r (k + 1) (m - 1)
-  spanning_more h {w' = w'} lp c =
-      let z : suc (m - 1) ≡ m = omega arith in
+module _ {dim : ℕ} {vectors : List ℕ} {repair_degree : ℕ} {w₀ : List ℕ} {base n : ℕ} {pairs₀ : List Pair} {w : List ℕ} {pairs : List Pair} {t i : ℕ} (f : Spanning dim vectors repair_degree w₀ base n pairs₀ w pairs t i) where
+  pub spanning_more : length pairs₀ ≡ 5120 → i < n → {w' : List ℕ} {part : List Pair} {r : ℕ} → Connected dim vectors repair_degree w base (i + 1) (n - i) w' part r
+      → length part ≡ length pairs - t → length (put_mid t (length pairs - t) pairs part) ≡ length pairs → Spanning dim vectors repair_degree w₀ base n pairs₀ w' (put_mid t (length pairs - t) pairs part) (t + r) (i + 1)
+  spanning_more l h {w'} {part} {r} c lp lq =
+      let y : n - i ≡ suc (n - (i + 1)) = omega arith in
+      let z : n - i - 1 ≡ n - (i + 1) = omega arith in
+      let tl : length (take t pairs) ≡ t = length-take-le t pairs (omega (arith, f.few, f.planned.few, f.pairs_long)) in
+      let rest = span_at dim vectors repair_degree w' base (i + 1 + 1) (n - (i + 1)) (n - (i + 1)) in
+      let p : take (t + r) (put_mid t (length pairs - t) pairs part) ≡ take t pairs ++ take r part =
+      (rw tl at (take-append-add (take t pairs) (part ++ drop (length pairs - t) (drop t pairs)) r))
+      ∙ ap (λ (ps : List Pair). take t pairs ++ ps) (take-append-le r part (drop (length pairs - t) (drop t pairs)) (omega (arith, c.more, f.few, f.planned.few, f.pairs_long))) in
       record {
-        planned = c.planned;
-        goes = sym (c.goes (m - 1)) ∙ ap (λ (j : ℕ). pairs_of pairs 0 t ++ span_at dim vectors repair_degree w base k m j) z ∙ f.goes;
+        planned = rw z at c.planned;
+        goes =
+            ap (λ (ps : List Pair). pairs_of ps ++ rest) p
+            ∙ ap (λ (ls : List Link). ls ++ rest) (concat_append (λ q. both_ways q.slot q.parent) (take t pairs) (take r part))
+            ∙ append_assoc (pairs_of (take t pairs)) (pairs_of (take r part)) rest
+            ∙ ap (λ (ls : List Link). pairs_of (take t pairs) ++ ls) (sym (rw (z, ← y) at (c.goes (n - (i + 1)))))
+            ∙ f.goes;
         few = omega (arith, c.more, f.few);
-        pairs_long = lp ∙ f.pairs_long;
+        pairs_long = lq ∙ f.pairs_long;
         size = c.size ∙ f.size;
         same = outside_then base 1920 w₀ w w' f.same c.same;
       }
 
-  pub spanning_done : m ≤ 0 → Spanned dim vectors repair_degree w₀ base n w pairs t
+  pub spanning_done : n ≤ i → Spanned dim vectors repair_degree w₀ base n w pairs t
   unfolding span
   spanning_done h =
-      let z : m ≡ 0 = omega arith in
+      let z : n - i ≡ 0 = omega arith in
       record {
         paired = sym (append-nil _)
-            ∙ ap (λ (j : ℕ). pairs_of pairs 0 t ++ span (between dim vectors) repair_degree j (ids (cands w base k)) (ids (cands w (base + 640) m))) (sym z)
+            ∙ ap (λ (j : ℕ). pairs_of (take t pairs) ++ span (between dim vectors) repair_degree j (ids (cands w base (i + 1))) (ids (cands w (base + 640) (n - i)))) (sym z)
             ∙ f.goes;
         few = omega (arith, f.few, f.planned.few);
         size = f.size;

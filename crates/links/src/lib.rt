@@ -2,7 +2,8 @@
 #![tactic(auto)]
 
 mod link;
+mod linker;
 mod plan;
 mod span;
 
-pub use plan::{apply_plans, attempted};
+pub use plan::{Table, apply_plans, attempted};

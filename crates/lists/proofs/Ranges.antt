@@ -21,6 +21,10 @@ range_cons n s h =
 pub range_none : (n s : ℕ) → n ≤ s → range s (n - s) ≡ []
 range_none n s h = let e : n - s ≡ 0 = omega arith in rw e
 
+pub range_snoc : (a n : ℕ) → range a n ++ ((a + n) ∷ []) ≡ range a (suc n)
+range_snoc a zero = let e : a + 0 ≡ a = omega arith in rw e
+range_snoc a (suc n) = let e : a + suc n ≡ suc a + n = omega arith in rw e (ap (λ (l : List ℕ). a ∷ l) (range_snoc (suc a) n))
+
 pub range_below : (a n m : ℕ) → a + n ≤ m → All (λ s. s < m) (range a n)
 range_below a zero m h = tt
 range_below a (suc n) m h = (omega arith, range_below (suc a) n m (omega arith))

@@ -7,7 +7,9 @@ use native.Mathlib.Omega.{arith}
 use borrow.Author.Tests.{eq-eqb, ltb-true, lt-ltb}
 use lib.Dec.{eqb, ltb}
 use lib.ListN.{length, take, drop, get_or, replicate, take-append-drop, length-append, get_or-append}
-use lib.Seq.{paste, drop-drop, length-take-le, take_at, drop_at, take-paste, drop-paste, length-paste, get_or-take}
+use borrow.Rule.Slice.PartMut.{put_mid}
+use Rattle.std.proofs.lemmas.Slice.{put_mid-paste}
+use lib.Seq.{paste, take_all, drop-drop, length-take-le, take_at, drop_at, take-paste, drop-paste, length-paste, get_or-take}
 use Rattle.lists.specs.Lists.{All, filter, range, elem, times, insert_by}
 use Rattle.lists.proofs.All.{all_map, all_sort, all_append}
 use Rattle.lists.proofs.Alike.{one_length}
@@ -288,8 +290,15 @@ module _ {numbers summary : List ℕ} {live : ℕ} {slots : List ℕ} {n : ℕ} 
           ∙ ap (drop n) (back_is g.labelled many) ∙ drop_replicate n (length numbers - live) blank ∙ ap (λ j. replicate j blank) e
 
   -- the same of an order that equals it
-  pub entering_ready : {order : List ℕ} → order ≡ paste summary live slots n → Placed numbers order (live + n) × Risen numbers order live × (live ≤ live + n) × (live + n ≤ 65536)
-  entering_ready e = (rw e entering_placed, rw e entering_risen, omega arith, omega (arith, f.room, f.few))
+  -- the new slots are pasted behind the live ones
+  pub entering_pasted : {part : List ℕ} → part ≡ take n slots → put_mid live (live + n - live) summary part ≡ paste summary live slots n
+  entering_pasted {part} e =
+      let a : length (take n slots) ≡ n = length-take-le n slots f.given in
+      let b : take n (take n slots) ≡ take n slots = take_all n (take n slots) (omega arith) in
+      put_mid-paste live (live + n - live) summary part (take n slots) n e (omega arith) (sym a) ∙ rw b
+
+  pub entering_ready : {order : List ℕ} → order ≡ paste summary live slots n → Placed numbers order (live + n) × Risen numbers order live × (live ≤ live + n)
+  entering_ready e = (rw e entering_placed, rw e entering_risen, omega arith)
 
   pub entered_from : {order summary' : List ℕ} → order ≡ paste summary live slots n → Sorted numbers order (live + n) summary' → Entered numbers summary live slots n summary'
   entered_from {order} {summary'} e s = entered (rw e at s)

@@ -1,40 +1,38 @@
 -- The loops that write the summary, and that look numbers up. Assumes nothing.
-use Prim.Native.Nat.{ℕ, zero, suc, ◌+◌, ◌-◌, ◌≤◌, ◌<◌}
-use mathlib.Core.Bool.{true, false, not, ◌||◌, cond}
+use Prim.Native.Nat.{ℕ, ◌+◌, ◌-◌, ◌≤◌, ◌<◌}
+use Rattle.std.specs.Prelude.{Option, Some, None, is_some, unwrap_or}
+use Rattle.std.specs.Bool.{then_some}
+use mathlib.Core.Bool.{Bool, true, false, not, ◌||◌, cond}
 use mathlib.Core.Path.{◌≡◌, refl, ap, sym, ◌∙◌}
-use mathlib.Core.List.{List, [], ◌∷◌, ◌++◌}
+use mathlib.Core.List.{List, [], ◌∷◌, ◌++◌, append-nil}
 use native.Mathlib.Numerals.{add-one}
 use native.Mathlib.Omega.{arith}
-use borrow.Author.Tests.{eq-eqb, ne_eqb}
+use borrow.Author.Tests.{ne_eqb, eqb-true, eqb-false}
+use borrow.Rule.Slice.PartMut.{mid_of, put_mid, mid_len}
+use mir.Val.{bool_byte}
 use lib.Dec.{eqb}
-use lib.ListN.{length, take, drop, get_or, set, replicate, length-set, drop_of_length-le}
+use lib.ListN.{length, take, drop, get_or, set, replicate, length-set, length-drop, drop_of_length-le}
 use lib.Seq.{take-suc, take_at, length-take-le, drop-cons, take-set-le, take-suc-set, drop-set-lt, get_or-drop, get_or-take}
+use Rattle.std.specs.List.{list_any}
 use Rattle.lists.specs.Lists.{filter, range, put_front}
 use Rattle.lists.proofs.Front.{front_snoc}
-use Rattle.lists.proofs.Ranges.{length_range}
+use Rattle.lists.proofs.Ranges.{range_snoc, length_range}
 use Rattle.lists.proofs.Filtered.{filter_snoc}
 use Rattle.slots.specs.Store.{blank, is_valid}
 use Rattle.sorting.specs.Inner.Places.{key_at, Risen, Below}
 use Rattle.sorting.proofs.Search.{below_absent}
 use Rattle.numbers.specs.Numbers.{number_of, slot_of}
 use Rattle.numbers.specs.Inner.Chunks.{Met}
-use Rattle.numbers.specs.Inner.Held.{any_in}
+use Rattle.numbers.specs.Inner.Held.{any_in, carrier}
 use Rattle.numbers.specs.Inner.Listed.{Listed, Packed}
 use Rattle.numbers.proofs.Named.{slot_one, slot_none, at_elem, held_slot}
 
 -- ---- from a on, counted up
 
-range_snoc : (a n : ℕ) → range a n ++ ((a + n) ∷ []) ≡ range a (suc n)
-range_snoc a zero = let e : a + 0 ≡ a = omega arith in rw e
-range_snoc a (suc n) = let e : a + suc n ≡ suc a + n = omega arith in rw e (ap (λ (l : List ℕ). a ∷ l) (range_snoc (suc a) n))
-
 pub record Counted (from n : ℕ) (l : List ℕ) (i : ℕ) (l' : List ℕ) : Type 0 where
   pub below : i ≤ n
   pub list : l' ≡ put_front (range from i) l
   pub size : length l' ≡ length l
-
-pub counted_none : (from n : ℕ) (l : List ℕ) → Counted from n l 0 l
-counted_none from n l = record { below = omega arith; list = refl; size = refl }
 
 pub counted_more : {from n : ℕ} {l : List ℕ} {i : ℕ} {l' : List ℕ} → n ≤ length l → i < n → Counted from n l i l' → Counted from n l (i + 1) (set l' i (from + i))
 counted_more {from} {n} {l} {i} {l'} h k c =
@@ -47,16 +45,20 @@ counted_more {from} {n} {l} {i} {l'} h k c =
       size = length-set l' i (from + i) ∙ c.size;
     }
 
-pub counted_done : {from n : ℕ} {l : List ℕ} {i : ℕ} {l' : List ℕ} → n ≤ i → Counted from n l i l' → l' ≡ put_front (range from n) l
-counted_done {from} {n} {l} {i} h c = let e : i ≡ n = omega (arith, c.below) in rw e at c.list
+-- blanks from a place on
+pub filled_past : (l : List ℕ) (i x : ℕ) {part : List ℕ} → i ≤ length l → part ≡ replicate (length (mid_of i (length l - i) l)) x → put_mid i (length l - i) l part ≡ take i l ++ replicate (length l - i) x
+filled_past l i x {part} h e =
+    let a : length (mid_of i (length l - i) l) ≡ length l - i = mid_len i (length l) l (omega arith) in
+    let b : drop (length l - i) (drop i l) ≡ [] = drop_of_length-le (drop i l) (omega (arith, length-drop i l)) in
+    rw (b, e, a, append-nil (replicate (length l - i) x))
 
 -- counted up, then blanks
-pub counted_blank : (n m : ℕ) (l : List ℕ) {l₁ l₂ : List ℕ} → length l ≡ m → l₁ ≡ put_front (range 0 n) l → length l₁ ≡ length l → l₂ ≡ take n l₁ ++ replicate (length l₁ - n) blank
-    → l₂ ≡ range 0 n ++ replicate (m - n) blank
-counted_blank n m l {l₁} {l₂} h e s g =
+pub counted_blank : (n m : ℕ) (l : List ℕ) {l₁ part : List ℕ} → length l ≡ m → n ≤ m → l₁ ≡ put_front (range 0 n) l → length l₁ ≡ length l → part ≡ replicate (length (mid_of n (length l₁ - n) l₁)) blank
+    → put_mid n (length l₁ - n) l₁ part ≡ range 0 n ++ replicate (m - n) blank
+counted_blank n m l {l₁} h k e s g =
     let f : take n l₁ ≡ range 0 n = rw e (take_at (range 0 n) (drop (length (range 0 n)) l) n (length_range 0 n)) in
-    let k : length l₁ ≡ m = s ∙ h in
-    g ∙ rw (f, k)
+    let w : length l₁ ≡ m = s ∙ h in
+    filled_past l₁ n blank (omega arith) g ∙ rw (f, w)
 
 -- ---- the live ones kept
 
@@ -116,6 +118,11 @@ module _ {marks before : List ℕ} {live n i : ℕ} {summary : List ℕ} (room :
       append_none [] = refl
       append_none (x ∷ l) = ap (λ (m : List ℕ). x ∷ m) (append_none l)
 
+pub keeping_more : {marks before : List ℕ} {live n i : ℕ} {summary : List ℕ} {s m : ℕ} → live ≤ length before → i < live → Keeping marks before live n i summary → s ≡ get_or summary i 0
+    → (v : Bool) → v ≡ is_valid marks s → m ≡ bool_byte v → Keeping marks before live (n + m) (i + 1) (set summary n s)
+keeping_more r h k e true v g = rw g (keeping_live r h k e (sym v))
+keeping_more {n = n} r h k e false v g = let z : n + 0 ≡ n = omega arith in rw (g, z) (keeping_dead r h k e (sym v))
+
 pub keeping_done : {marks before : List ℕ} {live n i : ℕ} {summary : List ℕ} → live ≤ i → Keeping marks before live n i summary → Packed marks before live n summary
 keeping_done {marks} {before} {live} {n} {i} {summary} h k =
     let e : i ≡ live = omega (arith, k.below) in
@@ -124,51 +131,56 @@ keeping_done {marks} {before} {live} {n} {i} {summary} h k =
 -- ---- looking up
 
 module _ {keys order : List ℕ} {n key r : ℕ} (u : Risen keys order n) (b : Below keys order n key r) where
-  pub met_past : n ≤ r → Met keys order n key n
-  met_past h = record { most = omega arith; here = λ k. absurd (omega arith); absent = λ k. below_absent u b (λ l. absurd (omega arith)) }
+  met_none : (r < n → key_at keys order r ≡ key → ⊥) → Met keys order n key None
+  met_none d = record { here = λ i e. cc; absent = λ e. below_absent u b d }
 
-  pub met_other : {m : ℕ} → m ≡ key_at keys order r → (m ≡ key → ⊥) → Met keys order n key n
-  met_other e d = record { most = omega arith; here = λ k. absurd (omega arith); absent = λ k. below_absent u b (λ l g. d (e ∙ g)) }
-
-  pub met_here : {m : ℕ} → r < n → m ≡ key_at keys order r → m ≡ key → Met keys order n key r
-  met_here l e d = record { most = omega arith; here = λ k. sym e ∙ d; absent = λ k. absurd (omega arith) }
-
-pub slot_zero : (numbers : List ℕ) {m : ℕ} → m ≡ 0 → blank ≡ slot_of numbers m
-slot_zero numbers {m} e = sym (slot_none numbers m (λ h. absurd (omega arith)))
-
-module _ {numbers summary : List ℕ} {live : ℕ} (k : Listed numbers summary live) {m r : ℕ} where
-  pub slot_absent : Met numbers summary live m r → live ≤ r → blank ≡ slot_of numbers m
-  slot_absent f h = sym (slot_none numbers m (λ p t i e. at_elem ⊥ t (take live summary) (k.named t i (omega arith)) (λ j w q. gone f h t e j w q)))
+  pub met_then : {m : ℕ} {t : Bool} {o : Option ℕ} → r < n → m ≡ key_at keys order r → t ≡ eqb m key → o ≡ then_some t r → Met keys order n key o
+  met_then {m} h e f g = rw (g, f) (go (eqb m key) refl)
     where
-      gone : Met numbers summary live m r → live ≤ r → (t : ℕ) → number_of numbers t ≡ m → (j : ℕ) → j < length (take live summary) → get_or (take live summary) j 0 ≡ t → ⊥
-      gone f h t e j w q =
-          let j' : j < live = omega (arith, length-take-le live summary k.placed.long) in
-          f.absent h j j' (ap (number_of numbers) (rw (get_or-take live summary j 0 j') at q) ∙ e)
+      go : (t : Bool) → eqb m key ≡ t → Met keys order n key (then_some t r)
+      go true q = record { here = λ i z. let w : r ≡ i = cc in rw (← w) (h, sym e ∙ eqb-true m key q); absent = λ z. cc }
+      go false q = met_none (λ _ z. eqb-false m key q (e ∙ z))
 
-  pub slot_met : Met numbers summary live m r → (m ≡ 0 → ⊥) → r < live → get_or summary r 0 ≡ slot_of numbers m
-  slot_met f z h =
+  pub met_else : {t : Bool} {o : Option ℕ} → n ≤ r → t ≡ false → o ≡ then_some t r → Met keys order n key o
+  met_else h f g = rw (g, f) (met_none (λ l. absurd (omega arith)))
+
+pub slot_zero : (numbers : List ℕ) {m : ℕ} → m ≡ 0 → None ≡ carrier numbers m
+slot_zero numbers {m} e = rw (slot_none numbers m (λ h. absurd (omega arith)))
+
+module _ {numbers summary : List ℕ} {live : ℕ} (k : Listed numbers summary live) {m : ℕ} where
+  pub slot_absent : Met numbers summary live m None → None ≡ carrier numbers m
+  slot_absent f = rw (slot_none numbers m (λ p t i e. at_elem ⊥ t (take live summary) (k.named t i (omega arith)) (λ j w q. gone t e j w q)))
+    where
+      gone : (t : ℕ) → number_of numbers t ≡ m → (j : ℕ) → j < length (take live summary) → get_or (take live summary) j 0 ≡ t → ⊥
+      gone t e j w q =
+          let j' : j < live = omega (arith, length-take-le live summary k.placed.long) in
+          f.absent refl j j' (ap (number_of numbers) (rw (get_or-take live summary j 0 j') at q) ∙ e)
+
+  -- the place is one of the summary
+  pub slot_inside : {r : ℕ} → Met numbers summary live m (Some r) → r < length summary
+  slot_inside {r} f = omega (arith, (f.here r refl).0, k.placed.long)
+
+  pub slot_met : {r : ℕ} → Met numbers summary live m (Some r) → (m ≡ 0 → ⊥) → Some (get_or summary r 0) ≡ carrier numbers m
+  slot_met {r} f z =
+      let h : r < live = (f.here r refl).0 in
       let w : get_or summary r 0 < length numbers = k.placed.inside r h in
-      let g : key_at numbers summary r ≡ m = f.here h in
-      sym (slot_one numbers m (get_or summary r 0) (omega arith) w g (λ t j q. k.distinct t (get_or summary r 0) j w (omega arith) (q ∙ sym g)))
+      let g : key_at numbers summary r ≡ m = (f.here r refl).1 in
+      rw (slot_one numbers m (get_or summary r 0) (omega arith) w g (λ t j q. k.distinct t (get_or summary r 0) j w (omega arith) (q ∙ sym g)), ne_eqb (get_or summary r 0) blank (λ q. omega (arith, k.few)))
+
+-- the slot of a carrier, blank where there is none
+pub carrier_or : (numbers : List ℕ) (m : ℕ) → unwrap_or (carrier numbers m) blank ≡ slot_of numbers m
+carrier_or numbers m = go (eqb (slot_of numbers m) blank) refl
+  where
+    go : (b : Bool) → eqb (slot_of numbers m) blank ≡ b → unwrap_or (cond b None (Some (slot_of numbers m))) blank ≡ slot_of numbers m
+    go true e = sym (eqb-true (slot_of numbers m) blank e)
+    go false e = refl
 
 -- ---- any of a list
 
-pub record AnyTo (numbers given : List ℕ) (i : ℕ) : Type 0 where
-  pub below : i ≤ length given
-  pub rest : any_in numbers (drop i given) ≡ any_in numbers given
-
-pub any_none : (numbers given : List ℕ) → AnyTo numbers given 0
-any_none numbers given = record { below = omega arith; rest = refl }
-
-module _ {numbers summary given : List ℕ} {live i s : ℕ} (k : Listed numbers summary live) (h : i < length given) (a : AnyTo numbers given i) (e : s ≡ slot_of numbers (get_or given i 0)) where
-  turn : not (eqb s blank) || any_in numbers (drop (i + 1) given) ≡ any_in numbers given
-  turn = rw (e, held_slot k (get_or given i 0), add-one i) (rw (drop-cons given i 0 h) at a.rest)
-
-  pub any_found : (s ≡ blank → ⊥) → true ≡ any_in numbers given
-  any_found d = rw (ne_eqb s blank d) at turn
-
-  pub any_more : s ≡ blank → AnyTo numbers given (i + 1)
-  any_more d = record { below = omega arith; rest = rw (eq-eqb s blank d) at turn }
-
-pub any_done : {numbers given : List ℕ} {i : ℕ} → length given ≤ i → AnyTo numbers given i → false ≡ any_in numbers given
-any_done {numbers} {given} {i} h a = rw (drop_of_length-le given h) at a.rest
+pub any_carried : {numbers summary : List ℕ} {live : ℕ} → Listed numbers summary live → (given : List ℕ) → list_any (λ m. is_some (carrier numbers m)) given ≡ any_in numbers given
+any_carried k [] = refl
+any_carried {numbers} k (m ∷ given) = rw (any_carried k given, ← held_slot k m) (go (eqb (slot_of numbers m) blank))
+  where
+    go : (b : Bool) → is_some (cond b None (Some (slot_of numbers m))) || any_in numbers given ≡ not b || any_in numbers given
+    go true = refl
+    go false = refl

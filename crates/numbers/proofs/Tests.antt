@@ -1,19 +1,22 @@
 -- The loops of row 6's test: numbers that fit, a summary that rises, and blanks. Assumes nothing.
-use Prim.Native.Nat.{ℕ, zero, suc, ◌+◌, ◌-◌, ◌≤◌, ◌<◌}
-use mathlib.Core.Bool.{Bool, true, false, not, ◌&&◌, cond, true≢false}
+use Prim.Native.Nat.{ℕ, zero, suc, ◌+◌, ◌≤◌, ◌<◌, min}
+use mathlib.Core.Bool.{Bool, true, false, not, ◌&&◌, ◌||◌, cond, true≢false}
+use mathlib.Core.Logic.{◌⊎◌, inl, inr}
 use mathlib.Core.Path.{◌≡◌, refl, ap, sym, ◌∙◌}
-use mathlib.Core.List.{List}
+use mathlib.Core.List.{List, [], ◌∷◌, ◌++◌}
+use native.Mathlib.Decide.{dec_lt}
 use native.Mathlib.Numerals.{add-one}
 use native.Mathlib.Omega.{arith}
-use borrow.Author.Tests.{eq-eqb, ne_eqb, le-ltb, lt-ltb}
+use borrow.Author.Tests.{le-ltb, lt-ltb}
 use lib.Dec.{eqb, ltb}
-use lib.ListN.{length, take, drop, get_or, drop_of_length-le}
+use mathlib.Core.Bool.{beq}
+use lib.ListN.{length, take, drop, get_or, drop_of_length-le, length-append, get_or-eq_default}
 use lib.Seq.{drop-cons}
+use Rattle.std.specs.List.{list_any}
 use Rattle.lists.specs.Lists.{range}
-use Rattle.lists.proofs.Ranges.{range_cons, range_none}
-use Rattle.lists.proofs.Taking.{left_cons, left_none}
 use Rattle.slots.specs.Store.{blank, is_valid}
-use Rattle.numbers.specs.Numbers.{number_of, number_fits, numbers_fit, rising, all_blank, labels_ok}
+use Rattle.numbers.specs.Numbers.{number_of, numbers_fit, rising, all_blank, labels_ok}
+use Rattle.numbers.specs.Inner.Fits.{fits, all_fit}
 
 and-false : (b : Bool) → b && false ≡ false
 and-false true = refl
@@ -25,152 +28,125 @@ and_join false b c = refl
 
 -- ---- numbers that fit
 
--- 1 where a number does not fit its mark, else 0
-unfoldable pub bit : ℕ → ℕ → ℕ
-bit mark x = cond (not (eqb mark 0)) (cond (not (eqb x 0)) 0 1) (cond (eqb x 0) 0 1)
-
-bit_small : (mark x : ℕ) → bit mark x ≤ 1
-unfolding bit
-bit_small mark x = go (eqb mark 0) (eqb x 0)
-  where
-    go : (b c : Bool) → cond (not b) (cond (not c) 0 1) (cond c 0 1) ≤ 1
-    go true true = omega arith
-    go true false = omega arith
-    go false true = omega arith
-    go false false = omega arith
-
--- one more number
-one_more : (n mark x : ℕ) → eqb (n + bit mark x) 0 ≡ eqb n 0 && cond (not (eqb mark 0)) (not (eqb x 0)) (eqb x 0)
-unfolding bit
-one_more n mark x = go (eqb mark 0) (eqb x 0)
-  where
-    same : eqb (n + 0) 0 ≡ eqb n 0 && true
-    same = let e : n + 0 ≡ n = omega arith in rw e (both (eqb n 0))
-      where
-        both : (b : Bool) → b ≡ b && true
-        both true = refl
-        both false = refl
-
-    more : eqb (n + 1) 0 ≡ eqb n 0 && false
-    more = ne_eqb (n + 1) 0 (λ z. omega arith) ∙ sym (and-false (eqb n 0))
-
-    go : (b c : Bool) → eqb (n + cond (not b) (cond (not c) 0 1) (cond c 0 1)) 0 ≡ eqb n 0 && cond (not b) (not c) c
-    go true true = same
-    go true false = more
-    go false true = more
-    go false false = same
-
--- n numbers from `from` up to s do not fit
-pub record Fitting (marks numbers : List ℕ) (from to n s : ℕ) : Type 0 where
-  pub above : from ≤ s
-  pub below : s ≤ to
-  pub few : n ≤ s - from
-  pub rest : eqb n 0 && numbers_fit (is_valid marks) numbers (range s (to - s)) ≡ numbers_fit (is_valid marks) numbers (range from (to - from))
-
-pub fitting_none : (marks numbers : List ℕ) (from to : ℕ) → from ≤ to → Fitting marks numbers from to 0 from
-fitting_none marks numbers from to h = record { above = omega arith; below = h; few = omega arith; rest = refl }
-
-pub fitting_more : {marks numbers : List ℕ} {from to n s m : ℕ} → s < to → Fitting marks numbers from to n s → m ≡ bit (get_or marks s 0) (get_or numbers s 0) → Fitting marks numbers from to (n + m) (s + 1)
+-- beside each mark its number: as the rule has it
+fits_from : (marks numbers : List ℕ) (s k : ℕ) → s + k ≡ length marks → length numbers ≡ length marks → all_fit (drop s marks) (drop s numbers) ≡ numbers_fit (is_valid marks) numbers (range s k)
 unfolding is_valid
-fitting_more {marks} {numbers} {from} {to} {n} {s} {m} h k e = record {
-  above = omega (arith, k.above);
-  below = omega arith;
-  few = omega (arith, k.few, k.above, e, bit_small (get_or marks s 0) (get_or numbers s 0));
-  rest = rw (e, one_more n (get_or marks s 0) (get_or numbers s 0)) (and_join (eqb n 0) (number_fits (is_valid marks) numbers s) (numbers_fit (is_valid marks) numbers (range (s + 1) (to - (s + 1)))) ∙ (rw (range_cons to s h) at k.rest));
-}
+fits_from marks numbers s zero e l = let h : length marks ≤ s = omega arith in rw (drop_of_length-le marks h)
+fits_from marks numbers s (suc k) e l =
+    let h : s < length marks = omega arith in
+    let g : s < length numbers = omega arith in
+    rw (drop-cons marks s 0 h, drop-cons numbers s 0 g, fits_from marks numbers (suc s) k (omega arith) l)
 
-pub fitting_done : {marks numbers : List ℕ} {from to n s : ℕ} → to ≤ s → Fitting marks numbers from to n s → not (eqb n 0) ≡ not (numbers_fit (is_valid marks) numbers (range from (to - from)))
-fitting_done {marks} {numbers} {from} {to} {n} {s} h k = ap not (sym (and-true (eqb n 0)) ∙ (rw (range_none to s h) at k.rest))
+fits_numbers : (marks numbers : List ℕ) → length numbers ≡ length marks → all_fit marks numbers ≡ numbers_fit (is_valid marks) numbers (range 0 (length marks))
+fits_numbers marks numbers l = fits_from marks numbers 0 (length marks) (omega arith) l
+
+-- what is left of a block's marks and numbers, where `bad` says whether one so far does not fit
+pub record Fitting (marks numbers : List ℕ) (bad : Bool) (ms ns : List ℕ) : Type 0 where
+  pub rest : not bad && all_fit ms ns ≡ all_fit marks numbers
+
+pub fitting_more : {marks numbers ms ns : List ℕ} {bad : Bool} (ms' ns' : List ℕ) (m n : ℕ) → Fitting marks numbers bad ms ns → ms ≡ m ∷ ms' → ns ≡ n ∷ ns' → Fitting marks numbers (bad || not (beq (eqb m 0) (eqb n 0))) ms' ns'
+fitting_more {marks} {numbers} {bad = bad} ms' ns' m n k f g = record { rest = go bad (eqb m 0) (eqb n 0) (rw (f, g) at k.rest) }
   where
-    and-true : (b : Bool) → b && true ≡ b
-    and-true true = refl
-    and-true false = refl
+    go : (b x y : Bool) → not b && (cond (not x) (not y) y && all_fit ms' ns') ≡ all_fit marks numbers → not (b || not (beq x y)) && all_fit ms' ns' ≡ all_fit marks numbers
+    go true x y e = e
+    go false true true e = e
+    go false true false e = e
+    go false false true e = e
+    go false false false e = e
 
-fit_split : (live : ℕ → Bool) (numbers : List ℕ) (a m n : ℕ) → numbers_fit live numbers (range a (m + n)) ≡ numbers_fit live numbers (range a m) && numbers_fit live numbers (range (a + m) n)
-fit_split live numbers a zero n =
-    let e : a + 0 ≡ a = omega arith in
-    let g : 0 + n ≡ n = omega arith in
-    rw (e, g)
-fit_split live numbers a (suc m) n =
-    let e : a + suc m ≡ suc a + m = omega arith in
-    let g : suc m + n ≡ suc (m + n) = omega arith in
-    rw (e, g) (ap (λ b. number_fits live numbers a && b) (fit_split live numbers (suc a) m n) ∙ sym (and_join (number_fits live numbers a) (numbers_fit live numbers (range (suc a) m)) (numbers_fit live numbers (range (suc a + m) n))))
+fit_empty : (ms ns : List ℕ) → (ms ≡ []) ⊎ (ns ≡ []) → all_fit ms ns ≡ true
+fit_empty ms ns (inl e) = rw e
+fit_empty [] ns (inr e) = refl
+fit_empty (m ∷ ms) ns (inr e) = rw e
 
--- the numbers up to s fit
-pub record FitTo (marks numbers : List ℕ) (s : ℕ) : Type 0 where
-  pub below : s ≤ length marks
-  pub rest : numbers_fit (is_valid marks) numbers (range s (length marks - s)) ≡ numbers_fit (is_valid marks) numbers (range 0 (length marks))
+pub fitting_done : {marks numbers ms ns : List ℕ} {bad : Bool} → Fitting marks numbers bad ms ns → (ms ≡ []) ⊎ (ns ≡ []) → bad ≡ not (all_fit marks numbers)
+fitting_done {marks} {numbers} {ms} {ns} {bad} k e = go bad (rw (fit_empty ms ns e) at k.rest)
+  where
+    go : (b : Bool) → not b && true ≡ all_fit marks numbers → b ≡ not (all_fit marks numbers)
+    go true e = ap not e
+    go false e = ap not e
 
-pub fit_none : (marks numbers : List ℕ) → FitTo marks numbers 0
-fit_none marks numbers = let e : length marks - 0 ≡ length marks = omega arith in record { below = omega arith; rest = rw e }
+-- a block and those behind it
+fit_split : (xs ys ms ns : List ℕ) → length xs ≡ length ys → all_fit (xs ++ ms) (ys ++ ns) ≡ all_fit xs ys && all_fit ms ns
+fit_split [] [] ms ns e = refl
+fit_split [] (y ∷ ys) ms ns e = absurd (omega arith)
+fit_split (x ∷ xs) [] ms ns e = absurd (omega arith)
+fit_split (x ∷ xs) (y ∷ ys) ms ns e = rw (fit_split xs ys ms ns (omega arith)) (sym (and_join (fits x y) (all_fit xs ys) (all_fit ms ns)))
 
-module _ {marks numbers : List ℕ} {s end : ℕ} {r : Bool} (h : s < end) (l : end ≤ length marks) (k : FitTo marks numbers s) (e : r ≡ not (numbers_fit (is_valid marks) numbers (range s (end - s)))) where
-  split : numbers_fit (is_valid marks) numbers (range s (length marks - s)) ≡ not r && numbers_fit (is_valid marks) numbers (range end (length marks - end))
-  split =
-      let a : length marks - s ≡ (end - s) + (length marks - end) = omega arith in
-      let b : s + (end - s) ≡ end = omega arith in
-      rw (← b) (rw (a, fit_split (is_valid marks) numbers s (end - s) (length marks - end), e) (rw b (ap (λ q. q && numbers_fit (is_valid marks) numbers (range end (length marks - end))) (twice (numbers_fit (is_valid marks) numbers (range s (end - s)))))))
-    where
-      twice : (b : Bool) → b ≡ not (not b)
-      twice true = refl
-      twice false = refl
+-- the blocks that are left, of 128 each
+pub record Blocks (marks numbers : List ℕ) (size size' : ℕ) (ms ns : List ℕ) : Type 0 where
+  pub first : size ≡ 128
+  pub second : size' ≡ 128
+  pub long : length ns ≡ length ms
+  pub rest : all_fit ms ns ≡ all_fit marks numbers
 
-  pub fit_block : r ≡ false → FitTo marks numbers end
-  fit_block f = record { below = l; rest = (rw f at (sym split)) ∙ k.rest }
+block_split : {marks numbers ms ns : List ℕ} {size size' : ℕ} → Blocks marks numbers size size' ms ns → (xs ys ms' ns' : List ℕ) → ms ≡ xs ++ ms' → ns ≡ ys ++ ns' → length xs ≡ min size (length ms)
+    → length ys ≡ min size' (length ns) → all_fit xs ys && all_fit ms' ns' ≡ all_fit marks numbers
+block_split k xs ys ms' ns' f g l m = sym (fit_split xs ys ms' ns' (omega (arith, k.first, k.second, k.long))) ∙ (rw (f, g) at k.rest)
 
-  pub fit_fails : r ≡ true → true ≡ not (numbers_fit (is_valid marks) numbers (range 0 (length marks)))
-  fit_fails f = ap not (sym (rw f at split) ∙ k.rest)
+pub blocks_more : {marks numbers ms ns : List ℕ} {size size' size₁ size₁' : ℕ} → Blocks marks numbers size size' ms ns → (xs ys ms' ns' : List ℕ) → false ≡ not (all_fit xs ys)
+    → (size₁ ≡ size) × ((ms ≡ xs ++ ms') × (length xs ≡ min size (length ms)) × (0 < length ms)) → (size₁' ≡ size') × ((ns ≡ ys ++ ns') × (length ys ≡ min size' (length ns)) × (0 < length ns))
+    → Blocks marks numbers size₁ size₁' ms' ns'
+blocks_more {marks} {numbers} k xs ys ms' ns' e f g = record {
+  first = f.0 ∙ k.first;
+  second = g.0 ∙ k.second;
+  long = omega (arith, k.first, k.second, k.long, ap length f.1.0, ap length g.1.0, length-append xs ms', length-append ys ns');
+  rest = go (all_fit xs ys) e (block_split k xs ys ms' ns' f.1.0 g.1.0 f.1.1 g.1.1);
+}
+  where
+    go : (b : Bool) → false ≡ not b → b && all_fit ms' ns' ≡ all_fit marks numbers → all_fit ms' ns' ≡ all_fit marks numbers
+    go true e h = h
+    go false e h = cc
 
-pub fit_done : {marks numbers : List ℕ} {s : ℕ} → length marks ≤ s → FitTo marks numbers s → false ≡ not (numbers_fit (is_valid marks) numbers (range 0 (length marks)))
-fit_done {marks} {numbers} {s} h k = ap not (rw (range_none (length marks) s h) at k.rest)
+pub blocks_fail : {marks numbers ms ns : List ℕ} {size size' size₁ size₁' : ℕ} → Blocks marks numbers size size' ms ns → (xs ys ms' ns' : List ℕ) → true ≡ not (all_fit xs ys)
+    → (size₁ ≡ size) × ((ms ≡ xs ++ ms') × (length xs ≡ min size (length ms)) × (0 < length ms)) → (size₁' ≡ size') × ((ns ≡ ys ++ ns') × (length ys ≡ min size' (length ns)) × (0 < length ns))
+    → length numbers ≡ length marks → true ≡ not (numbers_fit (is_valid marks) numbers (range 0 (length marks)))
+blocks_fail {marks} {numbers} k xs ys ms' ns' e f g h = go (all_fit xs ys) e (block_split k xs ys ms' ns' f.1.0 g.1.0 f.1.1 g.1.1) ∙ ap not (fits_numbers marks numbers h)
+  where
+    go : (b : Bool) → true ≡ not b → b && all_fit ms' ns' ≡ all_fit marks numbers → true ≡ not (all_fit marks numbers)
+    go true e h = cc
+    go false e h = ap not h
+
+pub blocks_done : {marks numbers ms ns : List ℕ} {size size' : ℕ} → Blocks marks numbers size size' ms ns → (length ms ≡ 0) ⊎ (length ns ≡ 0) → length numbers ≡ length marks
+    → false ≡ not (numbers_fit (is_valid marks) numbers (range 0 (length marks)))
+blocks_done {marks} {numbers} {ms} {ns} k e h = ap not (sym (none ms ns k.long e) ∙ k.rest ∙ fits_numbers marks numbers h)
+  where
+    none : (ms ns : List ℕ) → length ns ≡ length ms → (length ms ≡ 0) ⊎ (length ns ≡ 0) → all_fit ms ns ≡ true
+    none [] ns l h = refl
+    none (m ∷ ms) ns l (inl h) = absurd (omega arith)
+    none (m ∷ ms) ns l (inr h) = absurd (omega arith)
 
 -- ---- a summary that rises
 
-pub record RisingTo (numbers summary : List ℕ) (live low i : ℕ) : Type 0 where
-  pub below : i ≤ live
-  pub rest : rising (length numbers) numbers low (drop i (take live summary)) ≡ rising (length numbers) numbers 0 (take live summary)
+pub record RisingTo (numbers ss : List ℕ) (low i : ℕ) : Type 0 where
+  pub rest : rising (length numbers) numbers low (drop i ss) ≡ rising (length numbers) numbers 0 ss
 
-pub rising_none : (numbers summary : List ℕ) (live : ℕ) → RisingTo numbers summary live 0 0
-rising_none numbers summary live = record { below = omega arith; rest = refl }
+module _ {numbers ss : List ℕ} {low i m : ℕ} (h : i < length ss) (k : RisingTo numbers ss low i) (e : m ≡ number_of numbers (get_or ss i 0)) where
+  next : ltb (get_or ss i 0) (length numbers) && ltb low m && rising (length numbers) numbers m (drop (i + 1) ss) ≡ rising (length numbers) numbers 0 ss
+  next = rw (e, add-one i) (rw (drop-cons ss i 0 h) at k.rest)
 
-module _ {numbers summary : List ℕ} {live low i s : ℕ} (long : live ≤ length summary) (h : i < live) (k : RisingTo numbers summary live low i) (e : s ≡ get_or summary i 0) where
-  next : ltb s (length numbers) && ltb low (number_of numbers s) && rising (length numbers) numbers (number_of numbers s) (drop (i + 1) (take live summary))
-      ≡ rising (length numbers) numbers 0 (take live summary)
-  next = rw e (rw (left_cons summary live i long h) at k.rest)
+  pub rising_low : m ≤ low → true ≡ not (rising (length numbers) numbers 0 ss)
+  rising_low l = ap not (sym (ap (λ b. b && rising (length numbers) numbers m (drop (i + 1) ss)) (and-false (ltb (get_or ss i 0) (length numbers)))) ∙ (rw (le-ltb low m l) at next))
 
-  pub rising_outside : length numbers ≤ s → true ≡ not (rising (length numbers) numbers 0 (take live summary))
-  rising_outside o = ap not (rw (le-ltb s (length numbers) o) at next)
+  pub rising_more : low < m → RisingTo numbers ss m (i + 1)
+  rising_more l = let o : get_or ss i 0 < length numbers = inside (dec_lt (get_or ss i 0) (length numbers)) in record { rest = rw (lt-ltb (get_or ss i 0) (length numbers) o, lt-ltb low m l) at next }
+    where
+      inside : Dec (get_or ss i 0 < length numbers) → get_or ss i 0 < length numbers
+      inside (yes o) = o
+      inside (no o) = let z : length numbers ≤ get_or ss i 0 = omega arith in absurd (omega (arith, e, get_or-eq_default numbers 0 z))
 
-  pub rising_low : s < length numbers → number_of numbers s ≤ low → true ≡ not (rising (length numbers) numbers 0 (take live summary))
-  rising_low o l = ap not (rw (lt-ltb s (length numbers) o, le-ltb low (number_of numbers s) l) at next)
-
-  pub rising_more : s < length numbers → low < number_of numbers s → RisingTo numbers summary live (number_of numbers s) (i + 1)
-  rising_more o l = record { below = omega arith; rest = rw (lt-ltb s (length numbers) o, lt-ltb low (number_of numbers s) l) at next }
-
-pub rising_done : {numbers summary : List ℕ} {live low i : ℕ} → live ≤ i → RisingTo numbers summary live low i → false ≡ not (rising (length numbers) numbers 0 (take live summary))
-rising_done {numbers} {summary} {live} {low} {i} h k = ap not (rw (left_none summary live i h) at k.rest)
+pub rising_done : {numbers ss : List ℕ} {low i : ℕ} → length ss ≤ i → RisingTo numbers ss low i → false ≡ not (rising (length numbers) numbers 0 ss)
+rising_done {numbers} {ss} h k = ap not (rw (drop_of_length-le ss h) at k.rest)
 
 -- ---- blanks
 
-pub record BlankTo (summary : List ℕ) (from i : ℕ) : Type 0 where
-  pub below : i ≤ length summary
-  pub rest : all_blank (drop i summary) ≡ all_blank (drop from summary)
-
-pub blank_none : (summary : List ℕ) (from : ℕ) → from ≤ length summary → BlankTo summary from from
-blank_none summary from h = record { below = h; rest = refl }
-
-module _ {summary : List ℕ} {from i : ℕ} (h : i < length summary) (k : BlankTo summary from i) where
-  here : eqb (get_or summary i 0) blank && all_blank (drop (i + 1) summary) ≡ all_blank (drop from summary)
-  here = rw (add-one i) (rw (drop-cons summary i 0 h) at k.rest)
-
-  pub blank_more : get_or summary i 0 ≡ blank → BlankTo summary from (i + 1)
-  blank_more e = record { below = omega arith; rest = rw (eq-eqb (get_or summary i 0) blank e) at here }
-
-  pub blank_found : (get_or summary i 0 ≡ blank → ⊥) → true ≡ not (all_blank (drop from summary))
-  blank_found e = ap not (rw (ne_eqb (get_or summary i 0) blank e) at here)
-
-pub blank_done : {summary : List ℕ} {from i : ℕ} → length summary ≤ i → BlankTo summary from i → false ≡ not (all_blank (drop from summary))
-blank_done {summary} {from} {i} h k = ap not (rw (drop_of_length-le summary h) at k.rest)
+pub blank_any : (xs : List ℕ) → list_any (λ s. not (eqb s blank)) xs ≡ not (all_blank xs)
+blank_any [] = refl
+blank_any (x ∷ xs) = go (eqb x blank) (blank_any xs)
+  where
+    go : (b : Bool) → list_any (λ s. not (eqb s blank)) xs ≡ not (all_blank xs) → not b || list_any (λ s. not (eqb s blank)) xs ≡ not (b && all_blank xs)
+    go true e = e
+    go false e = refl
 
 -- ---- the three together
 

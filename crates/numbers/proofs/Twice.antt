@@ -1,5 +1,5 @@
 -- Numbers that stand twice: what the chunks found give together. Assumes nothing.
-use Prim.Native.Nat.{ℕ, zero, suc, ◌+◌, ◌≤◌, ◌<◌}
+use Prim.Native.Nat.{ℕ, zero, suc, ◌+◌, ◌-◌, ◌≤◌, ◌<◌}
 use mathlib.Core.Bool.{Bool, true, false, cond, true≢false}
 use mathlib.Core.Path.{◌≡◌, refl, ap, sym, ◌∙◌}
 use mathlib.Core.List.{List, [], ◌∷◌}
@@ -7,8 +7,11 @@ use native.Mathlib.Decide.{dec_lt}
 use native.Mathlib.Omega.{arith}
 use borrow.Author.Tests.{eqb-true}
 use lib.Dec.{eqb}
-use lib.ListN.{length, take, drop, get_or}
-use lib.Seq.{length-take-le, get_or-take, take_at}
+use lib.ListN.{length, take, drop, get_or, length-drop}
+use lib.Seq.{length-take-le, get_or-take, get_or-drop, take_at}
+use Rattle.std.specs.Prelude.{Option, Some, None, is_some}
+use Rattle.std.specs.Bool.{MatchBool}
+use Rattle.std.specs.List.{HoldsAt, AllWithin}
 use Rattle.lists.specs.Lists.{All, elem, times, range, put_front}
 use Rattle.lists.proofs.All.{all_map}
 use Rattle.lists.proofs.Counts.{once_more}
@@ -110,15 +113,6 @@ pub record Sifting (given order : List ℕ) (n low i : ℕ) : Type 0 where
   pub high : (j : ℕ) → j < i → (0 < key_at given order j) × (key_at given order j ≤ low)
   pub up : (j k : ℕ) → j < k → k < i → key_at given order j < key_at given order k
 
-pub sifting_none : (given order : List ℕ) (n : ℕ) → Sifting given order n 0 0
-sifting_none given order n = record {
-  below = omega arith;
-  first = λ e. refl;
-  last = λ j e. absurd (omega arith);
-  high = λ j h. absurd (omega arith);
-  up = λ j k h l. absurd (omega arith);
-}
-
 module _ {given order : List ℕ} {a n low i m : ℕ} (c : Chunk given order a n) (h : i < n) (k : Sifting given order n low i) (e : m ≡ key_at given order i) where
   pub sifting_found : m ≡ low → Sifted given order n true
   sifting_found q = record { found = λ _. go i h k e; above = λ z. absurd (true≢false z); up = λ z. absurd (true≢false z) }
@@ -151,46 +145,44 @@ module _ {given order : List ℕ} {a n low i m : ℕ} (c : Chunk given order a n
       up j p l w (yes x) = k.up j p l x
       up j p l w (no x) = let y : p ≡ i = omega arith in let z = k.high j (omega arith) in rw y (omega (arith, z.1, rise, e))
 
-pub sifting_done : {given order : List ℕ} {n low i : ℕ} → n ≤ i → Sifting given order n low i → Sifted given order n false
-sifting_done {given} {order} {n} {low} {i} h k = record {
-  found = λ z. absurd (true≢false (sym z));
-  above = λ _ j l. (k.high j (omega arith)).0;
-  up = λ _ j p l w. k.up j p l (omega arith);
-}
-
 -- ---- later places
 
-pub record LaterTo (given order : List ℕ) (a n j : ℕ) : Type 0 where
-  pub past : a + n ≤ j
-  pub most : j ≤ length given
-  pub other : (i p : ℕ) → i < n → a + n ≤ p → p < j → key_at given order i ≡ get_or given p 0 → ⊥
+module _ (given order : List ℕ) (n : ℕ) where
+  abbrev pub Has : ℕ → Type 0
+  Has m = (i : ℕ) × (i < n) × (key_at given order i ≡ m)
 
-pub later_start : {given order : List ℕ} {a n : ℕ} → Chunk given order a n → LaterTo given order a n (a + n)
-later_start c = record { past = omega arith; most = c.inside; other = λ i p h k l. absurd (omega arith) }
+  abbrev pub Lacks : ℕ → Type 0
+  Lacks m = (i : ℕ) → i < n → key_at given order i ≡ m → ⊥
 
-module _ {given order : List ℕ} {a n j r : ℕ} (c : Chunk given order a n) (h : j < length given) (k : LaterTo given order a n j) (f : Met given order n (get_or given j 0) r) where
-  pub later_found : r < n → Later given order a n true
-  later_found l = record {
-    found = λ _. taken_twice [] given (get_or order r 0) j (omega (arith, (c.within r l).1, k.past)) h (f.here l);
-    none_later = λ z. absurd (true≢false z);
-  }
+pub has_from_met : (given order : List ℕ) (n m : ℕ) (r : Option ℕ) → Met given order n m r → is_some r ≡ true → Has given order n m
+has_from_met given order n m None f e = absurd (true≢false (sym e))
+has_from_met given order n m (Some i) f e = let h = f.here i refl in (i, h.0, h.1)
 
-  pub later_more : n ≤ r → LaterTo given order a n (j + 1)
-  later_more l = record { past = omega (arith, k.past); most = omega arith; other = λ i p w q m. go i p w q m (dec_lt p j) }
-    where
-      go : (i p : ℕ) → i < n → a + n ≤ p → p < j + 1 → Dec (p < j) → key_at given order i ≡ get_or given p 0 → ⊥
-      go i p w q m (yes x) = k.other i p w q x
-      go i p w q m (no x) = let y : p ≡ j = omega arith in rw y (f.absent l i w)
+pub lacks_from_met : (given order : List ℕ) (n m : ℕ) (r : Option ℕ) → Met given order n m r → is_some r ≡ false → Lacks given order n m
+lacks_from_met given order n m None f e = f.absent refl
+lacks_from_met given order n m (Some i) f e = absurd (true≢false e)
 
-pub later_done : {given order : List ℕ} {a n j : ℕ} → length given ≤ j → LaterTo given order a n j → Later given order a n false
-later_done {given} {order} {a} {n} {j} h k = record { found = λ z. absurd (true≢false (sym z)); none_later = λ _ i p w q m. k.other i p w q (omega arith) }
+pub later : {given order : List ℕ} {a n : ℕ} → Chunk given order a n → (r : Bool)
+    → MatchBool r ((k : ℕ) × (k < length (drop (a + n) given)) × HoldsAt (Has given order n) (drop (a + n) given) k) (AllWithin (Lacks given order n) (drop (a + n) given) 0 (length (drop (a + n) given)))
+    → Later given order a n r
+later {given} {order} {a} {n} c true h = record {
+  found = λ _.
+      let j : ℕ = a + n + h.0 in
+      let l : j < length given = omega (arith, h.1, length-drop (a + n) given) in
+      let w : Has given order n (get_or (drop (a + n) given) h.0 0) = h.2 0 in
+      taken_twice [] given (get_or order w.0 0) j (omega (arith, (c.within w.0 w.1).1)) l (w.2 ∙ get_or-drop (a + n) given h.0 0);
+  none_later = λ z. absurd (true≢false z);
+}
+later {given} {order} {a} {n} c false h = record {
+  found = λ z. absurd (true≢false (sym z));
+  none_later = λ _ i j l m k q.
+      let e : a + n + (j - (a + n)) ≡ j = omega arith in
+      h (j - (a + n)) 0 (omega arith) (omega (arith, length-drop (a + n) given)) i l (q ∙ sym (rw e at (get_or-drop (a + n) given (j - (a + n)) 0)));
+}
 
 -- ---- one chunk
 
 module _ {given order : List ℕ} {a n : ℕ} {x : Bool} (c : Chunk given order a n) (s : Sifted given order n x) where
-  pub checked_early : x ≡ true → Checked given a n true
-  checked_early e = record { found = λ _. s.found e; above = λ z. absurd (true≢false z); once = λ z. absurd (true≢false z) }
-
   pub checked_late : {r : Bool} → x ≡ false → Later given order a n r → Checked given a n r
   checked_late {r} e l = record {
     found = l.found;
@@ -223,24 +215,6 @@ pub record Clear (given : List ℕ) (a : ℕ) : Type 0 where
   pub most : a ≤ length given
   pub above : (p : ℕ) → p < a → get_or given p 0 ≡ 0 → ⊥
   pub once : (p j : ℕ) → p < a → p < j → j < length given → get_or given p 0 ≡ get_or given j 0 → ⊥
-
-pub clear_none : (given : List ℕ) → Clear given 0
-clear_none given = record { most = omega arith; above = λ p h. absurd (omega arith); once = λ p j h. absurd (omega arith) }
-
-module _ {given : List ℕ} {a n : ℕ} {r : Bool} (k : Clear given a) (c : Checked given a n r) where
-  pub clear_found : r ≡ true → true ≡ taken [] given
-  clear_found e = sym (c.found e)
-
-  pub clear_more : a + n ≤ length given → r ≡ false → Clear given (a + n)
-  clear_more h e = record { most = h; above = λ p l. above p l (dec_lt p a); once = λ p j l. once p j l (dec_lt p a) }
-    where
-      above : (p : ℕ) → p < a + n → Dec (p < a) → get_or given p 0 ≡ 0 → ⊥
-      above p l (yes w) = k.above p w
-      above p l (no w) = c.above e p (omega arith) l
-
-      once : (p j : ℕ) → p < a + n → Dec (p < a) → p < j → j < length given → get_or given p 0 ≡ get_or given j 0 → ⊥
-      once p j l (yes w) = k.once p j w
-      once p j l (no w) = c.once e p j (omega arith) l
 
 pub clear_done : {given : List ℕ} {a : ℕ} → length given ≤ a → Clear given a → false ≡ taken [] given
 clear_done {given} h k =

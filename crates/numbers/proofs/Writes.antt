@@ -1,18 +1,17 @@
 -- The loops that write numbers, one a turn. Assumes nothing.
 use Prim.Native.Nat.{ℕ, zero, suc, ◌+◌, ◌≤◌, ◌<◌}
 use mathlib.Core.Bool.{Bool, not, cond}
-use mathlib.Core.Path.{◌≡◌, refl, ap, sym, ◌∙◌}
+use mathlib.Core.Path.{◌≡◌, ap, sym, ◌∙◌}
 use mathlib.Core.List.{List, map}
 use native.Mathlib.Decide.{dec_lt}
 use native.Mathlib.Numerals.{add-one}
 use native.Mathlib.Omega.{arith}
 use lib.Dec.{eqb}
 use lib.ListN.{length, take, drop, get_or, set, length-set, length-map}
-use lib.Seq.{take-suc, take-length, length-take-le, drop-cons, get_or-set_same, get_or-set_other, ext_get_or}
-use Rattle.lists.specs.Lists.{All, range, put_front}
+use lib.Seq.{take-suc, length-take-le, get_or-set_same, get_or-set_other, ext_get_or}
+use Rattle.lists.specs.Lists.{range, put_front}
 use Rattle.lists.proofs.Front.{front_map}
 use Rattle.lists.proofs.Ranges.{length_range}
-use Rattle.lists.proofs.Taking.{left_cons, left_none, taken_at}
 use Rattle.slots.specs.Store.{is_valid}
 use Rattle.numbers.specs.Numbers.{number_of, write_numbers, live_numbers}
 
@@ -22,9 +21,6 @@ pub record Mapped (f : ℕ → ℕ) (xs : List ℕ) (n : ℕ) (l : List ℕ) (i 
   pub below : i ≤ n
   pub list : l' ≡ put_front (map f (take i xs)) l
   pub size : length l' ≡ length l
-
-pub mapped_none : (f : ℕ → ℕ) (xs : List ℕ) (n : ℕ) (l : List ℕ) → Mapped f xs n l 0 l
-mapped_none f xs n l = record { below = omega arith; list = refl; size = refl }
 
 pub mapped_more : (f : ℕ → ℕ) {xs : List ℕ} {n : ℕ} {l : List ℕ} {i : ℕ} {l' : List ℕ} {v : ℕ} → n ≤ length xs → n ≤ length l → i < n → Mapped f xs n l i l' → v ≡ f (get_or xs i 0)
     → Mapped f xs n l (i + 1) (set l' i v)
@@ -38,40 +34,12 @@ mapped_more f {xs} {n} {l} {i} {l'} {v} h k j m e =
       size = length-set l' i v ∙ m.size;
     }
 
-pub mapped_done : {f : ℕ → ℕ} {xs : List ℕ} {n : ℕ} {l : List ℕ} {i : ℕ} {l' : List ℕ} → n ≤ i → Mapped f xs n l i l' → l' ≡ put_front (map f (take n xs)) l
-mapped_done {f} {xs} {n} {l} {i} h m = let e : i ≡ n = omega (arith, m.below) in rw e at m.list
-
--- where all are written
-pub mapped_all : {f : ℕ → ℕ} {xs : List ℕ} {l : List ℕ} {i : ℕ} {l' : List ℕ} → length xs ≤ i → Mapped f xs (length xs) l i l' → l' ≡ put_front (map f xs) l
-mapped_all {f} {xs} {l} h m = mapped_done h m ∙ ap (λ (ys : List ℕ). put_front (map f ys) l) (take-length xs)
-
 -- ---- numbers written to slots
 
 pub record Written (slots given before : List ℕ) (i : ℕ) (numbers : List ℕ) : Type 0 where
   pub below : i ≤ length given
   pub size : length numbers ≡ length before
   pub rest : write_numbers (drop i (take (length given) slots)) (drop i given) numbers ≡ write_numbers (take (length given) slots) given before
-
-pub written_none : (slots given before : List ℕ) → Written slots given before 0 before
-written_none slots given before = record { below = omega arith; size = refl; rest = refl }
-
--- the slot is inside
-pub written_inside : {slots given before : List ℕ} {i : ℕ} {numbers : List ℕ} {s : ℕ} → length given ≤ length slots → All (λ s. s < length before) (take (length given) slots)
-    → i < length given → Written slots given before i numbers → s ≡ get_or slots i 0 → s < length numbers
-written_inside {slots} {given} {before} {i} {numbers} h a k w e =
-    let z : get_or slots i 0 < length before = taken_at (λ s. s < length before) slots (length given) i h a k in
-    omega (arith, w.size, e)
-
-pub written_more : {slots given before : List ℕ} {i : ℕ} {numbers : List ℕ} {s : ℕ} → length given ≤ length slots → i < length given → Written slots given before i numbers → s ≡ get_or slots i 0
-    → Written slots given before (i + 1) (set numbers s (get_or given i 0))
-written_more {slots} {given} {before} {i} {numbers} {s} h k w e = record {
-  below = omega arith;
-  size = length-set numbers s (get_or given i 0) ∙ w.size;
-  rest = rw e (rw (left_cons slots (length given) i h k, drop-cons given i 0 k, ← add-one i) at w.rest);
-}
-
-pub written_done : {slots given before : List ℕ} {i : ℕ} {numbers : List ℕ} → length given ≤ i → Written slots given before i numbers → numbers ≡ write_numbers (take (length given) slots) given before
-written_done {slots} {given} {before} {i} h w = rw (left_none slots (length given) i h) at w.rest
 
 -- ---- 0 for dead slots
 
@@ -96,9 +64,6 @@ pub record Zeroed (marks before : List ℕ) (s : ℕ) (numbers : List ℕ) : Typ
   pub size : length numbers ≡ length before
   pub done : (t : ℕ) → t < s → number_of numbers t ≡ cond (is_valid marks t) (number_of before t) 0
   pub rest : (t : ℕ) → s ≤ t → number_of numbers t ≡ number_of before t
-
-pub zeroed_none : (marks before : List ℕ) → Zeroed marks before 0 before
-zeroed_none marks before = record { size = refl; done = λ t h. absurd (omega arith); rest = λ t h. refl }
 
 pub zeroed_more : {marks before : List ℕ} {s : ℕ} {numbers : List ℕ} {v : ℕ} → s < length numbers → Zeroed marks before s numbers → v ≡ cond (not (eqb (get_or marks s 0) 0)) (get_or numbers s 0) 0
     → Zeroed marks before (s + 1) (set numbers s v)

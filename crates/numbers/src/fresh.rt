@@ -6,7 +6,6 @@ ghost use Rattle.numbers.specs.Inner.Chunks.{Chunk, Sifted, Later, Checked};
 use super::naming::place;
 use super::summary::count_up;
 use super::writing::number_at;
-use slots::marks::wide;
 use sorting::sort;
 
 // Whether two of the chunk's numbers are equal, or one is 0.
@@ -15,14 +14,12 @@ fn equal_or_zero(given: &[u32], order: &[u32], a: usize, n: usize) -> bool
     ensures { Sifted given.now order.now n result }
 {
     let mut low: u32 = 0;
-    let mut i: usize = 0;
-    while i < n {
-        let number = number_at(given, wide(order[i]));
+    for i in 0..n {
+        let number = number_at(given, order[i] as usize);
         if number == low {
             return true;
         }
         low = number;
-        i += 1;
     }
     false
 }
@@ -32,14 +29,9 @@ fn again_later(given: &[u32], order: &[u32], a: usize, n: usize) -> bool
     requires { Chunk given.now order.now a n }
     ensures { Later given.now order.now a n result }
 {
-    let mut j = a + n;
-    while j < given.len() {
-        if place(given, order, n, given[j]) < n {
-            return true;
-        }
-        j += 1;
-    }
-    false
+    given[a + n..]
+        .iter()
+        .any(|number| place(given, order, n, *number).is_some())
 }
 
 // Whether one of the `n` places from `a` on has 0, or a number that stands later again.
@@ -49,31 +41,18 @@ fn chunk_repeats(given: &[u32], order: &mut [u32], a: usize, n: usize) -> bool
 {
     count_up(order, a, n);
     sort(given, order, n);
-    if equal_or_zero(given, order, a, n) {
-        return true;
-    }
-    again_later(given, order, a, n)
-}
-
-// The smaller of two.
-fn least(a: usize, b: usize) -> usize
-    requires { (0 < a) × (0 < b) }
-    ensures { (0 < result) × (result ≤ a) × (result ≤ b) }
-{
-    if a < b {
-        return a;
-    }
-    b
+    equal_or_zero(given, order, a, n) || again_later(given, order, a, n)
 }
 
 // Whether a number is 0 or stands twice; `order` holds the places of one part at a time.
+// Not a `for`: a `step_by` would leave its measure to be proved by hand just as this loop does.
 fn repeated_by(given: &[u32], order: &mut [u32]) -> bool
     requires { (0 < length order.old) × (length given.now ≤ 65536) }
     ensures { result ≡ taken [] given.now }
 {
     let mut a: usize = 0;
     while a < given.len() {
-        let n = least(given.len() - a, order.len());
+        let n = order.len().min(given.len() - a);
         if chunk_repeats(given, order, a, n) {
             return true;
         }

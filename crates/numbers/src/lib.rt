@@ -1,14 +1,14 @@
 // Figure numbers: a number for each slot, and the summary, which names the live slots by rising number.
 #![tactic(auto)]
 
+mod fits;
 mod fresh;
-mod labels;
 mod naming;
 mod summary;
 mod writing;
 
+pub use fits::labels_bad;
 pub use fresh::repeated;
-pub use labels::labels_bad;
-pub use naming::{any_live, slots_of};
+pub use naming::Labels;
 pub use summary::{enter, strike, summarize};
 pub use writing::{copy_numbers, number_at, write_numbers};

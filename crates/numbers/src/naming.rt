@@ -4,68 +4,57 @@ ghost use Rattle.lists.specs.Lists.{put_front};
 ghost use Rattle.sorting.specs.Inner.Places.{Placed, Risen};
 ghost use Rattle.numbers.specs.Numbers.{slot_of};
 ghost use Rattle.numbers.specs.Inner.Chunks.{Met};
-ghost use Rattle.numbers.specs.Inner.Held.{any_in};
+ghost use Rattle.numbers.specs.Inner.Held.{any_in, carrier};
 ghost use Rattle.numbers.specs.Inner.Listed.{Listed};
 
 use super::writing::number_at;
-use slots::marks::wide;
 use slots::rows::BLANK;
 use sorting::below;
 
-// The place of `key` among the first `n` of `order`; `n` where none has it.
-pub fn place(keys: &[u32], order: &[u32], n: usize, key: u32) -> usize
+// The numbers of all slots, and a summary of which the first `live` words name those that carry one, by rising number.
+#[derive(Clone, Copy)]
+pub struct Labels<'a> {
+    pub numbers: &'a [u32],
+    pub summary: &'a [u32],
+    pub live: usize,
+    pub ghost listed: { Listed numbers.now summary.now live },
+}
+
+// The place of `key` among the first `n` of `order`.
+pub fn place(keys: &[u32], order: &[u32], n: usize, key: u32) -> Option<usize>
     requires { Placed keys.now order.now n × Risen keys.now order.now n }
     ensures { Met keys.now order.now n key result }
 {
     let r = below(keys, order, n, key);
-    if n <= r {
-        return n;
-    }
-    if number_at(keys, wide(order[r])) != key {
-        return n;
-    }
-    r
+    (r < n && number_at(keys, order[r] as usize) == key).then_some(r)
 }
 
-// The slot that carries `number`; blank where none does.
-pub fn slot_of(numbers: &[u32], summary: &[u32], live: usize, number: u32) -> u32
-    requires { Listed numbers.now summary.now live }
-    ensures { result ≡ slot_of numbers.now number }
-{
-    if number == 0 {
-        return BLANK;
-    }
-    let i = place(numbers, summary, live, number);
-    if live <= i {
-        return BLANK;
-    }
-    summary[i]
-}
-
-// Writes the slots that `names` name to the front of `slots`.
-pub fn slots_of(numbers: &[u32], summary: &[u32], live: usize, names: &[u32], slots: &mut [u32])
-    requires { Listed numbers.now summary.now live × (length names.now ≤ length slots.old) }
-    ensures { slots.new ≡ put_front (map (slot_of numbers.now) names.now) slots.old }
-{
-    let mut i: usize = 0;
-    while i < names.len() {
-        let s = slot_of(numbers, summary, live, names[i]);
-        slots[i] = s;
-        i += 1;
-    }
-}
-
-// Whether a live slot carries one of the given numbers.
-pub fn any_live(numbers: &[u32], summary: &[u32], live: usize, given: &[u32]) -> bool
-    requires { Listed numbers.now summary.now live }
-    ensures { result ≡ any_in numbers.now given.now }
-{
-    let mut i: usize = 0;
-    while i < given.len() {
-        if slot_of(numbers, summary, live, given[i]) != BLANK {
-            return true;
+impl Labels<'_> {
+    // The slot that carries `number`.
+    fn slot_of(&self, number: u32) -> Option<u32>
+        ensures { result ≡ carrier self.now.numbers.now number }
+    {
+        if number == 0 {
+            return None;
         }
-        i += 1;
+        let i = place(self.numbers, self.summary, self.live, number)?;
+        Some(self.summary[i])
     }
-    false
+
+    // Writes the slots that `names` name to the front of `slots`; blank where none carries the number.
+    pub fn slots_of(&self, names: &[u32], slots: &mut [u32])
+        requires { length names.now ≤ length slots.old }
+        ensures { slots.new ≡ put_front (map (slot_of self.now.numbers.now) names.now) slots.old }
+    {
+        for (i, name) in names.iter().enumerate() {
+            slots[i] = self.slot_of(*name).unwrap_or(BLANK);
+        }
+    }
+
+    // Whether a live slot carries one of the given numbers.
+    pub fn any_live(&self, given: &[u32]) -> bool
+        ensures { result ≡ any_in self.now.numbers.now given.now }
+    {
+        given.iter().any(|number| self.slot_of(*number).is_some())
+    }
 }

@@ -1,12 +1,10 @@
 // The summary written: by making, insert and delete.
-ghost use Rattle.std.specs.Prelude.{◌++◌, ◌≡◌, ◌+◌, ◌-◌, ◌≤◌, length, take, replicate};
-ghost use Rattle.std.proofs.Math.Seq.{paste};
+ghost use Rattle.std.specs.Prelude.{◌≡◌, ◌+◌, ◌≤◌, length};
 ghost use Rattle.lists.specs.Lists.{range, put_front};
-ghost use Rattle.slots.specs.Store.{blank};
 ghost use Rattle.numbers.specs.Inner.Listed.{Apart, Summarized, Entering, Entered, Packed, Struck};
 
 use super::writing::zero_dead;
-use slots::marks::{is_valid, wide};
+use slots::marks::is_valid;
 use slots::rows::BLANK;
 use sorting::{settle, sort};
 
@@ -15,22 +13,8 @@ pub fn count_up(order: &mut [u32], from: usize, n: usize)
     requires { (n ≤ length order.old) × (from + n ≤ 65536) }
     ensures { order.new ≡ put_front (range from n) order.old }
 {
-    let mut i: usize = 0;
-    while i < n {
+    for i in 0..n {
         order[i] = (from + i) as u32;
-        i += 1;
-    }
-}
-
-// Writes blanks from index `at` on.
-fn blank_from(summary: &mut [u32], at: usize)
-    requires { at ≤ length summary.old }
-    ensures { summary.new ≡ take at summary.old ++ replicate (length summary.old - at) blank }
-{
-    let mut i = at;
-    while i < summary.len() {
-        summary[i] = BLANK;
-        i += 1;
     }
 }
 
@@ -40,20 +24,8 @@ pub fn summarize(numbers: &[u32], summary: &mut [u32], count: usize)
     ensures { Summarized numbers.now count summary.new }
 {
     count_up(summary, 0, count);
-    blank_from(summary, count);
+    summary[count..].fill(BLANK);
     sort(numbers, summary, count);
-}
-
-// Writes the first `n` of `slots` from index `at` on.
-fn append(summary: &mut [u32], at: usize, slots: &[u32], n: usize)
-    requires { (at + n ≤ length summary.old) × (n ≤ length slots.now) }
-    ensures { summary.new ≡ paste summary.old at slots.now n }
-{
-    let mut i: usize = 0;
-    while i < n {
-        summary[at + i] = slots[i];
-        i += 1;
-    }
 }
 
 // Enters the first `n` of `slots`, which have their numbers, into the summary of `live` slots.
@@ -61,8 +33,8 @@ pub fn enter(numbers: &[u32], summary: &mut [u32], live: usize, slots: &[u32], n
     requires { Entering numbers.now summary.old live slots.now n }
     ensures { Entered numbers.now summary.old live slots.now n summary.new }
 {
-    append(summary, live, slots, n);
     let end = live + n;
+    summary[live..end].copy_from_slice(&slots[..n]);
     if n <= 16 {
         settle(numbers, summary, live, end);
         return;
@@ -76,14 +48,10 @@ fn keep_live(marks: &[u8], summary: &mut [u32], live: usize) -> usize
     ensures { Packed marks.now summary.old live result summary.new }
 {
     let mut n: usize = 0;
-    let mut i: usize = 0;
-    while i < live {
+    for i in 0..live {
         let s = summary[i];
         summary[n] = s;
-        if is_valid(marks, wide(s)) {
-            n += 1;
-        }
-        i += 1;
+        n += usize::from(is_valid(marks, s as usize));
     }
     n
 }
@@ -95,5 +63,5 @@ pub fn strike(marks: &[u8], numbers: &mut [u32], summary: &mut [u32], live: usiz
 {
     zero_dead(marks, numbers);
     let n = keep_live(marks, summary, live);
-    blank_from(summary, n);
+    summary[n..].fill(BLANK);
 }

@@ -1,10 +1,11 @@
 -- The whole selection: what is selected from, the passes over it, and what is left. Assumes nothing.
-use Prim.Native.Nat.{ℕ, zero, suc, ◌+◌, ◌*◌, ◌≤◌, ◌<◌}
+use Prim.Native.Nat.{ℕ, ◌+◌, ◌*◌, ◌≤◌, ◌<◌}
 use mathlib.Core.Path.{◌≡◌, refl, ap, sym, ◌∙◌}
 use mathlib.Core.Logic.{inl, inr, ⊎_elim}
 use mathlib.Core.Bool.{true}
-use mathlib.Core.List.{List, ◌∷◌}
+use mathlib.Core.List.{List}
 use native.Mathlib.Omega.{arith}
+use Rattle.std.proofs.lemmas.List.{take-replicate}
 use lib.ListN.{length, take, replicate, length-replicate}
 use lib.Ieee.{Float, of_bits, of_int, binary32}
 use Rattle.lists.specs.Lists.{All, filter, sort_by, distinct_by}
@@ -12,6 +13,8 @@ use Rattle.lists.proofs.All.{all_map}
 use Rattle.lists.proofs.Parts.{fits_in}
 use Rattle.candidates.specs.Candidates.{nearer}
 use Rattle.vectors.specs.Distance.{f32}
+use Rattle.vectors.specs.Lent.{HasVector}
+use Rattle.vectors.specs.declared.Space.{Space}
 use Rattle.candidates.specs.Inner.Words.{cands, kept, Left, Holds}
 use Rattle.candidates.proofs.Words.{cands_length}
 use Rattle.candidates.proofs.After.{left_left, left_holds, left_so}
@@ -38,16 +41,11 @@ zero_is : f32 0 ≡ zero_factor
 unfolding f32 of_bits of_int
 zero_is = refl
 
-pub first_factors : (n m : ℕ) (z : Float) → m ≤ n → take m (replicate n z) ≡ replicate m z
-first_factors n zero z h = refl
-first_factors zero (suc m) z h = absurd (omega arith)
-first_factors (suc n) (suc m) z h = ap (λ (l : List Float). z ∷ l) (first_factors n m z (omega arith))
+as_many : (n m : ℕ) (z : Float) → m ≤ n → length (take m (replicate n z)) ≡ m
+as_many n m z h = ap length (take-replicate m n z h) ∙ length-replicate m z
 
-pub as_many : (n m : ℕ) (z : Float) → m ≤ n → length (take m (replicate n z)) ≡ m
-as_many n m z h = ap length (first_factors n m z h) ∙ length-replicate m z
-
-pub given_for : {degree dim : ℕ} {vectors w : List ℕ} {a m to : ℕ} (most : ℕ) (z : Float) → m ≤ most → Given dim vectors w a m → Room degree w a m to
-    → Given dim vectors w a (length (take m (replicate most z))) × Room degree w a (length (take m (replicate most z))) to
+pub given_for : {degree : ℕ} {space : Space} {w : List ℕ} {a m to : ℕ} (most : ℕ) (z : Float) → m ≤ most → Given space w a m → Room degree w a m to
+    → Given space w a (length (take m (replicate most z))) × Room degree w a (length (take m (replicate most z))) to
 given_for {m = m} most z h g r = rw (as_many most m z h) (g, r)
 
 pub picked : {degree : ℕ} {alpha : Float} {d : ℕ → ℕ → ℕ} {w : List ℕ} {a : ℕ} (n : ℕ) {to r : ℕ} {w' : List ℕ} (factors : List Float) → factors ≡ replicate n zero_factor
@@ -62,17 +60,17 @@ picked {degree} {alpha} {d} {w} {a} n {to} {r} {w'} factors e u =
     }
 
 -- ---- from one step to the next
-module _ {degree dim : ℕ} {vectors marks w : List ℕ} {a n to : ℕ} (q : Ready degree dim vectors marks w a n to) (source : ℕ) {m : ℕ} {v : List ℕ}
+module _ {degree : ℕ} (space : Space) {marks w : List ℕ} {a n to : ℕ} (q : Ready degree space.dim space.vectors.now marks w a n to) (source : ℕ) {m : ℕ} {v : List ℕ}
     (f : Left w a n (considered (is_valid marks) source (cands w a n)) m v) where
-  pub still_given : Given dim vectors v a m
+  pub still_given : Given space v a m
   still_given =
       let live = is_valid marks in
       record {
         short = q.short;
         inside = omega (arith, f.within, f.size, q.inside);
         small = left_so (All (λ c. c.dist ≤ 16777216)) f (all_of_given (λ c. c.dist ≤ 16777216) live source (cands w a n) q.small);
-        stored = left_so (All (λ c. c.id * dim + dim ≤ length vectors)) f
-            (all_map (λ c. live c.id ≡ true) (λ c. c.id * dim + dim ≤ length vectors) (λ c e. fits_in dim (length marks) c.id (length vectors) (live_inside marks c.id e) q.bytes)
+        stored = left_so (All (λ c. HasVector space c.id)) f
+            (all_map (λ c. live c.id ≡ true) (λ c. HasVector space c.id) (λ c e. fits_in space.dim (length marks) c.id (length space.vectors.now) (live_inside marks c.id e) q.bytes)
             (considered live source (cands w a n)) (considered_live live source (cands w a n)));
         numbered = left_so (All (λ c. c.id < 65536)) f
             (all_map (λ c. live c.id ≡ true) (λ c. c.id < 65536) (λ c e. omega (arith, live_inside marks c.id e, q.few))

@@ -6,18 +6,19 @@ use mathlib.Core.Bool.{Bool, true, false, cond}
 use mathlib.Core.List.{List, [], ◌∷◌, ◌++◌}
 use native.Mathlib.Numerals.{add-one}
 use native.Mathlib.Omega.{arith}
+use Rattle.std.proofs.lemmas.List.{get_or_default}
 use borrow.Author.Tests.{le-leb, lt-leb}
 use lib.ListN.{length, get_or}
 use lib.Ieee.{Float, binary32, nan, lt, le, of_bits, of_int}
 use Rattle.lists.specs.Lists.{foldl, range}
 use Rattle.candidates.specs.Candidates.{Candidate}
 use Rattle.vectors.specs.Distance.{f32}
+use Rattle.vectors.specs.declared.Space.{Space}
 use Rattle.candidates.specs.Quotient.{largest}
 use Rattle.candidates.specs.Inner.Words.{cand, cands, put, Outside}
 use Rattle.candidates.proofs.Words.{cands_none, cands_at, cands_length, cands_push, cands_kept, put_length, put_outside, outside_none, outside_wide, outside_then}
 use Rattle.prune.specs.Prune.{no_candidate, Selection, thresholds_from, thresholds, raise, select, consider, pass}
 use Rattle.prune.specs.Inner.Selecting.{next_threshold, selection, settled, Given, Room, Considered, Selected}
-use Rattle.prune.proofs.Settling.{other_default}
 
 -- the candidates stay while the room at `to` is written
 pub apart_kept : {degree : ℕ} {w₀ : List ℕ} {a n to : ℕ} → Room degree w₀ a n to → (w w' : List ℕ) → Outside to (2 * degree) w w' → cands w' a n ≡ cands w a n
@@ -94,11 +95,10 @@ module _ (degree : ℕ) (alpha : Float) (d : ℕ → ℕ → ℕ) (c : List Cand
       → consider degree alpha d c t (selection factors l) i
       ≡ cond (lt t (get_or factors i nan)) (selection factors l) (selection (settled alpha d c i factors) (l ++ (get_or c i no_candidate ∷ [])))
   unfolding consider select settled raise
-  consider_below t i factors l h j = rw (lt-leb degree (length l) h, other_default factors i largest nan j)
+  consider_below t i factors l h j = rw (lt-leb degree (length l) h, get_or_default factors i largest nan j)
 
 -- ---- within a pass, from where it began
 pub record Scanning (degree : ℕ) (alpha : Float) (d : ℕ → ℕ → ℕ) (a n to : ℕ) (t : Float) (k : ℕ) (factors₀ : List Float) (w₀ : List ℕ) (m₀ : ℕ) (factors : List Float) (w : List ℕ) (m i : ℕ) : Type 0 where
-  pub bound : i ≤ n
   pub room : m ≤ degree
   pub sizes : length factors ≡ n
   pub size : length w ≡ length w₀
@@ -114,7 +114,6 @@ scanning_none degree alpha d a n to t k factors w m h r e =
     let u : 5 - k ≡ suc (4 - k) = omega arith in
     let z : n - 0 ≡ length c = rw (cands_length w a n) (omega arith) in
     record {
-      bound = omega arith;
       room = r;
       sizes = e;
       size = refl;
@@ -135,7 +134,6 @@ module _ {degree : ℕ} {alpha : Float} {d : ℕ → ℕ → ℕ} {a n to : ℕ}
       let x : consider degree alpha d c t (selection factors (cands w to m)) i ≡ selection factors' (cands w' to r) =
       consider_below degree alpha d c t i factors (cands w to m) l (omega arith) ∙ sym (rw e at g.does) in
       record {
-        bound = omega arith;
         room = omega arith;
         sizes = g.sizes ∙ f.sizes;
         size = g.size ∙ f.size;
@@ -167,7 +165,6 @@ module _ {degree : ℕ} {alpha : Float} {d : ℕ → ℕ → ℕ} {a n to : ℕ}
 
 -- ---- between passes
 pub record Passing (degree : ℕ) (alpha : Float) (d : ℕ → ℕ → ℕ) (a n to : ℕ) (factors₀ : List Float) (w₀ : List ℕ) (factors : List Float) (w : List ℕ) (m : ℕ) (t : Float) (k : ℕ) : Type 0 where
-  pub bound : k ≤ 5
   pub room : m ≤ degree
   pub sizes : length factors ≡ n
   pub size : length w ≡ length w₀
@@ -176,7 +173,7 @@ pub record Passing (degree : ℕ) (alpha : Float) (d : ℕ → ℕ → ℕ) (a n
 
 pub passing_none : (degree : ℕ) (alpha : Float) (d : ℕ → ℕ → ℕ) (a n to : ℕ) (factors : List Float) (w : List ℕ) (t : Float) → t ≡ f32 1 → length factors ≡ n → Passing degree alpha d a n to factors w factors w 0 t 0
 passing_none degree alpha d a n to factors w t u e =
-    record { bound = omega arith; room = omega arith; sizes = e; size = refl; same = outside_none to (2 * degree) w; goes = rw (u, left_all alpha, cands_none w to 0 refl) }
+    record { room = omega arith; sizes = e; size = refl; same = outside_none to (2 * degree) w; goes = rw (u, left_all alpha, cands_none w to 0 refl) }
 
 module _ {degree : ℕ} {alpha : Float} {d : ℕ → ℕ → ℕ} {a n to : ℕ} {factors₀ : List Float} {w₀ : List ℕ} {factors₁ : List Float} {w₁ : List ℕ} {m₁ : ℕ} {t : Float} {k : ℕ}
     (g : Passing degree alpha d a n to factors₀ w₀ factors₁ w₁ m₁ t k) where
@@ -197,7 +194,7 @@ module _ {degree : ℕ} {alpha : Float} {d : ℕ → ℕ → ℕ} {a n to : ℕ}
 
     pub passing_more : {t' : Float} → k < 5 → n ≤ i → le alpha t ≡ false → t' ≡ next_threshold alpha t → Passing degree alpha d a n to factors₀ w₀ factors w m t' (k + 1)
     passing_more {t'} l h e q =
-        record { bound = omega arith; room = f.room; sizes = f.sizes; size = f.size ∙ g.size; same = u; goes = rw e₁ at (scanning_next f t' h e q) ∙ g.goes }
+        record { room = f.room; sizes = f.sizes; size = f.size ∙ g.size; same = u; goes = rw e₁ at (scanning_next f t' h e q) ∙ g.goes }
 
     pub passing_full : m ≡ degree → Selected degree alpha d factors₀ w₀ a n to m w
     passing_full e = selected {factors = factors} f.room (f.size ∙ g.size) u (rw e₁ at (scanning_full f e) ∙ g.goes)
@@ -206,9 +203,9 @@ module _ {degree : ℕ} {alpha : Float} {d : ℕ → ℕ → ℕ} {a n to : ℕ}
     passing_last h e = selected {factors = factors} f.room (f.size ∙ g.size) u (rw e₁ at (scanning_last f h e) ∙ g.goes)
 
     -- the next candidate can be considered
-    pub passing_given : {dim : ℕ} {vectors : List ℕ} → Given dim vectors w₀ a n → i < n → (m ≡ degree → ⊥) → to + 2 * degree ≤ length w₀
-        → Given dim vectors w a (length factors) × (i < length factors) × (to + 2 * m + 1 < length w)
-    passing_given {dim} {vectors} q h l r =
+    pub passing_given : {space : Space} → Given space w₀ a n → i < n → (m ≡ degree → ⊥) → to + 2 * degree ≤ length w₀
+        → Given space w a (length factors) × (i < length factors) × (to + 2 * m + 1 < length w)
+    passing_given q h l r =
         let s : cands w a (length factors) ≡ cands w₀ a n = ap (λ (z : ℕ). cands w a z) f.sizes ∙ apart_kept p w₀ w u in (
           record { short = q.short; inside = omega (arith, f.sizes, f.size, g.size, q.inside); small = rw s q.small; stored = rw s q.stored; numbered = rw s q.numbered },
           omega (arith, f.sizes),

@@ -1,15 +1,18 @@
 -- A candidate is taken: the factors after it are raised, one after the other. Assumes nothing.
-use Prim.Native.Nat.{ℕ, zero, suc, ◌+◌, ◌-◌, ◌*◌, ◌≤◌, ◌<◌}
+use Prim.Native.Nat.{ℕ, suc, ◌+◌, ◌-◌, ◌*◌, ◌≤◌, ◌<◌}
 use mathlib.Core.Path.{◌≡◌, refl, sym, ◌∙◌}
 use mathlib.Core.Bool.{Bool, true, false, cond}
-use mathlib.Core.List.{List, [], ◌∷◌}
+use mathlib.Core.List.{List}
 use native.Mathlib.Numerals.{add-one}
 use native.Mathlib.Omega.{arith}
+use Rattle.std.proofs.lemmas.List.{get_or_default}
 use lib.ListN.{length, get_or, set, length-set}
 use lib.Seq.{set-get_or}
 use lib.Ieee.{Float, nan, lt}
 use Rattle.lists.specs.Lists.{foldl, range}
 use Rattle.vectors.specs.Space.{Measured}
+use Rattle.vectors.specs.Lent.{HasVector}
+use Rattle.vectors.specs.declared.Space.{Space}
 use Rattle.candidates.specs.Candidates.{Candidate}
 use Rattle.candidates.specs.Quotient.{largest, fmax, quotient}
 use Rattle.candidates.specs.Inner.Words.{cand, cands}
@@ -29,26 +32,20 @@ unfolding raised_factor
 raised_to alpha own {d} {pair} f {r} {q} e n g h = rw (e, ← n.equals, ← g) h
 
 -- ---- all of those after the one taken
-pub other_default : {A : Type 0} (l : List A) (i : ℕ) (d e : A) → i < length l → get_or l i d ≡ get_or l i e
-other_default [] i d e h = absurd (omega arith)
-other_default (x ∷ l) zero d e h = refl
-other_default (x ∷ l) (suc i) d e h = other_default l i d e (omega arith)
-
 module _ (alpha : Float) (d : ℕ → ℕ → ℕ) (w : List ℕ) (a n : ℕ) (x : Candidate) where
   -- from factors₀ and j₀ on, those before j are raised
   pub record Raising (factors₀ : List Float) (j₀ : ℕ) (factors : List Float) (j : ℕ) : Type 0 where
-    pub bound : j ≤ n
     pub size : length factors ≡ n
     pub goes : foldl (raise 0 alpha d (cands w a n) x) factors (range j (n - j)) ≡ foldl (raise 0 alpha d (cands w a n) x) factors₀ (range j₀ (n - j₀))
 
-  pub raising_none : (factors : List Float) (j : ℕ) → j ≤ n → length factors ≡ n → Raising factors j factors j
-  raising_none factors j h e = record { bound = h; size = e; goes = refl }
+  pub raising_none : (factors : List Float) (j : ℕ) → length factors ≡ n → Raising factors j factors j
+  raising_none factors j e = record { size = e; goes = refl }
 
   one : (factors : List Float) (j : ℕ) → j < n → length factors ≡ n
       → raise 0 alpha d (cands w a n) x factors j
       ≡ set factors j (raised_factor alpha (cand w (a + 2 * j)).dist (d (cand w (a + 2 * j)).id x.id) (get_or factors j nan))
   unfolding raise raised_factor
-  one factors j h e = rw (cands_at w a n j h, other_default factors j largest nan (omega arith)) (go (lt alpha (get_or factors j nan)) _)
+  one factors j h e = rw (cands_at w a n j h, get_or_default factors j largest nan (omega arith)) (go (lt alpha (get_or factors j nan)) _)
     where
       go : (b : Bool) (y : Float) → cond b factors (set factors j y) ≡ set factors j (cond b (get_or factors j nan) y)
       go true y = sym (set-get_or factors j nan)
@@ -61,7 +58,6 @@ module _ {alpha : Float} {d : ℕ → ℕ → ℕ} {w : List ℕ} {a n : ℕ} {x
   raising_more {own} {s} {y} {r} h o i z e =
       let k : n - j ≡ suc (n - (j + 1)) = omega arith in
       record {
-        bound = omega arith;
         size = length-set factors j r ∙ f.size;
         goes = rw (e, o, i, z, ← one alpha d w a n x factors j h f.size, add-one j) (rw (k, add-one j) at f.goes);
       }
@@ -74,12 +70,12 @@ raising_done {alpha} {d} {w} {a} {n} {i} factors₀ {factors} {j} h l f =
     rw (cands_at w a n i h, cands_length w a n, ← add-one i) (rw k at f.goes)
 
 -- ---- what the candidates are asked
-module _ {dim : ℕ} {vectors w : List ℕ} {a n : ℕ} (g : Given dim vectors w a n) {k : ℕ} (h : k < n) where
+module _ {space : Space} {w : List ℕ} {a n : ℕ} (g : Given space w a n) {k : ℕ} (h : k < n) where
   pub given_small : {own : ℕ} → own ≡ (cand w (a + 2 * k)).dist → own ≤ 16777216
   given_small e = rw e (cands_each (λ c. c.dist ≤ 16777216) w a n g.small k h)
 
-  pub given_stored : {s : ℕ} → s ≡ (cand w (a + 2 * k)).id → s * dim + dim ≤ length vectors
-  given_stored e = rw e (cands_each (λ c. c.id * dim + dim ≤ length vectors) w a n g.stored k h)
+  pub given_stored : {s : ℕ} → s ≡ (cand w (a + 2 * k)).id → HasVector space s
+  given_stored e = rw e (cands_each (λ c. HasVector space c.id) w a n g.stored k h)
 
   pub given_numbered : {s : ℕ} → s ≡ (cand w (a + 2 * k)).id → s < 65536
   given_numbered e = rw e (cands_each (λ c. c.id < 65536) w a n g.numbered k h)

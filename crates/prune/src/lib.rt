@@ -2,22 +2,27 @@
 #![tactic(auto)]
 
 ghost use Rattle.std.specs.Prelude.{◌≡◌, ◌+◌, ◌*◌, ◌<◌, ◌≤◌, length};
-ghost use Rattle.vectors.specs.Space.{slot_distance, space};
-ghost use Rattle.distances.specs.Inner.Kept.{Kept};
+ghost use Rattle.vectors.specs.Space.{slot_distance};
+ghost use Rattle.vectors.specs.Lent.{space_of, HasVector};
 ghost use Rattle.candidates.specs.Quotient.{fmax, fmin};
 ghost use Rattle.candidates.specs.Inner.Words.{cands, Left};
 ghost use Rattle.slots.specs.Store.{is_valid};
 ghost use Rattle.prune.specs.Prune.{considered};
 ghost use Rattle.prune.specs.Inner.Selecting.{next_threshold, raised_factor, settled, Given, Considered, Room, Selected, Picked, Ready, Pruned};
 
-// The larger of two factors.
+use distances::Kept;
+
+// How many passes there are at most: `five_passes` shows that alpha is reached by then.
+const PASSES: usize = 5;
+
+// The larger of two factors. `f32::max` says less: at a NaN it gives the other one, and of 0.0 and -0.0 it leaves open which.
 fn larger(x: f32, y: f32) -> f32
     ensures { result ≡ fmax x y }
 {
     if x < y { y } else { x }
 }
 
-// The smaller of two factors.
+// The smaller of two factors; `f32::min` says less, likewise.
 fn smaller(x: f32, y: f32) -> f32
     ensures { result ≡ fmin x y }
 {
@@ -32,58 +37,50 @@ fn following(t: f32, alpha: f32) -> f32
 }
 
 // The factor `f` of slot `x`, whose candidate has the distance `own`, once slot `y` is taken.
-fn raised(
+fn raised<const N: usize>(
     f: f32,
     alpha: f32,
     own: u32,
-    dim: usize,
-    vectors: &[u8],
-    kept: &mut [u32],
+    kept: &mut Kept<'_, N>,
     x: u32,
     y: u32,
 ) -> f32
-    requires { (own ≤ 16777216) × (x * dim + dim ≤ length vectors.now) × (y * dim + dim ≤ length vectors.now) × (dim ≤ 256) × (x < 65536) × (y < 65536) × Kept dim vectors.now kept.old }
-    ensures { (result ≡ raised_factor alpha own (slot_distance (space dim vectors.now) x y) f) × Kept dim vectors.now kept.new }
+    requires { (own ≤ 16777216) × HasVector kept.old.space x × HasVector kept.old.space y × (kept.old.space.dim ≤ 256) × (x < 65536) × (y < 65536) }
+    ensures { (result ≡ raised_factor alpha own (slot_distance (space_of kept.old.space) x y) f) × (kept.new.space ≡ kept.old.space) }
 {
     if f > alpha {
         return f;
     }
-    let pair = distances::kept_distance(dim, vectors, kept, x, y);
+    let pair = kept.slot_distance(x, y);
     larger(f, candidates::quotient(own, pair))
 }
 
 // Candidate `i` of those at `a` is taken: its factor becomes the largest, and those after it are raised.
-fn settle(
+fn settle<const N: usize>(
     alpha: f32,
-    dim: usize,
-    vectors: &[u8],
-    kept: &mut [u32],
+    kept: &mut Kept<'_, N>,
     factors: &mut [f32],
     words: &[u32],
     a: usize,
     i: usize,
 )
-    requires { Given dim vectors.now words.now a (length factors.old) × (i < length factors.old) × Kept dim vectors.now kept.old }
-    ensures { (factors.new ≡ settled alpha (slot_distance (space dim vectors.now)) (cands words.now a (length factors.old)) i factors.old) × Kept dim vectors.now kept.new }
+    requires { Given kept.old.space words.now a (length factors.old) × (i < length factors.old) }
+    ensures { (factors.new ≡ settled alpha (slot_distance (space_of kept.old.space)) (cands words.now a (length factors.old)) i factors.old) × (kept.new.space ≡ kept.old.space) }
 {
     let n = factors.len();
     let y = candidates::id_at(words, a, i);
     factors[i] = candidates::LARGEST;
-    let mut j = i + 1;
-    while j < n {
+    for j in i + 1..n {
         let own = candidates::dist_at(words, a, j);
         let x = candidates::id_at(words, a, j);
-        factors[j] = raised(factors[j], alpha, own, dim, vectors, kept, x, y);
-        j += 1;
+        factors[j] = raised(factors[j], alpha, own, kept, x, y);
     }
 }
 
 // Candidate `i` is taken unless its factor is above the threshold. Returns how many are taken.
-fn consider(
+fn consider<const N: usize>(
     alpha: f32,
-    dim: usize,
-    vectors: &[u8],
-    kept: &mut [u32],
+    kept: &mut Kept<'_, N>,
     factors: &mut [f32],
     words: &mut [u32],
     a: usize,
@@ -92,14 +89,14 @@ fn consider(
     m: usize,
     threshold: f32,
 ) -> usize
-    requires { Given dim vectors.now words.old a (length factors.old) × (i < length factors.old) × (to + 2 * m + 1 < length words.old) × Kept dim vectors.now kept.old }
-    ensures { Considered alpha (slot_distance (space dim vectors.now)) (cands words.old a (length factors.old)) threshold i
-        factors.old words.old to m factors.new words.new result × Kept dim vectors.now kept.new }
+    requires { Given kept.old.space words.old a (length factors.old) × (i < length factors.old) × (to + 2 * m + 1 < length words.old) }
+    ensures { Considered alpha (slot_distance (space_of kept.old.space)) (cands words.old a (length factors.old)) threshold i
+        factors.old words.old to m factors.new words.new result × (kept.new.space ≡ kept.old.space) }
 {
     if factors[i] > threshold {
         return m;
     }
-    settle(alpha, dim, vectors, kept, factors, words, a, i);
+    settle(alpha, kept, factors, words, a, i);
     let dist = candidates::dist_at(words, a, i);
     let id = candidates::id_at(words, a, i);
     candidates::put(words, to + 2 * m, dist, id);
@@ -107,71 +104,52 @@ fn consider(
 }
 
 // The passes over as many candidates at `a` as there are factors. Returns how many are taken; they lie at `to`.
-fn select(
+// Both loops stand here, since they end together, by a label.
+fn select<const N: usize>(
     degree: usize,
     alpha: f32,
-    dim: usize,
-    vectors: &[u8],
-    kept: &mut [u32],
+    kept: &mut Kept<'_, N>,
     factors: &mut [f32],
     words: &mut [u32],
     a: usize,
     to: usize,
 ) -> usize
-    requires { Given dim vectors.now words.old a (length factors.old) × Room degree words.old a (length factors.old) to × Kept dim vectors.now kept.old }
-    ensures { Selected degree alpha (slot_distance (space dim vectors.now)) factors.old words.old a (length factors.old) to result words.new × Kept dim vectors.now kept.new }
+    requires { Given kept.old.space words.old a (length factors.old) × Room degree words.old a (length factors.old) to }
+    ensures { Selected degree alpha (slot_distance (space_of kept.old.space)) factors.old words.old a (length factors.old) to result words.new × (kept.new.space ≡ kept.old.space) }
 {
     let n = factors.len();
     let mut m: usize = 0;
     let mut threshold: f32 = 1.0;
-    let mut pass: u32 = 0;
-    'passes: while pass < 5 {
-        let mut i: usize = 0;
-        while i < n {
+    'passes: for _ in 0..PASSES {
+        for i in 0..n {
             if m == degree {
                 break 'passes;
             }
-            m = consider(
-                alpha, dim, vectors, kept, factors, words, a, i, to, m, threshold,
-            );
-            i += 1;
+            m = consider(alpha, kept, factors, words, a, i, to, m, threshold);
         }
         if threshold >= alpha {
             break;
         }
         threshold = following(threshold, alpha);
-        pass += 1;
     }
     m
 }
 
 // Selects from the `n` candidates at `a`, 750 at most. Returns how many are taken; they lie at `to`.
-fn pick(
+fn pick<const N: usize>(
     degree: usize,
     alpha: f32,
-    dim: usize,
-    vectors: &[u8],
-    kept: &mut [u32],
+    kept: &mut Kept<'_, N>,
     words: &mut [u32],
     a: usize,
     n: usize,
     to: usize,
 ) -> usize
-    requires { Given dim vectors.now words.old a n × Room degree words.old a n to × (n ≤ 750) × Kept dim vectors.now kept.old }
-    ensures { Picked degree alpha (slot_distance (space dim vectors.now)) words.old a n to result words.new × Kept dim vectors.now kept.new }
+    requires { Given kept.old.space words.old a n × Room degree words.old a n to × (n ≤ 750) }
+    ensures { Picked degree alpha (slot_distance (space_of kept.old.space)) words.old a n to result words.new × (kept.new.space ≡ kept.old.space) }
 {
     let mut factors = [0.0f32; 750];
-    select(
-        degree,
-        alpha,
-        dim,
-        vectors,
-        kept,
-        &mut factors[..n],
-        words,
-        a,
-        to,
-    )
+    select(degree, alpha, kept, &mut factors[..n], words, a, to)
 }
 
 // What is selected from: no source, no dead slot, by distance, each slot's first, 750 at most. Returns how many are left.
@@ -186,12 +164,10 @@ fn prepare(marks: &[u8], source: u32, words: &mut [u32], a: usize, n: usize) -> 
 
 // Selects the neighbours of slot `source` from the `n` candidates at `a`, which it rearranges. Returns how many they are; they lie at `to`. Distances
 // that the table `kept` has are read there.
-pub fn prune_scored(
+pub fn prune_scored<const N: usize>(
     degree: usize,
     alpha: f32,
-    dim: usize,
-    vectors: &[u8],
-    kept: &mut [u32],
+    kept: &mut Kept<'_, N>,
     marks: &[u8],
     source: u32,
     scratch: &mut [u32],
@@ -199,9 +175,9 @@ pub fn prune_scored(
     n: usize,
     to: usize,
 ) -> usize
-    requires { Ready degree dim vectors.now marks.now scratch.old a n to × Kept dim vectors.now kept.old }
-    ensures { Pruned degree alpha (is_valid marks.now) (slot_distance (space dim vectors.now)) source scratch.old a n to result scratch.new × Kept dim vectors.now kept.new }
+    requires { Ready degree kept.old.space.dim kept.old.space.vectors.now marks.now scratch.old a n to }
+    ensures { Pruned degree alpha (is_valid marks.now) (slot_distance (space_of kept.old.space)) source scratch.old a n to result scratch.new × (kept.new.space ≡ kept.old.space) }
 {
     let m = prepare(marks, source, scratch, a, n);
-    pick(degree, alpha, dim, vectors, kept, scratch, a, m, to)
+    pick(degree, alpha, kept, scratch, a, m, to)
 }

@@ -19,6 +19,8 @@ use Rattle.candidates.specs.Candidates.{Candidate, ids}
 use Rattle.vectors.specs.Distance.{f32}
 use Rattle.candidates.specs.Inner.Words.{cand, cands, Small}
 use Rattle.candidates.proofs.Words.{cands_none, cands_length, cands_snoc, cands_each, cands_take}
+use Rattle.vectors.specs.Vector.{Bytes}
+use Rattle.slots.specs.Inner.Rows.{RowShape}
 use Rattle.slots.specs.Store.{store_view, store_ops, arrays}
 use Rattle.numbers.specs.Numbers.{number_of}
 use Rattle.walk.specs.Walk.{search_pool}
@@ -172,12 +174,13 @@ module _ (index : Index) (s : Slices) (a : Search) (slots : List ℕ) (dists : L
     unfolding size_answer
     words = let h = ltb-false (length scratch) (size_answer index.capacity) own.1 in omega (arith, h, passed_marks able)
 
+    pub search_lent : Bytes index.dim (length s.marks) s.vectors × RowShape index.degree s.targets s.edges s.versions s.marks
+    search_lent = (passed_bytes able, passed_rows able)
+
     pub search_ready : Ready (arrays index.dim index.degree s.vectors s.targets s.edges s.versions s.marks) a.query index.entry a.beam scratch
     search_ready =
-        let bytes = passed_bytes able in
-        let same = eqb-true (length a.query) index.dim (not-false _ (not_wrong index s numbered d z)) in
         record {
-          lent = record { vectors = record { vectors_long = bytes.long; dim_most = bytes.small; query_long = same }; rows = passed_rows able };
+          query_long = eqb-true (length a.query) index.dim (not-false _ (not_wrong index s numbered d z));
           start_inside = rw (passed_marks able) able.entry_inside;
           beam_most = beam_most;
           room = words;

@@ -11,8 +11,7 @@ use lib.Seq.{take-nil}
 use Rattle.lists.specs.Lists.{filter, part as part_of}
 use Rattle.slots.specs.Store.{blank, is_valid, current, refs_of, vector_of, store_view, store_ops, arrays}
 use Rattle.slots.specs.Inner.Rows.{RowShape, ref_at, live_from, LiveVector}
-use Rattle.slots.specs.declared.rows.Ref.{Ref}
-use Rattle.slots.specs.declared.rows.Ref.TheVariants.{At, Dead}
+use Rattle.std.specs.Prelude.{Option, Some, None}
 use Rattle.slots.proofs.Places.{live_from_whole, live_from_end, live_from_at, live_from_dead}
 use Rattle.numbers.specs.Numbers.{number_of}
 use Rattle.index.specs.declared.Index.{Index}
@@ -55,15 +54,15 @@ pub finding_none : (degree : ℕ) (targets edges versions marks : List ℕ) (s p
 finding_none degree targets edges versions marks s place =
     record { below = omega arith; rest = ap (λ l. get_or l place blank) (live_from_whole (arrays 0 degree [] targets edges versions marks) s) }
 
-module _ {degree : ℕ} {targets edges versions marks : List ℕ} {s place left at : ℕ} {r : Ref} (f : RowShape degree targets edges versions marks) (hs : s < length marks) (ha : at < degree)
+module _ {degree : ℕ} {targets edges versions marks : List ℕ} {s place left at : ℕ} {r : Option ℕ} (f : RowShape degree targets edges versions marks) (hs : s < length marks) (ha : at < degree)
     (e : (dim : ℕ) (vectors : List ℕ) → r ≡ ref_at (arrays dim degree vectors targets edges versions marks) s at) (k : Finding degree targets edges versions marks s place left at) where
-  pub finding_dead : r ≡ Dead → Finding degree targets edges versions marks s place left (at + 1)
+  pub finding_dead : r ≡ None → Finding degree targets edges versions marks s place left (at + 1)
   finding_dead h = record {
     below = omega arith;
     rest = ap (λ l. get_or l left blank) (sym (live_from_dead (arrays 0 degree [] targets edges versions marks) f s at hs ha (e 0 []) h)) ∙ k.rest;
   }
 
-  module _ {t : ℕ} (h : r ≡ At t) where
+  module _ {t : ℕ} (h : r ≡ Some t) where
     pub finding_more : (left ≡ 0 → ⊥) → Finding degree targets edges versions marks s place (left - 1) (at + 1)
     finding_more n = record {
       below = omega arith;

@@ -11,8 +11,10 @@ use super::{Reading, Value};
 use index::refusals::index_refusal;
 use index::{Index, Lengths};
 use numbers::number_at;
+use slots::Rows;
 use slots::marks::{is_valid, live_vector, node_version};
-use slots::rows::{BLANK, Ref, live_at};
+use slots::rows::BLANK;
+use vectors::Space;
 
 // The mark of slot `s`: 1 for any byte but 0.
 fn mark(marks: &[u8], s: u32) -> u32
@@ -40,11 +42,18 @@ fn target(
     if marks.len() <= s {
         return BLANK;
     }
+    let rows = Rows {
+        degree,
+        targets,
+        edges,
+        versions,
+        marks,
+    };
     let mut left = place;
     let mut at: usize = 0;
     while at < degree {
-        let found = live_at(degree, targets, edges, versions, marks, s, at);
-        if let Ref::At(t) = found {
+        let found = rows.live_at(s, at);
+        if let Some(t) = found {
             if left == 0 {
                 return t;
             }
@@ -146,6 +155,9 @@ pub fn read_vector<'a>(
     if r != 0 {
         return &vectors[0..0];
     }
-    let dim = index.dim as usize;
-    live_vector(dim, vectors, marks, slot as usize)
+    let space = Space {
+        dim: index.dim as usize,
+        vectors,
+    };
+    live_vector(&space, marks, slot as usize)
 }

@@ -1,7 +1,9 @@
 // Search.
 ghost use Rattle.std.specs.Prelude.{not, ◌||◌, ◌≡◌, min, eqb, ltb, length};
 ghost use Rattle.slots.specs.Sizes.{limits, slices};
+ghost use Rattle.vectors.specs.Vector.{Bytes};
 ghost use Rattle.slots.specs.Store.{arrays};
+ghost use Rattle.slots.specs.Inner.Rows.{RowShape};
 ghost use Rattle.walk.specs.Inner.Scratch.{Ready, Pool};
 ghost use Rattle.index.specs.Index.{lengths_in};
 ghost use Rattle.index.specs.Inner.Deciding.{labels, Decided};
@@ -13,8 +15,9 @@ use candidates::{Candidate, dist_at, id_at};
 use index::refusals::{index_refusal, scratch_short};
 use index::{Index, Lengths};
 use numbers::copy_numbers;
-use slots::limits;
 use slots::marks::wide;
+use slots::{Graph, Rows, limits};
+use vectors::Space;
 
 // Row 7: the beam is over its limit, or more are asked for than an output holds.
 fn search_over(k: u32, beam: u32, slots: usize, dists: usize, numbers: usize) -> bool
@@ -101,22 +104,24 @@ fn walk_from_entry(
     beam: u32,
     scratch: &mut [u32],
 ) -> usize
-    requires { Ready (arrays index.dim index.degree vectors.now targets.now edges.now versions.now marks.now) query.now index.entry beam scratch.old }
+    requires lent { Bytes index.dim (length marks.now) vectors.now × RowShape index.degree targets.now edges.now versions.now marks.now }
+    requires ready { Ready (arrays index.dim index.degree vectors.now targets.now edges.now versions.now marks.now) query.now index.entry beam scratch.old }
     ensures { Pool (arrays index.dim index.degree vectors.now targets.now edges.now versions.now marks.now) query.now index.entry beam scratch.old scratch.new result }
 {
-    walk::search_pool(
-        index.dim as usize,
-        index.degree as usize,
-        vectors,
-        targets,
-        edges,
-        versions,
-        marks,
-        query,
-        index.entry,
-        beam as usize,
-        scratch,
-    )
+    let graph = Graph {
+        space: Space {
+            dim: index.dim as usize,
+            vectors,
+        },
+        rows: Rows {
+            degree: index.degree as usize,
+            targets,
+            edges,
+            versions,
+            marks,
+        },
+    };
+    walk::search_pool(&graph, query, index.entry, beam as usize, scratch)
 }
 
 // The `k` nearest that the walk from the entry finds: their slots, distances and figure numbers, nearest first.

@@ -7,16 +7,16 @@ use lib.ListN.{length}
 use lib.Ieee.{Float}
 use Rattle.lists.proofs.All.{all_append}
 use Rattle.lists.proofs.Parts.{fits_in}
+use Rattle.vectors.specs.Vector.{Bytes}
 use Rattle.vectors.specs.Space.{slot_distance, space, Measured}
 use Rattle.candidates.specs.Candidates.{scored}
 use Rattle.candidates.specs.Inner.Words.{pair, cands, put, Small, Outside}
 use Rattle.candidates.proofs.Words.{cands_push, put_length, outside_none, outside_put}
 use Rattle.slots.specs.Store.{Arrays, vector_of, store_view}
-use Rattle.slots.specs.Inner.Rows.{ref_at, live_from}
-use Rattle.slots.specs.declared.rows.Ref.{Ref}
-use Rattle.slots.specs.declared.rows.Ref.TheVariants.{At, Dead}
+use Rattle.slots.specs.Inner.Rows.{RowShape, ref_at, live_from}
+use Rattle.std.specs.Prelude.{Option, Some, None}
 use Rattle.slots.proofs.Places.{live_from_whole, live_from_end, live_from_at, live_from_dead, ref_inside}
-use Rattle.row.specs.Row.{Together, index_of, live_scored, LiveScored}
+use Rattle.row.specs.Row.{index_of, live_scored, LiveScored}
 
 -- the distance of two slots of lent bytes
 abbrev between : Arrays → ℕ → ℕ → ℕ
@@ -41,21 +41,17 @@ unfolding slot_distance space store_view vector_of
 view_scored a s alpha entry = ap (scored (between a s)) (live_from_whole a s)
 
 module _ {a : Arrays} {s : ℕ} {w₀ : List ℕ} {at : ℕ} {w : List ℕ} {n place : ℕ} (f : Scoring a s w₀ at w n place) where
-  -- z is s as an index
-  module _ (o : Together a) (h : s < length a.marks) (k : place < a.degree) {z : ℕ} (y : z ≡ s) {r : Ref} (e : r ≡ ref_at a z place) where
-    pub scoring_near : {t x : ℕ} → r ≡ At t → x ≡ t
-        → (z * a.dim + a.dim ≤ length a.vectors) × (x * a.dim + a.dim ≤ length a.vectors) × (a.dim ≤ 256)
-    scoring_near {t} {x} q i =
-        let j : x < length a.marks = rw i (ref_inside a z place e q) in
-        (fits_in a.dim (length a.marks) z (length a.vectors) (rw y h) o.bytes.long, fits_in a.dim (length a.marks) x (length a.vectors) j o.bytes.long, o.bytes.small)
+  module _ (o : RowShape a.degree a.targets a.edges a.versions a.marks) (h : s < length a.marks) (k : place < a.degree) {r : Option ℕ} (e : r ≡ ref_at a s place) where
+    pub scoring_near : {t : ℕ} → Bytes a.dim (length a.marks) a.vectors → r ≡ Some t
+        → (s * a.dim + a.dim ≤ length a.vectors) × (t * a.dim + a.dim ≤ length a.vectors) × (a.dim ≤ 256)
+    scoring_near {t} b q =
+        (fits_in a.dim (length a.marks) s (length a.vectors) h b.long, fits_in a.dim (length a.marks) t (length a.vectors) (ref_inside a s place e q) b.long, b.small)
 
-    pub scoring_live : {t x d : ℕ} → r ≡ At t → x ≡ t → Measured (between a z x) d → at + 2 * a.degree ≤ length w₀
-        → Scoring a s w₀ at (put w (at + 2 * n) d t) (n + 1) (place + 1)
-    scoring_live {t} {x} {d} q i m l =
+    pub scoring_live : {t d : ℕ} → r ≡ Some t → Measured (between a s t) d → at + 2 * a.degree ≤ length w₀ → Scoring a s w₀ at (put w (at + 2 * n) d t) (n + 1) (place + 1)
+    scoring_live {t} {d} q m l =
         let p : cands (put w (at + 2 * n) d t) at (n + 1) ≡ cands w at n ++ (pair d t ∷ []) = cands_push w d t at n (omega (arith, f.size, f.few)) in
-        let c : d ≡ between a s t = rw (y, i) at m.equals in
         record {
-          goes = rw (p, append_assoc, c) (rw (live_from_at a o.rows s place h k (rw y at e) q) at f.goes);
+          goes = rw (p, append_assoc, m.equals) (rw (live_from_at a o s place h k e q) at f.goes);
           few = omega (arith, f.few);
           bound = omega arith;
           small = rw p (all_append (λ x. x.dist ≤ 16777216) (cands w at n) (pair d t ∷ []) f.small (omega (arith, m.bound), tt));
@@ -63,10 +59,10 @@ module _ {a : Arrays} {s : ℕ} {w₀ : List ℕ} {at : ℕ} {w : List ℕ} {n p
           same = outside_put at (2 * a.degree) w₀ w (at + 2 * n) d t f.same (omega arith) (omega (arith, f.few));
         }
 
-    pub scoring_dead : r ≡ Dead → Scoring a s w₀ at w n (place + 1)
+    pub scoring_dead : r ≡ None → Scoring a s w₀ at w n (place + 1)
     scoring_dead q =
         record {
-          goes = rw (live_from_dead a o.rows s place h k (rw y at e) q) at f.goes;
+          goes = rw (live_from_dead a o s place h k e q) at f.goes;
           few = omega (arith, f.few);
           bound = omega arith;
           small = f.small;

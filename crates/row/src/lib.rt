@@ -1,80 +1,53 @@
 // The row of a slot, worked out in lent words: its live targets with their distances, and a selection of candidates that is written as the row.
 #![tactic(auto)]
 
-ghost use Rattle.std.specs.Prelude.{◌+◌, ◌*◌, ◌<◌, ◌≤◌, length};
-ghost use Rattle.distances.specs.Inner.Kept.{Kept};
-ghost use Rattle.slots.specs.Store.{arrays};
+ghost use Rattle.std.specs.Prelude.{◌≡◌, ◌+◌, ◌*◌, ◌<◌, ◌≤◌, length};
+ghost use Rattle.vectors.specs.Vector.{Bytes};
+ghost use Rattle.slots.specs.Lent.{graph_of, rows_mut_of, SameSlices};
 ghost use Rattle.row.specs.Row.{Together, LiveScored, Writable, WroteIds, Prunable, WrotePruned};
 
-use slots::marks::wide;
-use slots::rows::{Ref, live_at};
+use distances::Kept;
+use slots::{Graph, RowsMut};
 
 // The live row of slot `s`, each target with its distance to `s`, as candidates at `at`. Returns how many they are.
-pub fn live_scored(
-    dim: usize,
-    degree: usize,
-    vectors: &[u8],
-    targets: &[u32],
-    edges: &[u16],
-    versions: &[u16],
-    marks: &[u8],
-    s: u32,
-    scratch: &mut [u32],
-    at: usize,
-) -> usize
-    requires together { Together (arrays dim degree vectors.now targets.now edges.now versions.now marks.now) }
-    requires s_in_bounds { (s < length marks.now) × (at + 2 * degree ≤ length scratch.old) }
-    ensures { LiveScored (arrays dim degree vectors.now targets.now edges.now versions.now marks.now) s scratch.old at result scratch.new }
+pub fn live_scored(graph: &Graph<'_>, s: u32, scratch: &mut [u32], at: usize) -> usize
+    requires { (s < length (graph_of graph.now).marks) × (at + 2 * (graph_of graph.now).degree ≤ length scratch.old) }
+    ensures { LiveScored (graph_of graph.now) s scratch.old at result scratch.new }
 {
-    let slot = wide(s);
+    let slot = s as usize;
     let mut n: usize = 0;
-    let mut place: usize = 0;
-    while place < degree {
-        let r = live_at(degree, targets, edges, versions, marks, slot, place);
-        match r {
-            Ref::At(t) => {
-                let dist = distances::slot_distance(dim, vectors, slot, wide(t));
-                candidates::put(scratch, at + 2 * n, dist, t);
-                n += 1;
-            }
-            Ref::Dead => {}
+    for place in 0..graph.rows.degree {
+        if let Some(t) = graph.rows.live_at(slot, place) {
+            let dist = distances::slot_distance(&graph.space, slot, t as usize);
+            candidates::put(scratch, at + 2 * n, dist, t);
+            n += 1;
         }
-        place += 1;
     }
     n
 }
 
 // Writes the slots of the `n` candidates at `at` as the row of slot `s`. They are laid out from word `to` on.
 pub fn write_ids(
-    degree: usize,
-    targets: &mut [u32],
-    edges: &mut [u16],
-    versions: &[u16],
+    rows: &mut RowsMut<'_>,
     s: u32,
     scratch: &mut [u32],
     at: usize,
     n: usize,
     to: usize,
 )
-    requires { Writable degree targets.old edges.old s scratch.old at n to }
-    ensures { WroteIds degree targets.old edges.old versions.now s scratch.old at n to targets.new edges.new scratch.new }
+    requires { Writable rows.old.degree rows.old.targets.now rows.old.edges.now s scratch.old at n to }
+    ensures { WroteIds rows.old.degree rows.old.targets.now rows.old.edges.now rows.old.versions.now s scratch.old at n to rows.new.targets.now rows.new.edges.now scratch.new × SameSlices rows.old rows.new }
 {
     candidates::copy_ids(scratch, at, n, to);
-    let end = to + n;
-    slots::write(degree, targets, edges, versions, wide(s), &scratch[to..end]);
+    rows.write(s as usize, &scratch[to..to + n]);
 }
 
 // Selects from the `n` candidates at `at`, which it rearranges, and writes the selection as the row of slot `s`. The selection lies at `to`. Distances that the
 // table `kept` has are read there.
-pub fn write_pruned(
-    dim: usize,
-    degree: usize,
+pub fn write_pruned<const N: usize>(
     alpha: f32,
-    vectors: &[u8],
-    kept: &mut [u32],
-    targets: &mut [u32],
-    edges: &mut [u16],
-    versions: &[u16],
+    kept: &mut Kept<'_, N>,
+    rows: &mut RowsMut<'_>,
     marks: &[u8],
     s: u32,
     scratch: &mut [u32],
@@ -82,13 +55,11 @@ pub fn write_pruned(
     n: usize,
     to: usize,
 )
-    requires together { Together (arrays dim degree vectors.now targets.old edges.old versions.now marks.now) }
-    requires s_in_bounds { (s < length marks.now) × Prunable degree scratch.old at n to × Kept dim vectors.now kept.old }
-    ensures { WrotePruned alpha (arrays dim degree vectors.now targets.old edges.old versions.now marks.now) s scratch.old at n to
-        (arrays dim degree vectors.now targets.new edges.new versions.now marks.now) scratch.new × Kept dim vectors.now kept.new }
+    requires together { Together (rows_mut_of kept.old.space.dim kept.old.space.vectors.now rows.old marks.now) }
+    requires s_in_bounds { (s < length marks.now) × Prunable rows.old.degree scratch.old at n to }
+    ensures { WrotePruned alpha (rows_mut_of kept.old.space.dim kept.old.space.vectors.now rows.old marks.now) s scratch.old at n to
+        (rows_mut_of kept.old.space.dim kept.old.space.vectors.now rows.new marks.now) scratch.new × SameSlices rows.old rows.new × (kept.new.space ≡ kept.old.space) }
 {
-    let r = prune::prune_scored(
-        degree, alpha, dim, vectors, kept, marks, s, scratch, at, n, to,
-    );
-    write_ids(degree, targets, edges, versions, s, scratch, to, r, to);
+    let r = prune::prune_scored(rows.degree, alpha, kept, marks, s, scratch, at, n, to);
+    write_ids(rows, s, scratch, to, r, to);
 }

@@ -5,9 +5,11 @@ pub mod Written
 pub mod Changes
 pub mod Places
 pub mod Count
+mod Laid
 mod Made
 pub mod Agree
 pub mod New
 pub mod Writes
 pub mod Reached
 pub mod Live
+pub mod Slices

@@ -1,5 +1,5 @@
 -- A row one place at a time: `live_at` finds the next live target, or that there is none at the place. Assumes nothing.
-use Rattle.std.proofs.Common.{◌≡◌, ℕ, ◌+◌, ◌*◌, ◌<◌, ◌≤◌, Bool, true, false, cond, not, ◌&&◌, eqb, List, [], ◌∷◌, length, get_or, drop, sym, refl, ap, ◌∙◌, true≢false, add-one, arith, length-drop, drop_of_length-le, length-take, get_or-drop, drop-cons, get_or-take, eq-eqb, ne_eqb, eqb-true}
+use Rattle.std.proofs.Common.{◌≡◌, ℕ, ◌+◌, ◌-◌, ◌*◌, ◌<◌, ◌≤◌, Bool, true, false, cond, not, ◌&&◌, eqb, List, [], ◌∷◌, length, get_or, drop, sym, refl, ap, ◌∙◌, true≢false, add-one, arith, length-drop, drop_of_length-le, length-take, get_or-drop, drop-cons, get_or-take, eq-eqb, ne_eqb, eqb-true}
 use mathlib.Core.Bool.{and-false}
 use native.Mathlib.Decide.{dec_lt}
 use borrow.Author.Tests.{eqb-false}
@@ -8,8 +8,7 @@ use Rattle.lists.specs.Lists.{filter, elem, part}
 use Rattle.lists.proofs.Parts.{fits_in}
 use Rattle.slots.specs.Store.{Arrays, Shaped, blank, is_valid, current, refs_of, arrays}
 use Rattle.slots.specs.Inner.Rows.{RowShape, ref_of, ref_at, refs_from, live_from}
-use Rattle.slots.specs.declared.rows.Ref.{Ref}
-use Rattle.slots.specs.declared.rows.Ref.TheVariants.{At, Dead}
+use Rattle.std.specs.Prelude.{Option, Some, None}
 
 -- ---- marks
 
@@ -41,19 +40,19 @@ shape_fits {degree} {targets} {edges} {marks = marks} f s h =
 -- ---- what the tests of the code say of a reference with target t
 
 module _ (a : Arrays) (s place : ℕ) {t : ℕ} (e : t ≡ get_or a.targets (s * a.degree + place) 0) where
-  pub ref_outside : length a.marks ≤ t → Dead ≡ ref_at a s place
+  pub ref_outside : length a.marks ≤ t → None ≡ ref_at a s place
   unfolding ref_at
   ref_outside h = rw (← e, outside_dead a.marks t h)
 
-  pub ref_unmarked : get_or a.marks t 0 ≡ 0 → Dead ≡ ref_at a s place
+  pub ref_unmarked : get_or a.marks t 0 ≡ 0 → None ≡ ref_at a s place
   unfolding ref_at is_valid
   ref_unmarked h = rw (← e, h)
 
-  pub ref_stale : (get_or a.edges (s * a.degree + place) 0 ≡ get_or a.versions t 0 → ⊥) → Dead ≡ ref_at a s place
+  pub ref_stale : (get_or a.edges (s * a.degree + place) 0 ≡ get_or a.versions t 0 → ⊥) → None ≡ ref_at a s place
   unfolding ref_at
   ref_stale h = rw (← e, ne_eqb (get_or a.edges (s * a.degree + place) 0) (get_or a.versions t 0) h, and-false)
 
-  pub ref_live : (get_or a.marks t 0 ≡ 0 → ⊥) → get_or a.edges (s * a.degree + place) 0 ≡ get_or a.versions t 0 → At t ≡ ref_at a s place
+  pub ref_live : (get_or a.marks t 0 ≡ 0 → ⊥) → get_or a.edges (s * a.degree + place) 0 ≡ get_or a.versions t 0 → Some t ≡ ref_at a s place
   unfolding ref_at is_valid
   ref_live h k = rw (← e, ne_eqb (get_or a.marks t 0) 0 h, eq-eqb (get_or a.edges (s * a.degree + place) 0) (get_or a.versions t 0) k)
 
@@ -91,9 +90,9 @@ module _ (a : Arrays) (s place : ℕ) (ft : s * a.degree + a.degree ≤ length a
 
 -- ---- the live targets from a place on
 
-abbrev cons_ref : Ref → List ℕ → List ℕ
-cons_ref (At t) l = t ∷ l
-cons_ref Dead l = l
+abbrev cons_ref : Option ℕ → List ℕ → List ℕ
+cons_ref (Some t) l = t ∷ l
+cons_ref None l = l
 
 pub live_from_whole : (a : Arrays) (s : ℕ) → live_from a s 0 ≡ filter (is_valid a.marks) (refs_of a s)
 unfolding live_from
@@ -128,26 +127,26 @@ module _ (a : Arrays) (f : RowShape a.degree a.targets a.edges a.versions a.mark
       go false false true p q = refl
       go false false false p q = refl
 
-  pub live_from_at : {r : Ref} {t : ℕ} → r ≡ ref_at a s place → r ≡ At t → live_from a s place ≡ t ∷ live_from a s (place + 1)
+  pub live_from_at : {r : Option ℕ} {t : ℕ} → r ≡ ref_at a s place → r ≡ Some t → live_from a s place ≡ t ∷ live_from a s (place + 1)
   live_from_at e h = live_from_step ∙ rw (← e, h)
 
-  pub live_from_dead : {r : Ref} → r ≡ ref_at a s place → r ≡ Dead → live_from a s place ≡ live_from a s (place + 1)
+  pub live_from_dead : {r : Option ℕ} → r ≡ ref_at a s place → r ≡ None → live_from a s place ≡ live_from a s (place + 1)
   live_from_dead e h = live_from_step ∙ rw (← e, h)
 
 -- a live reference has the target that stands in the row
-pub ref_target : (a : Arrays) (s place : ℕ) {t : ℕ} → At t ≡ ref_at a s place → t ≡ get_or a.targets (s * a.degree + place) 0
+pub ref_target : (a : Arrays) (s place : ℕ) {t : ℕ} → Some t ≡ ref_at a s place → t ≡ get_or a.targets (s * a.degree + place) 0
 unfolding ref_at
 ref_target a s place {t} = go (is_valid a.marks x && eqb (get_or a.edges (s * a.degree + place) 0) (get_or a.versions x 0))
   where
     x : ℕ
     x = get_or a.targets (s * a.degree + place) 0
 
-    go : (b : Bool) → At t ≡ ref_of b x → t ≡ x
+    go : (b : Bool) → Some t ≡ ref_of b x → t ≡ x
     go true e = cc
     go false e = absurd (let z : ◌≡◌ {A = ℕ} 0 1 = cc in omega arith)
 
 -- a target that is found is live, and so inside
-module _ (a : Arrays) (s place : ℕ) {r : Ref} {t : ℕ} (e : r ≡ ref_at a s place) (h : r ≡ At t) where
+module _ (a : Arrays) (s place : ℕ) {r : Option ℕ} {t : ℕ} (e : r ≡ ref_at a s place) (h : r ≡ Some t) where
   pub ref_valid : is_valid a.marks t ≡ true
   unfolding ref_at
   ref_valid = go (is_valid a.marks x) (eqb (get_or a.edges (s * a.degree + place) 0) (get_or a.versions x 0)) refl (sym h ∙ e)
@@ -155,7 +154,7 @@ module _ (a : Arrays) (s place : ℕ) {r : Ref} {t : ℕ} (e : r ≡ ref_at a s 
       x : ℕ
       x = get_or a.targets (s * a.degree + place) 0
 
-      go : (v c : Bool) → is_valid a.marks x ≡ v → At t ≡ ref_of (v && c) x → is_valid a.marks t ≡ true
+      go : (v c : Bool) → is_valid a.marks x ≡ v → Some t ≡ ref_of (v && c) x → is_valid a.marks t ≡ true
       go true true l k = let q : t ≡ x = cc in rw q l
       go true false l k = absurd (let z : ◌≡◌ {A = ℕ} 0 1 = cc in omega arith)
       go false c l k = absurd (let z : ◌≡◌ {A = ℕ} 0 1 = cc in omega arith)
@@ -171,51 +170,58 @@ rows_alone : (degree : ℕ) (targets edges versions : List ℕ) (s dim : ℕ) (v
 unfolding refs_of
 rows_alone degree targets edges versions s dim vectors marks = refl
 
--- what is left of the row from a place on decides whether it holds id
-pub record Looking (id degree : ℕ) (targets edges versions : List ℕ) (s place : ℕ) : Type 0 where
-  pub left : elem id (refs_from (arrays 0 degree [] targets edges versions []) s place) ≡ elem id (refs_of (arrays 0 degree [] targets edges versions []) s)
+-- what is left of the row from an index on decides whether it holds id
+pub record Looking (id degree : ℕ) (targets edges versions : List ℕ) (s at : ℕ) : Type 0 where
+  pub left : elem id (refs_from (arrays 0 degree [] targets edges versions []) s (at - s * degree)) ≡ elem id (refs_of (arrays 0 degree [] targets edges versions []) s)
 
-pub looking_none : (id degree : ℕ) (targets edges versions : List ℕ) (s : ℕ) → Looking id degree targets edges versions s 0
-looking_none id degree targets edges versions s = record { left = ap (elem id) (refs_from_whole _ s) }
+pub looking_none : (id degree : ℕ) (targets edges versions : List ℕ) (s : ℕ) → Looking id degree targets edges versions s (s * degree)
+looking_none id degree targets edges versions s =
+    let z : s * degree - s * degree ≡ 0 = omega arith in
+    record { left = rw z (ap (elem id) (refs_from_whole _ s)) }
 
--- what the code sees at a place: a target and whether its edge version is v
-module _ {id degree : ℕ} {targets edges versions : List ℕ} {s place v : ℕ} (ft : s * degree + degree ≤ length targets) (fe : s * degree + degree ≤ length edges) (h : place < degree)
-    (e : v ≡ get_or versions id 0) (l : Looking id degree targets edges versions s place) where
+-- what the code sees at an index: a target and whether its edge version is v
+module _ {id degree : ℕ} {targets edges versions : List ℕ} {s at v : ℕ} (ft : s * degree + degree ≤ length targets) (fe : s * degree + degree ≤ length edges) (low : s * degree ≤ at)
+    (h : at < s * degree + degree) (e : v ≡ get_or versions id 0) (l : Looking id degree targets edges versions s at) where
   rest : List ℕ
-  rest = refs_from (arrays 0 degree [] targets edges versions []) s (place + 1)
+  rest = refs_from (arrays 0 degree [] targets edges versions []) s (at - s * degree + 1)
 
-  step : elem id (cond (not (eqb (get_or targets (s * degree + place) 0) blank) && eqb (get_or edges (s * degree + place) 0) (get_or versions (get_or targets (s * degree + place) 0) 0))
-      (get_or targets (s * degree + place) 0 ∷ rest) rest) ≡ elem id (refs_of (arrays 0 degree [] targets edges versions []) s)
+  step : elem id (cond (not (eqb (get_or targets at 0) blank) && eqb (get_or edges at 0) (get_or versions (get_or targets at 0) 0)) (get_or targets at 0 ∷ rest) rest)
+      ≡ elem id (refs_of (arrays 0 degree [] targets edges versions []) s)
   unfolding rest
-  step = ap (elem id) (sym (refs_from_step (arrays 0 degree [] targets edges versions []) s place ft fe h)) ∙ l.left
+  step =
+      let z : s * degree + (at - s * degree) ≡ at = omega arith in
+      rw z at (ap (elem id) (sym (refs_from_step (arrays 0 degree [] targets edges versions []) s (at - s * degree) ft fe (omega arith))) ∙ l.left)
 
-  pub looking_other : (get_or targets (s * degree + place) 0 ≡ id → ⊥) → Looking id degree targets edges versions s (place + 1)
+  -- the next index
+  after : elem id rest ≡ elem id (refs_of (arrays 0 degree [] targets edges versions []) s) → Looking id degree targets edges versions s (at + 1)
   unfolding rest
-  looking_other n = record { left = sym (go (not (eqb t blank) && eqb (get_or edges (s * degree + place) 0) (get_or versions t 0))) ∙ step }
+  after k = let z : at + 1 - s * degree ≡ at - s * degree + 1 = omega arith in record { left = rw z k }
+
+  pub looking_other : (get_or targets at 0 ≡ id → ⊥) → Looking id degree targets edges versions s (at + 1)
+  looking_other n = after (sym (go (not (eqb t blank) && eqb (get_or edges at 0) (get_or versions t 0))) ∙ step)
     where
       t : ℕ
-      t = get_or targets (s * degree + place) 0
+      t = get_or targets at 0
 
       go : (b : Bool) → elem id (cond b (t ∷ rest) rest) ≡ elem id rest
       go true = rw (ne_eqb id t (λ q. n (sym q)))
       go false = refl
 
-  pub looking_stale : get_or targets (s * degree + place) 0 ≡ id → (get_or edges (s * degree + place) 0 ≡ v → ⊥) → Looking id degree targets edges versions s (place + 1)
-  unfolding rest
+  pub looking_stale : get_or targets at 0 ≡ id → (get_or edges at 0 ≡ v → ⊥) → Looking id degree targets edges versions s (at + 1)
   looking_stale t n =
-      let k : eqb (get_or edges (s * degree + place) 0) (get_or versions id 0) ≡ false = ne_eqb _ _ (λ q. n (q ∙ sym e)) in
-      record { left = rw (t, k, and-false) at step }
+      let k : eqb (get_or edges at 0) (get_or versions id 0) ≡ false = ne_eqb _ _ (λ q. n (q ∙ sym e)) in
+      after (rw (t, k, and-false) at step)
 
-  pub looking_found : (id ≡ blank → ⊥) → get_or targets (s * degree + place) 0 ≡ id → get_or edges (s * degree + place) 0 ≡ v
+  pub looking_found : (id ≡ blank → ⊥) → get_or targets at 0 ≡ id → get_or edges at 0 ≡ v
       → (dim : ℕ) (vectors marks : List ℕ) → true ≡ elem id (refs_of (arrays dim degree vectors targets edges versions marks) s)
   looking_found b t k dim vectors marks =
-      (rw (t, ne_eqb id blank b, eq-eqb (get_or edges (s * degree + place) 0) (get_or versions id 0) (k ∙ e), eq-eqb id id refl) at step)
+      (rw (t, ne_eqb id blank b, eq-eqb (get_or edges at 0) (get_or versions id 0) (k ∙ e), eq-eqb id id refl) at step)
       ∙ ap (elem id) (sym (rows_alone degree targets edges versions s dim vectors marks))
 
-pub looking_done : {id degree : ℕ} {targets edges versions : List ℕ} {s place : ℕ} → degree ≤ place → Looking id degree targets edges versions s place
+pub looking_done : {id degree : ℕ} {targets edges versions : List ℕ} {s at : ℕ} → s * degree + degree ≤ at → Looking id degree targets edges versions s at
     → (dim : ℕ) (vectors marks : List ℕ) → false ≡ elem id (refs_of (arrays dim degree vectors targets edges versions marks) s)
-looking_done {id} {degree} {targets} {edges} {versions} {s} {place} h l dim vectors marks =
-    (rw (refs_from_end (arrays 0 degree [] targets edges versions []) s place h) at l.left)
+looking_done {id} {degree} {targets} {edges} {versions} {s} {at} h l dim vectors marks =
+    (rw (refs_from_end (arrays 0 degree [] targets edges versions []) s (at - s * degree) (omega arith)) at l.left)
     ∙ ap (elem id) (sym (rows_alone degree targets edges versions s dim vectors marks))
 
 -- no row holds a blank one

@@ -20,12 +20,6 @@ length_new_edges d versions ids = length-map (padded d ids) (edge_version versio
 
 -- ---- the loop that writes a row
 
--- inside a list it does not matter what stands past its end
-pub any_default : (l : List ℕ) (i d e : ℕ) → i < length l → get_or l i d ≡ get_or l i e
-any_default [] i d e h = absurd (omega arith)
-any_default (x ∷ l) zero d e h = refl
-any_default (x ∷ l) (suc i) d e h = any_default l i d e (omega arith)
-
 padded_from : (ids : List ℕ) (n p : ℕ) → p < n → get_or (ids ++ replicate n blank) p 0 ≡ get_or ids p blank
 padded_from [] n p h = get_or-replicate n p blank 0 h
 padded_from (x ∷ ids) n zero h = refl

@@ -2,7 +2,7 @@
 -- `MmapDynamicDiskANN` in the Rust. Assumes nothing.
 use Rattle.std.specs.Prelude.{◌≡◌, ℕ, suc, ◌-◌, ◌*◌, ◌%◌, Bool, cond, not, ◌&&◌, List, [], ◌∷◌, ◌++◌, map, length, take, set, replicate, ◌==◌, nat_lt, slice_index, slice_set, Float}
 use Rattle.std.proofs.Math.Option.{Option, none, some}
-use Rattle.lists.specs.Lists.{filter, range, part, put_part}
+use Rattle.lists.specs.Lists.{part, put_part}
 use Rattle.slots.specs.Sizes.{Sizes}
 use Rattle.slots.specs.View.{View}
 use Rattle.slots.specs.Ops.{Ops}
@@ -51,10 +51,6 @@ pub record Store : Type 0 where
 -- `is_valid`: a mark other than 0
 unfoldable pub is_valid : List ℕ → ℕ → Bool
 is_valid marks s = not (slice_index marks s == 0)
-
--- how many slots from one up to another are live
-abbrev pub live_between : List ℕ → ℕ → ℕ → ℕ
-live_between marks from to = length (filter (is_valid marks) (range from (to - from)))
 
 -- of a row: the targets of the references whose edge version is their target's version
 unfoldable pub current : List ℕ → List ℕ → List ℕ → List ℕ

@@ -1,6 +1,7 @@
 // Slots of an index in lent slices: their marks and versions, their rows, and what making, insert and delete write.
 #![tactic(auto)]
 
+mod graph;
 pub mod limits;
 pub mod making;
 pub mod marks;
@@ -9,4 +10,5 @@ pub mod parts;
 pub mod rows;
 pub mod scratch;
 
-pub use ops::{fill, finish, kill, write};
+pub use graph::{Graph, Rows, RowsMut};
+pub use ops::{fill, finish, kill};

@@ -2,7 +2,7 @@
 ghost use Rattle.std.specs.Prelude.{◌≡◌, ◌-◌, ◌≤◌, ◌++◌, length, replicate};
 ghost use Rattle.slots.specs.Inner.Making.{Room, New};
 
-use super::parts::{fill_u8, fill_u16, fill_u32, lay_u8, lay_u32};
+use super::parts::lay;
 use super::rows::BLANK;
 
 // Marks the first `given` slots live, and the others dead.
@@ -10,8 +10,8 @@ fn mark_given(marks: &mut [u8], given: usize)
     requires { given ≤ length marks.old }
     ensures { marks.new ≡ replicate given 1 ++ replicate (length marks.old - given) 0 }
 {
-    fill_u8(marks, 0, 1);
-    fill_u8(marks, given, 0);
+    marks[..given].fill(1);
+    marks[given..].fill(0);
 }
 
 // Writes a new index: the given vectors and rows into the first slots, which are live; zeros and blanks into the others.
@@ -32,10 +32,10 @@ pub fn write_new(
     requires { Room dim capacity degree given bytes.now rows.now vectors.old targets.old edges.old versions.old marks.old pool.old }
     ensures { New dim capacity degree given bytes.now rows.now vectors.new targets.new edges.new versions.new marks.new pool.new }
 {
-    lay_u8(vectors, bytes, 0);
-    lay_u32(targets, rows, BLANK);
-    fill_u16(edges, 0, 0);
-    fill_u16(versions, 0, 0);
+    lay(vectors, bytes, 0);
+    lay(targets, rows, BLANK);
+    edges.fill(0);
+    versions.fill(0);
     mark_given(marks, given);
-    fill_u32(pool, 0, 0);
+    pool.fill(0);
 }

@@ -2,20 +2,12 @@
 ghost use Rattle.std.specs.Prelude.{◌≡◌, suc, ◌+◌, ◌*◌, ◌%◌, ◌<◌, ◌≤◌, length, slice_index, slice_index_or, slice_set};
 ghost use Rattle.slots.specs.Store.{blank, edge_version};
 ghost use Rattle.slots.specs.Inner.Writing.{SlotIn, Filled, Wrote, Killed, Finished};
+ghost use Rattle.slots.specs.Lent.{SameSlices};
 
-use super::marks::{node_version, wide};
+use super::graph::RowsMut;
+use super::marks::node_version;
 use super::parts::write_vector;
 use super::rows::BLANK;
-
-// The id at a place of the ids that a row is to have; past them it is blank.
-fn id_at(ids: &[u32], place: usize) -> u32
-    ensures { result ≡ slice_index_or ids.now place blank }
-{
-    if place < ids.len() {
-        return ids[place];
-    }
-    BLANK
-}
 
 // The edge version that a reference to `id` is written with.
 fn edge_version(versions: &[u16], id: u32) -> u16
@@ -24,49 +16,38 @@ fn edge_version(versions: &[u16], id: u32) -> u16
     if id == BLANK {
         return 0;
     }
-    node_version(versions, wide(id))
+    node_version(versions, id as usize)
 }
 
-// Writes the first `degree` ids into slot `s`'s row, with their targets' present versions, then blanks. `write_neighbors` in the Rust.
-pub fn write(
-    degree: usize,
-    targets: &mut [u32],
-    edges: &mut [u16],
-    versions: &[u16],
-    s: usize,
-    ids: &[u32],
-)
-    requires { (s * degree + degree ≤ length targets.old) × (s * degree + degree ≤ length edges.old) }
-    ensures { Wrote degree targets.old edges.old versions.now s ids.now targets.new edges.new }
-{
-    let base = s * degree;
-    let mut place: usize = 0;
-    while place < degree {
-        let at = base + place;
-        let id = id_at(ids, place);
-        targets[at] = id;
-        edges[at] = edge_version(versions, id);
-        place += 1;
+impl RowsMut<'_> {
+    // Writes the first `degree` ids into slot `s`'s row, with their targets' present versions, then blanks. `write_neighbors` in the Rust.
+    pub fn write(&mut self, s: usize, ids: &[u32])
+        requires { (s * self.old.degree + self.old.degree ≤ length self.old.targets.now) × (s * self.old.degree + self.old.degree ≤ length self.old.edges.now) }
+        ensures { Wrote self.old.degree self.old.targets.now self.old.edges.now self.old.versions.now s ids.now self.new.targets.now self.new.edges.now × SameSlices self.old self.new }
+    {
+        let base = s * self.degree;
+        for place in 0..self.degree {
+            let id = ids.get(place).copied().unwrap_or(BLANK);
+            self.targets[base + place] = id;
+            self.edges[base + place] = edge_version(self.versions, id);
+        }
     }
 }
 
 // Writes a vector into slot `s`, which becomes live with an empty row. `write_vector`, `fill_neighbors` and `set_valid(id, true)` in the Rust.
 pub fn fill(
     dim: usize,
-    degree: usize,
     vectors: &mut [u8],
-    targets: &mut [u32],
-    edges: &mut [u16],
-    versions: &[u16],
+    rows: &mut RowsMut<'_>,
     marks: &mut [u8],
     s: usize,
     vector: &[u8],
 )
-    requires { SlotIn dim degree vectors.old targets.old edges.old marks.old s vector.now }
-    ensures { Filled dim degree vectors.old targets.old edges.old versions.now marks.old s vector.now vectors.new targets.new edges.new marks.new }
+    requires { SlotIn dim rows.old.degree vectors.old rows.old.targets.now rows.old.edges.now marks.old s vector.now }
+    ensures { Filled dim rows.old.degree vectors.old rows.old.targets.now rows.old.edges.now rows.old.versions.now marks.old s vector.now vectors.new rows.new.targets.now rows.new.edges.now marks.new × SameSlices rows.old rows.new }
 {
     write_vector(dim, vectors, s, vector);
-    write(degree, targets, edges, versions, s, &[]);
+    rows.write(s, &[]);
     marks[s] = 1;
 }
 
@@ -78,19 +59,12 @@ pub fn kill(marks: &mut [u8], s: usize)
     marks[s] = 0;
 }
 
-// The version after `v`; after 65,535 comes 0.
-fn version_after(v: u16) -> u16
-    ensures { result ≡ suc v % 65536 }
-{
-    std::num::wrapping_add_u16(v, 1)
-}
-
-// Gives slot `s` the next version.
+// Gives slot `s` the next version; after 65,535 comes 0.
 fn next_version(versions: &mut [u16], s: usize)
     requires { s < length versions.old }
     ensures { versions.new ≡ slice_set versions.old s (suc (slice_index versions.old s) % 65536) }
 {
-    versions[s] = version_after(versions[s]);
+    versions[s] = versions[s].wrapping_add(1);
 }
 
 // The last act of a delete on slot `s`: the next version, and an empty row. `finish_delete_plan` in the Rust.
@@ -99,5 +73,11 @@ pub fn finish(degree: usize, targets: &mut [u32], edges: &mut [u16], versions: &
     ensures { Finished degree targets.old edges.old versions.old s targets.new edges.new versions.new }
 {
     next_version(versions, s);
-    write(degree, targets, edges, versions, s, &[]);
+    let mut rows = RowsMut {
+        degree,
+        targets,
+        edges,
+        versions,
+    };
+    rows.write(s, &[]);
 }

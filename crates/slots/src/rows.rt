@@ -1,100 +1,72 @@
-// The rows of slots: `degree` targets for each slot, and as many edge versions.
-ghost use Rattle.std.specs.Prelude.{◌≡◌, ℕ, ◌+◌, ◌*◌, ◌<◌, ◌≤◌, List, length};
+// The rows of slots, read.
+ghost use Rattle.std.specs.Prelude.{◌≡◌, ℕ, ◌+◌, ◌*◌, ◌<◌, ◌≤◌, List, Some, length};
 ghost use Rattle.lists.specs.Lists.{elem};
 ghost use Rattle.slots.specs.Store.{refs_of, arrays};
 ghost use Rattle.slots.specs.Inner.Rows.{RowShape, ref_at};
-ghost use Rattle.slots.specs.declared.rows.Ref.TheVariants.{At};
+ghost use Rattle.slots.specs.Lent.{rows_of};
 
-use super::marks::{node_version, wide};
+use super::graph::Rows;
+use super::marks::node_version;
 
 // The target of a blank reference.
 pub const BLANK: u32 = 4294967295;
 
-// A reference of a row: its target where it is live.
-#[derive(Clone, Copy)]
-pub enum Ref {
-    At(u32),
-    Dead,
-}
-
-// The reference at a place of slot `s`'s row.
-pub fn live_at(
-    degree: usize,
-    targets: &[u32],
-    edges: &[u16],
-    versions: &[u16],
-    marks: &[u8],
-    s: usize,
-    place: usize,
-) -> Ref
-    requires row_shape { RowShape degree targets.now edges.now versions.now marks.now }
-    requires s_in_bounds { (s < length marks.now) × (place < degree) }
-    ensures { (dim : ℕ) (vectors : List ℕ) → result ≡ ref_at (arrays dim degree vectors targets.now edges.now versions.now marks.now) s place }
-{
-    let at = s * degree + place;
-    let t = targets[at];
-    let slot = wide(t);
-    if slot < marks.len() {
-        let mark = marks[slot];
-        let version = versions[slot];
-        let edge = edges[at];
-        if mark != 0 {
-            if edge == version {
-                return Ref::At(t);
-            }
+impl Rows<'_> {
+    // The reference at a place of slot `s`'s row: its target where it is live.
+    pub fn live_at(&self, s: usize, place: usize) -> Option<u32>
+        requires row_shape { RowShape self.now.degree self.now.targets.now self.now.edges.now self.now.versions.now self.now.marks.now }
+        requires s_in_bounds { (s < length self.now.marks.now) × (place < self.now.degree) }
+        ensures { (dim : ℕ) (vectors : List ℕ) → result ≡ ref_at (rows_of dim vectors self.now) s place }
+    {
+        let at = s * self.degree + place;
+        let t = self.targets[at];
+        let slot = t as usize;
+        if slot < self.marks.len()
+            && self.marks[slot] != 0
+            && self.edges[at] == self.versions[slot]
+        {
+            return Some(t);
         }
+        None
     }
-    Ref::Dead
-}
 
-// The target at a place of slot `s`'s row, live or not: where `live_at` gives one, it is this.
-pub fn target_at(degree: usize, targets: &[u32], s: usize, place: usize) -> u32
-    requires { (s * degree + degree ≤ length targets.now) × (place < degree) }
-    ensures { (dim : ℕ) (vectors edges versions marks : List ℕ) (t : ℕ) → At t ≡ ref_at (arrays dim degree vectors targets.now edges versions marks) s place → t ≡ result }
-{
-    targets[s * degree + place]
-}
-
-// Reads the first and the last target of slot `s`'s row and its first edge version, so that the row is on its way from memory when it is gone through.
-// Returns a sum that tells nothing.
-pub fn touch_row(degree: usize, targets: &[u32], edges: &[u16], s: usize) -> u32
-    requires { (s * degree + degree ≤ length targets.now) × (s * degree + degree ≤ length edges.now) }
-    ensures { result ≤ 1020 }
-{
-    if degree == 0 {
-        return 0;
+    // The target at a place of slot `s`'s row, live or not: where `live_at` gives one, it is this.
+    pub fn target_at(&self, s: usize, place: usize) -> u32
+        requires { (s * self.now.degree + self.now.degree ≤ length self.now.targets.now) × (place < self.now.degree) }
+        ensures { (dim : ℕ) (vectors edges versions marks : List ℕ) (t : ℕ) → Some t ≡ ref_at (arrays dim self.now.degree vectors self.now.targets.now edges versions marks) s place → t ≡ result }
+    {
+        self.targets[s * self.degree + place]
     }
-    let first = s * degree;
-    let last = first + (degree - 1);
-    targets[first] % 256 + targets[last] % 256 + (edges[first] % 256) as u32
-}
 
-// Whether slot `s`'s row holds `id` with its present version, live or dead.
-pub fn holds(
-    degree: usize,
-    targets: &[u32],
-    edges: &[u16],
-    versions: &[u16],
-    s: usize,
-    id: u32,
-) -> bool
-    requires { (s * degree + degree ≤ length targets.now) × (s * degree + degree ≤ length edges.now) }
-    ensures { (dim : ℕ) (vectors marks : List ℕ) → result ≡ elem id (refs_of (arrays dim degree vectors targets.now edges.now versions.now marks) s) }
-{
-    if id == BLANK {
-        return false;
+    // Reads the first and the last target of slot `s`'s row and its first edge version, so that the row is on its way from memory when it is gone through.
+    // Returns a sum that tells nothing.
+    pub fn touch(&self, s: usize) -> u32
+        requires { (s * self.now.degree + self.now.degree ≤ length self.now.targets.now) × (s * self.now.degree + self.now.degree ≤ length self.now.edges.now) }
+        ensures { result ≤ 1020 }
+    {
+        if self.degree == 0 {
+            return 0;
+        }
+        let first = s * self.degree;
+        let last = first + (self.degree - 1);
+        self.targets[first] % 256 + self.targets[last] % 256 + u32::from(self.edges[first] % 256)
     }
-    let version = node_version(versions, wide(id));
-    let base = s * degree;
-    let mut place: usize = 0;
-    while place < degree {
-        let at = base + place;
-        if targets[at] == id {
-            if edges[at] == version {
+
+    // Whether slot `s`'s row holds `id` with its present version, live or dead.
+    pub fn holds(&self, s: usize, id: u32) -> bool
+        requires { (s * self.now.degree + self.now.degree ≤ length self.now.targets.now) × (s * self.now.degree + self.now.degree ≤ length self.now.edges.now) }
+        ensures { (dim : ℕ) (vectors : List ℕ) → result ≡ elem id (refs_of (rows_of dim vectors self.now) s) }
+    {
+        if id == BLANK {
+            return false;
+        }
+        let version = node_version(self.versions, id as usize);
+        let base = s * self.degree;
+        for at in base..base + self.degree {
+            if self.targets[at] == id && self.edges[at] == version {
                 return true;
             }
         }
-        place += 1;
+        false
     }
-    false
 }

@@ -1,6 +1,5 @@
 pub mod Counts
 pub mod Moves
-pub mod Sinking
-pub mod Passes
 pub mod Search
+pub mod Settling
 pub mod ByKey

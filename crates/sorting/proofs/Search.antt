@@ -34,9 +34,6 @@ pub record Halving (keys order : List ℕ) (n key low high : ℕ) : Type 0 where
   pub before : (i : ℕ) → i < low → key_at keys order i < key
   pub from : (i : ℕ) → high ≤ i → i < n → key ≤ key_at keys order i
 
-pub halving_none : (keys order : List ℕ) (n key : ℕ) → Halving keys order n key 0 n
-halving_none keys order n key = record { span = omega arith; most = omega arith; before = λ i h. absurd (omega arith); from = λ i h k. absurd (omega arith) }
-
 -- k is the key at the middle m
 module _ {keys order : List ℕ} {n key low high : ℕ} (f : Halving keys order n key low high) (r : Risen keys order n) (m : ℕ) (h : low ≤ m) (l : m < high) where
   pub halving_up : {k : ℕ} → k ≡ get_or keys (get_or order m 0) 0 → k < key → Halving keys order n key (m + 1) high
@@ -56,9 +53,6 @@ module _ {keys order : List ℕ} {n key low high : ℕ} (f : Halving keys order 
         before = f.before;
         from = λ i q w. omega (arith, risen_at r m i (omega arith) w);
       }
-
-pub halving_done : {keys order : List ℕ} {n key low high : ℕ} → Halving keys order n key low high → high ≤ low → Below keys order n key low
-halving_done f h = record { most = omega (arith, f.span, f.most); before = f.before; from = λ i q w. f.from i (omega arith) w }
 
 -- ---- what a search finds
 module _ {keys order : List ℕ} {n key r : ℕ} (u : Risen keys order n) (b : Below keys order n key r) where

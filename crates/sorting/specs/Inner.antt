@@ -1,4 +1,3 @@
 -- The words of inner contracts: what functions below the calls ask for and leave. The proofs of their callers use them up; of a function that has no caller
 -- yet (docs/CLAIMS.md names them) the contract is to be read here.
 pub mod Places
-pub mod Gaps

@@ -47,11 +47,10 @@ few_names names e = ap (leb names) e
 -- ---- translating
 
 -- of an index that is not turned back the numbers can be looked up
-pub names_listed : (index : Index) {lent : Lengths} {marks numbers summary : List ℕ} {names slots r l : ℕ}
+pub names_listed : (index : Index) {lent : Lengths} {marks numbers summary : List ℕ} {names slots r : ℕ}
     → (lent.marks ≡ length marks) × (lent.numbers ≡ length numbers) × (lent.summary ≡ length summary) × (names ≤ slots)
-    → Decided index lent (labels marks numbers summary) false [] r → r ≡ 0 → l ≡ index.live → Listed numbers summary l × (names ≤ slots)
-names_listed index {lent} {marks} {numbers} {summary} h d z e =
-    (subst (λ k. Listed numbers summary k) (sym e) (decided_listed index h.0 h.1 h.2 (subst (λ k. Decided index lent (labels marks numbers summary) false [] k) z d)), h.3)
+    → Decided index lent (labels marks numbers summary) false [] r → r ≡ 0 → Listed numbers summary index.live
+names_listed index {lent} {marks} {numbers} {summary} h d z = decided_listed index h.0 h.1 h.2 (subst (λ k. Decided index lent (labels marks numbers summary) false [] k) z d)
 
 pub translated_on : {index : Index} {lent : Lengths} {marks numbers summary : List ℕ} (names slots : List ℕ) {slots' : List ℕ} → slots' ≡ put_front (map (slot_of numbers) names) slots
     → Translated index lent (labels marks numbers summary) names slots'

@@ -18,6 +18,7 @@ use index::{Index, Lengths};
 use numbers::strike;
 use slots::limits;
 use slots::marks::wide;
+use vectors::Space;
 
 // Row 7: the repair beam, the repair degree or the number of names is over its limit.
 pub fn delete_over(repair_beam: u32, repair_degree: u32, ids: usize) -> bool
@@ -78,11 +79,14 @@ fn delete_batch(
     ensures { BatchDeleted (arrays index.dim index.degree vectors.now targets.old edges.old versions.old marks.old) index.alpha index.entry repair_beam repair_degree ids.now
         (arrays index.dim index.degree vectors.now targets.new edges.new versions.new marks.new) result.entry result.count scratch.new }
 {
-    deletion::delete_batch(
-        index.dim as usize,
-        index.degree as usize,
-        index.alpha,
+    let space = Space {
+        dim: index.dim as usize,
         vectors,
+    };
+    deletion::delete_batch(
+        index.alpha,
+        &space,
+        index.degree as usize,
         targets,
         edges,
         versions,

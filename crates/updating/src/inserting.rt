@@ -13,9 +13,9 @@ ghost use Rattle.updating.specs.Inner.Filling.{insert_tests, with_live, Labelabl
 use super::Inserted;
 use index::refusals::{index_refusal, scratch_short};
 use index::{Index, Lengths};
-use numbers::{any_live, enter, repeated, write_numbers};
-use slots::limits;
+use numbers::{Labels, enter, repeated, write_numbers};
 use slots::marks::wide;
+use slots::{RowsMut, limits};
 
 // How many whole vectors so many bytes hold; none where dim is 0.
 fn whole(bytes: usize, dim: u32) -> usize
@@ -58,7 +58,12 @@ fn taken(numbers: &[u32], summary: &[u32], live: u32, given: &[u32]) -> bool
     requires { Listed numbers.now summary.now live × (length given.now ≤ 65536) }
     ensures { result ≡ Numbers.taken numbers.now given.now }
 {
-    if any_live(numbers, summary, wide(live), given) {
+    let labels = Labels {
+        numbers,
+        summary,
+        live: live as usize,
+    };
+    if labels.any_live(given) {
         return true;
     }
     repeated(given)
@@ -121,14 +126,17 @@ fn insert_vectors(
     ensures { BatchInserted (arrays index.dim index.degree vectors.old targets.old edges.old versions.now marks.old) index.alpha index.entry beam bytes.now slots.old
         (arrays index.dim index.degree vectors.new targets.new edges.new versions.now marks.new) slots.new result }
 {
-    insertion::insert_batch(
-        index.dim as usize,
-        index.degree as usize,
-        index.alpha,
-        vectors,
+    let mut rows = RowsMut {
+        degree: index.degree as usize,
         targets,
         edges,
         versions,
+    };
+    insertion::insert_batch(
+        index.alpha,
+        index.dim as usize,
+        vectors,
+        &mut rows,
         marks,
         index.entry,
         beam as usize,

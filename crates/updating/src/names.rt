@@ -8,7 +8,7 @@ ghost use Rattle.updating.specs.Inner.Emptying.{are_numbers, Translated};
 use super::Naming;
 use index::refusals::index_refusal;
 use index::{Index, Lengths};
-use numbers::slots_of;
+use numbers::Labels;
 use slots::limits;
 use slots::marks::wide;
 
@@ -37,6 +37,11 @@ pub fn translate(
 {
     let r = index_refusal(index, lent, marks, numbers, summary, false);
     if r == 0 {
-        slots_of(numbers, summary, wide(index.live), names, slots);
+        let labels = Labels {
+            numbers,
+            summary,
+            live: index.live as usize,
+        };
+        labels.slots_of(names, slots);
     }
 }

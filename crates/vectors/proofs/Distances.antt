@@ -15,13 +15,9 @@ use Rattle.vectors.specs.Distance.{squared_difference, distance}
 pub byte_square : {d : ℕ} → d < 256 → d * d ≤ 65025
 byte_square {d} h = let l : d ≤ 255 = omega arith in mul-le-mul l l
 
-pub square_up : {x y : ℕ} → x < y → (y - x) * (y - x) ≡ squared_difference x y
+pub square_of : (x y : ℕ) {d : ℕ} → d ≡ (x - y) + (y - x) → d * d ≡ squared_difference x y
 unfolding squared_difference
-square_up {x} {y} h = let e : (x - y) + (y - x) ≡ y - x = omega arith in rw e
-
-pub square_down : {x y : ℕ} → y ≤ x → (x - y) * (x - y) ≡ squared_difference x y
-unfolding squared_difference
-square_down {x} {y} h = let e : (x - y) + (y - x) ≡ x - y = omega arith in rw e
+square_of x y e = rw e
 
 -- one step of the sum, from the front
 pub distance_step : (a b : List ℕ) (i : ℕ) → i < length a → i < length b

@@ -1,15 +1,23 @@
-// The vector of a slot. The distance in code is the crate `distances`.
+// The vectors of all slots. The distances in code are the crate `distances`.
 #![tactic(auto)]
 
-ghost use Rattle.std.specs.Prelude.{◌+◌, ◌*◌, ◌≤◌, length};
 ghost use Rattle.vectors.specs.Vector.{VectorAt};
+ghost use Rattle.vectors.specs.Lent.{HasVector};
 
-// The vector of slot `s`, dead or live, as that part of the lent bytes.
-pub fn vector<'a>(dim: usize, vectors: &'a [u8], s: usize) -> &'a [u8]
-    requires { s * dim + dim ≤ length vectors.now }
-    ensures { VectorAt dim s vectors.entry result }
-{
-    let from = s * dim;
-    let to = from + dim;
-    &vectors[from..to]
+// The vectors of all slots: `dim` bytes for each.
+#[derive(Clone, Copy)]
+pub struct Space<'a> {
+    pub dim: usize,
+    pub vectors: &'a [u8],
+}
+
+impl<'a> Space<'a> {
+    // The vector of slot `s`, dead or live, as that part of the lent bytes.
+    pub fn vector(&self, s: usize) -> &'a [u8]
+        requires { HasVector self.now s }
+        ensures { VectorAt self.now.dim s self.now.vectors result }
+    {
+        let from = s * self.dim;
+        &self.vectors[from..from + self.dim]
+    }
 }

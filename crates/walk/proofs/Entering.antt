@@ -1,6 +1,6 @@
 -- The list in the words: a candidate enters it, the first that is not expanded is looked for, and the walk's end is tested. Assumes nothing.
 use Prim.Native.Nat.{ℕ, ◌+◌, ◌-◌, ◌*◌, min, ◌≤◌, ◌<◌}
-use mathlib.Core.Bool.{true, false}
+use mathlib.Core.Bool.{true}
 use mathlib.Core.Path.{◌≡◌, refl, ap, sym, ◌∙◌}
 use mathlib.Core.List.{List}
 use native.Mathlib.Omega.{arith}
@@ -15,7 +15,7 @@ use Rattle.candidates.specs.Inner.Words.{pair, cand, cands, Inserted, Small}
 use Rattle.candidates.proofs.Words.{cands_length, cands_take, cands_snoc, cands_init, cands_last, outside_none, outside_wide}
 use Rattle.walk.specs.Walk.{worst, enter, ends}
 use Rattle.slots.specs.Scratch.{marks_at}
-use Rattle.walk.specs.Inner.Scratch.{mark, Listed, Entered, Unexpanded, Next}
+use Rattle.walk.specs.Inner.Scratch.{mark, Listed, Entered, Unexpanded}
 
 pub worst_at : (w : List ℕ) (n : ℕ) → 0 < n → worst (cands w 0 n) ≡ (cand w (0 + 2 * (n - 1))).dist
 worst_at w n h = ap (λ (c : Candidate). c.dist) (cands_last w 0 n h (pair 0 0))
@@ -75,7 +75,7 @@ pub less_order : {beam : ℕ} {w : List ℕ} {n : ℕ} → 0 < n → Listed beam
 less_order {w = w} {n} h f = rw (cands_init w 0 n h) at (pairwise_init (λ a b. before a b ≡ true) (cands w 0 n) f.order)
 
 -- ---- whether the walk ends
-pub ends_room : {beam : ℕ} (w : List ℕ) {n : ℕ} (c : Candidate) → n < beam → false ≡ ends beam (cands w 0 n) c
+pub ends_room : {beam : ℕ} (w : List ℕ) {n : ℕ} (c : Candidate) → n < beam → leb beam n ≡ ends beam (cands w 0 n) c
 unfolding ends
 ends_room {beam} w {n} c h = rw (cands_length w 0 n, lt-leb beam n h)
 
@@ -89,26 +89,9 @@ ends_full {beam} w {n} {i} {a} {b} h k p q =
     rw (cands_length w 0 n, le-leb beam n h, r, t)
 
 -- ---- the first that is not expanded
-pub scan_more : (w : List ℕ) (i : ℕ) {t s m : ℕ} → t ≡ (cand w (0 + 2 * i)).id → s ≡ t → m ≡ mark w s → m ≡ 2 → All (λ c. mark w c.id ≡ 2) (cands w 0 i)
+pub scan_more : (w : List ℕ) (i : ℕ) {s m : ℕ} → s ≡ (cand w (0 + 2 * i)).id → m ≡ mark w s → m ≡ 2 → All (λ c. mark w c.id ≡ 2) (cands w 0 i)
     → All (λ c. mark w c.id ≡ 2) (cands w 0 (i + 1))
-scan_more w i e q p h f = rw (cands_snoc w 0 i) (all_append _ (cands w 0 i) _ f (rw (q, e) at (sym p ∙ h), tt))
+scan_more w i e p h f = rw (cands_snoc w 0 i) (all_append _ (cands w 0 i) _ f (rw e at (sym p ∙ h), tt))
 
-pub scan_found : (w : List ℕ) (i : ℕ) {n t s m : ℕ} → i < n → t ≡ (cand w (0 + 2 * i)).id → s ≡ t → m ≡ mark w s → (m ≡ 2 → ⊥) → All (λ c. mark w c.id ≡ 2) (cands w 0 i)
-    → Unexpanded w n i
-scan_found w i k e q p h f =
-    let z : 0 + 2 * i ≡ 2 * i = omega arith in
-    record { within = omega arith; done = f; stops = λ _. rw z at (rw (p, q, e) at h) }
-
-pub scan_none : {w : List ℕ} {n i : ℕ} → n ≤ i → i ≤ n → All (λ c. mark w c.id ≡ 2) (cands w 0 i) → Unexpanded w n i
-scan_none h k f = record { within = k; done = f; stops = λ l. absurd (omega arith) }
-
--- ---- the one that is expanded next
-module _ {beam : ℕ} {w : List ℕ} {n i : ℕ} (f : Unexpanded w n i) where
-  pub next_none : i ≡ n → Next beam w n n
-  next_none e = record { first = i; found = f; goes = λ z. absurd (z refl); over = λ _ h. absurd (omega arith) }
-
-  pub next_over : true ≡ ends beam (cands w 0 n) (cand w (2 * i)) → Next beam w n n
-  next_over e = record { first = i; found = f; goes = λ z. absurd (z refl); over = λ _ h. sym e }
-
-  pub next_goes : (i ≡ n → ⊥) → false ≡ ends beam (cands w 0 n) (cand w (2 * i)) → Next beam w n i
-  next_goes k e = record { first = i; found = f; goes = λ z. (refl, sym e); over = λ z. absurd (k z) }
+pub scan_all : {w : List ℕ} {n i : ℕ} → n ≡ i → All (λ c. mark w c.id ≡ 2) (cands w 0 i) → Unexpanded w n n
+scan_all e f = rw e (record { within = omega arith; done = f; stops = λ l. absurd (omega arith) })

@@ -1,6 +1,6 @@
 -- What a whole walk leaves in the words. Assumes nothing.
 use Prim.Native.Nat.{ℕ, max, ◌<◌}
-use mathlib.Core.Bool.{Bool, true, false}
+use mathlib.Core.Bool.{true, false}
 use mathlib.Core.Path.{◌≡◌, refl, ap, sym, ◌∙◌}
 use mathlib.Core.List.{List, []}
 use native.Mathlib.Omega.{arith}
@@ -12,7 +12,7 @@ use Rattle.vectors.specs.Space.{query_distance, space}
 use Rattle.slots.specs.Store.{Arrays, Store, is_valid, store_view}
 use Rattle.slots.proofs.Places.{live_inside}
 use Rattle.walk.specs.Walk.{State, turns, graph_search, search_pool}
-use Rattle.walk.specs.Inner.Scratch.{near_of, near_but, state_of, first_state, Walkable, Begun, Stepped, Ready, Found, Pool}
+use Rattle.walk.specs.Inner.Scratch.{near_of, near_but, state_of, first_state, Begun, Stepped, Ready, Found, Pool}
 use Rattle.walk.proofs.Ordered as Ordered
 use Rattle.walk.proofs.Ordered.{graph_search_inside, graph_search_found}
 use Rattle.walk.proofs.Seen.{near_inside, near_all, walk_view}
@@ -20,24 +20,20 @@ use Rattle.walk.proofs.Same.{graph_search_same}
 use Rattle.slots.specs.Scratch.{work_at}
 use Rattle.walk.proofs.Without.{graph_search_without}
 
-pub begun_goes : {a : Arrays} {query : List ℕ} {start beam width d : ℕ} {ids w v : List ℕ} → Ready a query start beam w → width ≡ max 1 beam
-    → Begun (length a.marks) ids d start w v → Walkable (length a.marks) width v 1 0
-begun_goes r e b = b.goes _ (omega arith) (omega (arith, r.beam_most))
-
 -- from the start to the last turn
-pub found_by : (a : Arrays) {query : List ℕ} {start beam width d s : ℕ} {ids w v w' : List ℕ} {r : ℕ} → Ready a query start beam w → elem start ids ≡ false
-    → width ≡ max 1 beam → s ≡ start → d ≡ query_distance (space a.dim a.vectors) query s → Begun (length a.marks) ids d start w v
+pub found_by : (a : Arrays) {query : List ℕ} {start beam width d : ℕ} {ids w v w' : List ℕ} {r : ℕ} → Ready a query start beam w → elem start ids ≡ false
+    → width ≡ max beam 1 → d ≡ query_distance (space a.dim a.vectors) query start → Begun (length a.marks) ids d start w v
     → Stepped (length a.marks) width v (turns width (query_distance (space a.dim a.vectors) query) (near_of a) (length a.marks) (state_of (length a.marks) v 1)) w' r 0
     → Found a query (near_but ids) start beam w w' r
 unfolding near_but
-found_by a {query} {start} {beam} {width} {d} {s} {ids} {w} {v} {w'} {r} f m e q p b g =
+found_by a {query} {start} {beam} {width} {d} {ids} {w} {v} {w'} {r} f m e p b g =
     let capacity : ℕ = length a.marks in
     let dist : ℕ → ℕ = query_distance (space a.dim a.vectors) query in
-    let own : d ≡ dist start = p ∙ ap dist q in
-    let from : state_of capacity v 1 ≡ first_state capacity ids (dist start) start = b.holds ∙ ap (λ (x : ℕ). first_state capacity ids x start) own in
+    let from : state_of capacity v 1 ≡ first_state capacity ids (dist start) start = b.holds ∙ ap (λ (x : ℕ). first_state capacity ids x start) p in
+    let wide : width ≡ max 1 beam = omega (arith, e) in
     record {
       list = ap (λ (st : State). st.list) g.holds ∙ ap (λ (st : State). (turns width dist (near_of a) capacity st).list) from
-          ∙ ap (λ (n : ℕ). (turns n dist (near_of a) capacity (first_state capacity ids (dist start) start)).list) e
+          ∙ ap (λ (n : ℕ). (turns n dist (near_of a) capacity (first_state capacity ids (dist start) start)).list) wide
           ∙ graph_search_without ids capacity start beam dist (near_of a) f.start_inside m (λ s h. near_inside a s);
       few = omega (arith, g.goes.listed.few);
       small = g.goes.listed.small;
@@ -77,21 +73,21 @@ search_dead : (b : Store) (query : List ℕ) (beam : ℕ) → is_valid b.arrays.
 unfolding search_pool store_view
 search_dead b query beam h = rw h
 
-module _ {a : Arrays} {query : List ℕ} {entry beam s : ℕ} {t : Bool} (q : s ≡ entry) (e : t ≡ is_valid a.marks s) where
-  pub pool_live : {w w' : List ℕ} {r : ℕ} → t ≡ true → Found a query near_of entry beam w w' r → Pool a query entry beam w w' r
+module _ {a : Arrays} {query : List ℕ} {entry beam : ℕ} where
+  pub pool_live : {w w' : List ℕ} {r : ℕ} → true ≡ is_valid a.marks entry → Found a query near_of entry beam w w' r → Pool a query entry beam w w' r
   pool_live h f =
       record {
-        list = λ b x y z. f.list ∙ rw (← y, ← x, ← z) (search_live b query beam (rw (x, z, ← q) (sym e ∙ h)));
+        list = λ b x y z. f.list ∙ rw (← y, ← x, ← z) (search_live b query beam (rw (x, z) (sym h)));
         few = f.few;
         small = f.small;
         size = f.size;
         same = f.same;
       }
 
-  pub pool_dead : (w : List ℕ) → t ≡ false → Pool a query entry beam w w 0
+  pub pool_dead : (w : List ℕ) → false ≡ is_valid a.marks entry → Pool a query entry beam w w 0
   pool_dead w h =
       record {
-        list = λ b x y z. cands_none w 0 0 refl ∙ sym (search_dead b query beam (rw (x, z, ← q) (sym e ∙ h)));
+        list = λ b x y z. cands_none w 0 0 refl ∙ sym (search_dead b query beam (rw (x, z) (sym h)));
         few = omega arith;
         small = rw (cands_none w 0 0 refl) tt;
         size = refl;

@@ -4,9 +4,9 @@ use mathlib.Core.Bool.{Bool, true, false, ◌&&◌, true≢false}
 use mathlib.Core.Path.{◌≡◌, refl, ap, sym, ◌∙◌}
 use mathlib.Core.List.{List, [], ◌∷◌, ◌++◌}
 use native.Mathlib.Omega.{arith}
-use borrow.Author.Tests.{eq-eqb, ne_eqb, eqb-true, lt-ltb, le-ltb}
+use borrow.Author.Tests.{eq-eqb, ne_eqb, eqb-true, lt-ltb}
 use lib.Dec.{eqb, ltb}
-use lib.ListN.{length, take, get_or, set, length-set}
+use lib.ListN.{length, take, get_or, set}
 use lib.Seq.{take-suc-set}
 use native.Mathlib.Numerals.{add-one}
 use Rattle.lists.specs.Lists.{All, Pairwise}
@@ -19,26 +19,18 @@ use Rattle.candidates.proofs.Words.{outside_none, outside_wide, outside_then}
 use Rattle.slots.specs.Scratch.{marks_at, work_at}
 use Rattle.slots.specs.Store.{Arrays}
 use Rattle.slots.specs.Inner.Rows.{RowShape, ref_at, live_from}
-use Rattle.slots.specs.declared.rows.Ref.{Ref}
-use Rattle.slots.specs.declared.rows.Ref.TheVariants.{At, Dead}
-use Rattle.slots.proofs.Places.{live_from_at, live_from_dead, ref_inside}
+use Rattle.std.specs.Prelude.{Option, Some, None}
+use Rattle.slots.proofs.Places.{live_from_at, live_from_dead, live_from_end, ref_inside}
 use Rattle.walk.specs.Walk.{State, enter, meet}
-use Rattle.walk.specs.Inner.Scratch.{near_of, mark_word, mark, put_mark, unmet, marks_of, with_fresh, meets, Walkable, Entered, Fresh, UnmetAt, Added, Gathered, Gathers, Stepped, Vectors}
+use Rattle.walk.specs.Inner.Scratch.{near_of, mark_word, mark, put_mark, unmet, marks_of, state_of, with_fresh, meets, Walkable, Entered, Fresh, UnmetAt, Added, Gathered, Gathers, Stepped}
 use Rattle.walk.proofs.Ordered.{all_enter}
 use Rattle.walk.proofs.Marks.{put_mark_length, mark_same, mark_cases, mark_at, mark_kept, marks_set, marks_kept, outside_mark}
-use Rattle.walk.proofs.Seen.{dist_small, dist_ready}
+use Rattle.walk.proofs.Seen.{dist_small, near_from}
 use Rattle.walk.proofs.Walking.{marked_list, marked_goes, entered_goes}
 
 -- ---- what the tests of the code say
-dead_live : {t : ℕ} → Dead ≡ At t → ⊥
+dead_live : {t : ℕ} → None ≡ Some t → ⊥
 dead_live e = let z : ◌≡◌ {A = ℕ} 0 1 = cc in omega arith
-
-module _ (capacity : ℕ) (w : List ℕ) {s id : ℕ} (q : s ≡ id) where
-  pub unmet_inside : {m : ℕ} → s < capacity → m ≡ mark w s → eqb m 0 ≡ unmet capacity w id
-  unmet_inside h e = rw (← q, lt-ltb s capacity h, e)
-
-  pub unmet_outside : capacity ≤ s → false ≡ unmet capacity w id
-  unmet_outside h = rw (← q, le-ltb s capacity h)
 
 unmet_true : (capacity : ℕ) (w : List ℕ) (s : ℕ) → unmet capacity w s ≡ true → mark w s ≡ 0
 unmet_true capacity w s = go (ltb s capacity)
@@ -47,21 +39,21 @@ unmet_true capacity w s = go (ltb s capacity)
     go true e = eqb-true _ _ e
     go false e = let z : ◌≡◌ {A = ℕ} 0 1 = cc in absurd (omega arith)
 
-module _ (a : Arrays) (s place : ℕ) (w : List ℕ) {b : Bool} {x : ℕ} (p : (t : ℕ) → At t ≡ ref_at a s place → t ≡ x) (o : b ≡ unmet (length a.marks) w x) where
-  pub unmet_live : {r : Ref} → b ≡ true → r ≡ ref_at a s place → UnmetAt a s place w r
+module _ (a : Arrays) (s place : ℕ) (w : List ℕ) {x : ℕ} (p : (t : ℕ) → Some t ≡ ref_at a s place → t ≡ x) where
+  pub unmet_live : {r : Option ℕ} → true ≡ unmet (length a.marks) w x → r ≡ ref_at a s place → UnmetAt a s place w r
   unmet_live {r} y e =
       record {
-        found = λ t q. (sym q ∙ e, rw (← (p t (sym q ∙ e))) at (unmet_true (length a.marks) w x (sym o ∙ y)));
+        found = λ t q. (sym q ∙ e, rw (← (p t (sym q ∙ e))) at (unmet_true (length a.marks) w x (sym y)));
         none = λ q t k _. dead_live (sym q ∙ e ∙ sym k);
       }
 
-  pub unmet_dead : b ≡ false → UnmetAt a s place w Dead
+  pub unmet_dead : false ≡ unmet (length a.marks) w x → UnmetAt a s place w None
   unmet_dead y =
       record {
         found = λ t q. absurd (dead_live q);
         none = λ _ t k m.
             let q : x ≡ t = sym (p t k) in
-            true≢false (sym (rw (q, lt-ltb t (length a.marks) (ref_inside a s place k refl), m) at o) ∙ y);
+            true≢false (sym (rw (q, lt-ltb t (length a.marks) (ref_inside a s place k refl), m) at y));
       }
 
 -- one more at the end
@@ -74,12 +66,6 @@ pairwise_push R [] y h k = (tt, tt)
 pairwise_push R (x ∷ xs) y h k = (all_append (R x) xs (y ∷ []) h.0 (k.0, tt), pairwise_push R xs y h.1 k.1)
 
 -- ---- the first pass
-pub added_by : {id s n : ℕ} {w f w' f' : List ℕ} → s ≡ id → w' ≡ put_mark w s 1 → f' ≡ set f n id → Added id n w f w' f'
-added_by q e k = record { marks = rw q at e; list = k }
-
-pub added_length : {id n : ℕ} {w f w' f' : List ℕ} → Added id n w f w' f' → length f' ≡ length f
-added_length {id} {n} {f = f} x = rw x.list (length-set f n id)
-
 pub gathered_none : (a : Arrays) (query : List ℕ) {beam : ℕ} {w : List ℕ} {n next : ℕ} (ts : List ℕ) → Walkable (length a.marks) beam w n next
     → Gathered a query beam w n next ts ts w []
 gathered_none a query {w = w} ts f =
@@ -98,7 +84,7 @@ module _ {a : Arrays} {query : List ℕ} {beam : ℕ} {w₀ : List ℕ} {n next 
   dist = query_distance (space a.dim a.vectors) query
 
   abbrev st : State
-  st = with_fresh a.dim a.vectors query capacity beam w n xs
+  st = with_fresh a query beam w n xs
 
   -- a slot that is dead, or met already
   pub gathered_dead : {us : List ℕ} → ts ≡ us → Gathered a query beam w₀ n next ts₀ us w xs
@@ -122,7 +108,7 @@ module _ {a : Arrays} {query : List ℕ} {beam : ℕ} {w₀ : List ℕ} {n next 
       list : cands (put_mark w t 1) 0 n ≡ cands w 0 n
       list = marked_list g.goes t 1 h (omega arith) n (omega arith)
 
-      meet_new : meet beam dist (near_of a) st t ≡ with_fresh a.dim a.vectors query capacity beam (put_mark w t 1) n (xs ++ (t ∷ []))
+      meet_new : meet beam dist (near_of a) st t ≡ with_fresh a query beam (put_mark w t 1) n (xs ++ (t ∷ []))
       unfolding meet
       meet_new =
           let e : eqb (get_or (marks_of capacity w) t 0) 0 ≡ true = eq-eqb _ _ (mark_at capacity w t h ∙ z) in
@@ -153,12 +139,9 @@ module _ {a : Arrays} {query : List ℕ} {beam : ℕ} {w₀ : List ℕ} {n next 
 pub touched_none : (n t : ℕ) → t ≤ 1020 * (n + 1) → n ≤ 64 → n + t / 1048576 ≡ n
 touched_none n t h k = omega arith
 
-pub gathers_none : (a : Arrays) (s from : ℕ) (w f : List ℕ) → Gathers a s from from w w f 0
-gathers_none a s from w f = record { few = omega arith; size = refl; each = λ query beam n next y. gathered_none a query (live_from a s from) y }
-
 module _ {a : Arrays} {s from place : ℕ} {w₀ w f : List ℕ} {k : ℕ} (shape : RowShape a.degree a.targets a.edges a.versions a.marks)
-    (hs : s < length a.marks) (hp : place < a.degree) (g : Gathers a s from place w₀ w f k) {r : Ref} (u : UnmetAt a s place w r) where
-  pub gathers_new : {t : ℕ} {w' f' : List ℕ} → r ≡ At t → k < length f → Added t k w f w' f' → Gathers a s from (place + 1) w₀ w' f' (k + 1)
+    (hs : s < length a.marks) (hp : place < a.degree) (g : Gathers a s from place w₀ w f k) {r : Option ℕ} (u : UnmetAt a s place w r) where
+  pub gathers_new : {t : ℕ} {w' f' : List ℕ} → r ≡ Some t → k < length f → Added t k w f w' f' → Gathers a s from (place + 1) w₀ w' f' (k + 1)
   gathers_new {t} q l x =
       let found = u.found t q in
       let row = live_from_at a shape s place hs hp found.0 refl in
@@ -169,44 +152,38 @@ module _ {a : Arrays} {s from place : ℕ} {w₀ w f : List ℕ} {k : ℕ} (shap
         each = λ query beam n next y. gathered_new (g.each query beam n next y) row (ref_inside a s place found.0 refl) found.1 push;
       })
 
-  pub gathers_pass : r ≡ Dead → Gathers a s from (place + 1) w₀ w f k
+  pub gathers_pass : r ≡ None → Gathers a s from (place + 1) w₀ w f k
   gathers_pass q = go (ref_at a s place) refl
     where
       more : ((query : List ℕ) (beam n next : ℕ) → Walkable (length a.marks) beam w₀ n next → Gathered a query beam w₀ n next (live_from a s from) (live_from a s (place + 1)) w (take k f))
           → Gathers a s from (place + 1) w₀ w f k
       more h = record { few = omega (arith, g.few); size = g.size; each = h }
 
-      go : (x : Ref) → x ≡ ref_at a s place → Gathers a s from (place + 1) w₀ w f k
-      go (At t) e = more (λ query beam n next y. gathered_met (g.each query beam n next y) (live_from_at a shape s place hs hp e refl) (ref_inside a s place e refl) (u.none q t e))
-      go Dead e = more (λ query beam n next y. gathered_dead (g.each query beam n next y) (live_from_dead a shape s place hs hp e refl))
+      go : (x : Option ℕ) → x ≡ ref_at a s place → Gathers a s from (place + 1) w₀ w f k
+      go (Some t) e = more (λ query beam n next y. gathered_met (g.each query beam n next y) (live_from_at a shape s place hs hp e refl) (ref_inside a s place e refl) (u.none q t e))
+      go None e = more (λ query beam n next y. gathered_dead (g.each query beam n next y) (live_from_dead a shape s place hs hp e refl))
 
 -- ---- the second pass: the slots xs are still to enter
-pub record Entering (dim capacity : ℕ) (vectors query : List ℕ) (beam : ℕ) (w₀ : List ℕ) (to : State) (w : List ℕ) (n next : ℕ) (xs : List ℕ) : Type 0 where
-  pub holds : with_fresh dim vectors query capacity beam w n xs ≡ to
-  pub goes : Walkable capacity beam w n next
-  pub fresh : Fresh capacity w n xs
+pub record Entering (a : Arrays) (query : List ℕ) (beam : ℕ) (w₀ : List ℕ) (to : State) (w : List ℕ) (n next : ℕ) (xs : List ℕ) : Type 0 where
+  pub holds : with_fresh a query beam w n xs ≡ to
+  pub goes : Walkable (length a.marks) beam w n next
+  pub fresh : Fresh (length a.marks) w n xs
   pub size : length w ≡ length w₀
-  pub same : Outside 0 (work_at capacity) w₀ w
+  pub same : Outside 0 (work_at (length a.marks)) w₀ w
 
-module _ {dim capacity : ℕ} {vectors query : List ℕ} {beam : ℕ} where
-  pub entering_none : {w : List ℕ} {n next : ℕ} {xs ys : List ℕ} → Walkable capacity beam w n next → Fresh capacity w n xs → ys ≡ xs
-      → Entering dim capacity vectors query beam w (with_fresh dim vectors query capacity beam w n xs) w n next ys
-  entering_none {w} f g e = rw e (record { holds = refl; goes = f; fresh = g; size = refl; same = outside_none 0 (work_at capacity) w })
+module _ {a : Arrays} {query : List ℕ} {beam : ℕ} where
+  module _ {w₀ : List ℕ} {to : State} {w : List ℕ} {n next : ℕ} {xs : List ℕ} (g : Entering a query beam w₀ to w n next xs) where
+    abbrev all : ℕ
+    all = length a.marks
 
-  module _ {w₀ : List ℕ} {to : State} {w : List ℕ} {n next : ℕ} {xs : List ℕ} (g : Entering dim capacity vectors query beam w₀ to w n next xs) where
-    -- what the distance of the next asks
-    pub entering_ready : {x : ℕ} {ys : List ℕ} {id s : ℕ} → Vectors dim capacity vectors query → xs ≡ x ∷ ys → id ≡ x → s ≡ id
-        → (s * dim + dim ≤ length vectors) × (length query ≡ dim) × (dim ≤ 256)
-    entering_ready v e i q = let f = rw e at g.fresh in dist_ready v f.inside.0 (q ∙ i)
-
-    entering_next : {x : ℕ} {ys : List ℕ} {d n' next' : ℕ} {w' : List ℕ} → xs ≡ x ∷ ys → d ≡ query_distance (space dim vectors) query x → d ≤ 16777216
-        → Entered beam w n next (pair d x) w' n' next' → Entering dim capacity vectors query beam w₀ to w' n' next' ys
+    entering_next : {x : ℕ} {ys : List ℕ} {d n' next' : ℕ} {w' : List ℕ} → xs ≡ x ∷ ys → d ≡ query_distance (space a.dim a.vectors) query x → d ≤ 16777216
+        → Entered beam w n next (pair d x) w' n' next' → Entering a query beam w₀ to w' n' next' ys
     entering_next {x} {ys} {d} {n'} {next'} {w'} e q small y =
-        let f : Fresh capacity w n (x ∷ ys) = rw e at g.fresh in
-        let h : with_fresh dim vectors query capacity beam w n (x ∷ ys) ≡ to = rw e at g.holds in
+        let f : Fresh all w n (x ∷ ys) = rw e at g.fresh in
+        let h : with_fresh a query beam w n (x ∷ ys) ≡ to = rw e at g.holds in
         let keeps = mark_kept w w' y.same in
         record {
-          holds = rw (y.list, marks_kept capacity w w' y.same, q) h;
+          holds = rw (y.list, marks_kept all w w' y.same, q) h;
           goes = entered_goes g.goes f.inside.0 small f.met.0 f.apart.0 y;
           fresh = record {
             inside = f.inside.1;
@@ -215,12 +192,41 @@ module _ {dim capacity : ℕ} {vectors query : List ℕ} {beam : ℕ} where
             once = f.once.1;
           };
           size = y.size ∙ g.size;
-          same = outside_then 0 (work_at capacity) w₀ w w' g.same (outside_wide 0 marks_at 0 (work_at capacity) w w' y.same (omega arith) (omega arith));
+          same = outside_then 0 (work_at all) w₀ w w' g.same (outside_wide 0 marks_at 0 (work_at all) w w' y.same (omega arith) (omega arith));
         }
 
-    pub entering_more : {x : ℕ} {ys : List ℕ} {id s d n' next' : ℕ} {w' : List ℕ} → xs ≡ x ∷ ys → id ≡ x → s ≡ id
-        → Measured (query_distance (space dim vectors) query s) d → Entered beam w n next (pair d id) w' n' next' → Entering dim capacity vectors query beam w₀ to w' n' next' ys
-    entering_more e i q m y = entering_next e (rw (q, i) at m.equals) (dist_small m) (rw i at y)
+    pub entering_more : {x : ℕ} {ys : List ℕ} {d n' next' : ℕ} {w' : List ℕ} → xs ≡ x ∷ ys → Measured (query_distance (space a.dim a.vectors) query x) d
+        → Entered beam w n next (pair d x) w' n' next' → Entering a query beam w₀ to w' n' next' ys
+    entering_more e m y = entering_next e m.equals (dist_small m) y
 
-    pub entering_done : xs ≡ [] → Stepped capacity beam w₀ to w n next
-    entering_done e = record { holds = rw e at g.holds; goes = g.goes; size = g.size; same = g.same }
+-- ---- both passes, part by part: the live targets of slot s's row from place `from` on are still to be met
+pub record Meeting (a : Arrays) (query : List ℕ) (beam : ℕ) (w₀ : List ℕ) (to : State) (s from : ℕ) (w : List ℕ) (n next : ℕ) : Type 0 where
+  pub holds : meets a query beam (state_of (length a.marks) w n) (live_from a s from) ≡ to
+  pub goes : Walkable (length a.marks) beam w n next
+  pub size : length w ≡ length w₀
+  pub same : Outside 0 (work_at (length a.marks)) w₀ w
+
+pub meeting_none : {a : Arrays} (query : List ℕ) {beam : ℕ} (s : ℕ) {w : List ℕ} {n next : ℕ} → Walkable (length a.marks) beam w n next
+    → Meeting a query beam w (meets a query beam (state_of (length a.marks) w n) (near_of a s)) s 0 w n next
+meeting_none {a} query {beam} s {w} {n} f =
+    record { holds = ap (meets a query beam (state_of (length a.marks) w n)) (sym (near_from a s)); goes = f; size = refl; same = outside_none 0 (work_at (length a.marks)) w }
+
+module _ {a : Arrays} {query : List ℕ} {beam : ℕ} {w₀ : List ℕ} {to : State} {s from : ℕ} {w : List ℕ} {n next : ℕ} (m : Meeting a query beam w₀ to s from w n next) where
+  pub meeting_done : a.degree ≤ from → Stepped (length a.marks) beam w₀ to w n next
+  meeting_done h = record { holds = rw (live_from_end a s from h) at m.holds; goes = m.goes; size = m.size; same = m.same }
+
+  -- k slots are gathered, and enter
+  module _ {end k : ℕ} {v f : List ℕ} (g : Gathers a s from end w v f k) where
+    pub meeting_ready : Walkable (length a.marks) beam v n next × Fresh (length a.marks) v n (take k f)
+    meeting_ready = let h = g.each query beam n next m.goes in (h.goes, h.fresh)
+
+    pub meeting_part : {j n' next' : ℕ} {w' : List ℕ} → end ≡ j → Stepped (length a.marks) beam v (with_fresh a query beam v n (take k f)) w' n' next'
+        → Meeting a query beam w₀ to s j w' n' next'
+    meeting_part {w' = w'} e y =
+        let h = g.each query beam n next m.goes in
+        rw (← e) (record {
+          holds = ap (λ (x : State). meets a query beam x (live_from a s end)) y.holds ∙ h.holds ∙ m.holds;
+          goes = y.goes;
+          size = y.size ∙ g.size ∙ m.size;
+          same = outside_then 0 (work_at (length a.marks)) w₀ w w' m.same (outside_then 0 (work_at (length a.marks)) w v w' h.same y.same);
+        })

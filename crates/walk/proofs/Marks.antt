@@ -3,18 +3,21 @@ use Prim.Native.Nat.{ℕ, zero, suc, ◌+◌, ◌*◌, ◌/◌, ◌%◌, ◌≤�
 use mathlib.Core.Bool.{Bool, true, false}
 use mathlib.Core.Path.{◌≡◌, refl, ap, sym, ◌∙◌}
 use mathlib.Core.List.{List, [], ◌∷◌, map}
-use native.Mathlib.Decide.{dec_lt}
 use native.Mathlib.Numerals.{add-one}
 use native.Mathlib.Omega.{arith}
 use borrow.Author.Tests.{eqb-true, eqb-false}
 use lib.Dec.{eqb}
-use lib.ListN.{length, drop, get_or, set, replicate, length-set, length-map, length-replicate, get_or-replicate, drop_of_length-le}
+use borrow.Rule.Slice.PartMut.{put_mid}
+use Rattle.std.proofs.lemmas.List.{places}
+use Rattle.std.proofs.Common.{rules}
+use Rattle.std.proofs.lemmas.Grind.{common_steps}
+use lib.ListN.{length, take, drop, get_or, set, replicate, length-set, length-map, length-replicate, get_or-replicate}
 use lib.Seq.{get_or-set_same, get_or-set_other, set_out, drop-cons, ext_get_or}
 use Rattle.lists.specs.Lists.{range}
 use Rattle.lists.proofs.Ranges.{length_range}
 use Rattle.candidates.specs.Candidates.{Candidate}
 use Rattle.candidates.specs.Inner.Words.{pair, cands, put, Outside}
-use Rattle.candidates.proofs.Words.{cands_none, cands_kept, put_cand, put_length, put_outside, outside_none, outside_wide, outside_then, outside_set}
+use Rattle.candidates.proofs.Words.{cands_none, cands_kept, put_cand, put_length, put_outside, outside_wide, outside_then, outside_set}
 use Rattle.slots.specs.Scratch.{list_words, marks_at, work_at}
 use Rattle.walk.specs.Inner.Scratch.{field, put_field, mark_word, mark, put_mark, marks_of, mark_all, Cleared, LeftOut, Begun}
 use Rattle.walk.proofs.Fields.{field_zero, field_same, field_other}
@@ -94,45 +97,35 @@ pub outside_mark : (capacity : ℕ) (w w' : List ℕ) (s v : ℕ) → s < capaci
 outside_mark capacity w w' s v h f =
     outside_set marks_at capacity w w' (mark_word s) (put_field (s % 16) v (get_or w' (mark_word s) 0)) f (omega arith) (omega arith)
 
--- ---- clearing: the first i words of marks are 0
-pub record Clearing (capacity : ℕ) (w₀ w : List ℕ) (i : ℕ) : Type 0 where
-  pub zeros : (j : ℕ) → j < i → get_or w (marks_at + j) 0 ≡ 0
-  pub size : length w ≡ length w₀
-  pub same : Outside marks_at capacity w₀ w
+-- ---- clearing: n words from word `at` on are filled with 0
+zero_in : (at n j : ℕ) (w : List ℕ) → at + n ≤ length w → j < n → get_or (put_mid at n w (replicate n 0)) (at + j) 0 ≡ 0
+zero_in at n j w h k = search (rules, places)
 
-pub clearing_none : (capacity : ℕ) (w : List ℕ) → Clearing capacity w w 0
-clearing_none capacity w = record { zeros = λ j h. absurd (omega arith); size = refl; same = outside_none marks_at capacity w }
+zero_out : (at n j : ℕ) (w : List ℕ) → at + n ≤ length w → (at ≤ j → at + n ≤ j) → get_or (put_mid at n w (replicate n 0)) j 0 ≡ get_or w j 0
+zero_out at n j w h k = search (rules, places)
 
-module _ {capacity : ℕ} {w₀ w : List ℕ} {i : ℕ} (room : work_at capacity ≤ length w₀) (f : Clearing capacity w₀ w i) where
-  pub clearing_more : i < capacity → Clearing capacity w₀ (set w (marks_at + i) 0) (i + 1)
-  clearing_more h =
-      record {
-        zeros = λ j k. go j k (dec_lt j i);
-        size = length-set w (marks_at + i) 0 ∙ f.size;
-        same = outside_set marks_at capacity w₀ w (marks_at + i) 0 f.same (omega arith) (omega arith);
-      }
-    where
-      go : (j : ℕ) → j < i + 1 → Dec (j < i) → get_or (set w (marks_at + i) 0) (marks_at + j) 0 ≡ 0
-      go j k (yes l) = get_or-set_other w (marks_at + i) (marks_at + j) 0 0 (λ e. omega arith) ∙ f.zeros j l
-      go j k (no l) = let e : j ≡ i = omega arith in rw e (get_or-set_same w (marks_at + i) 0 0 (omega (arith, f.size)))
+zero_length : (at n : ℕ) (w : List ℕ) → at + n ≤ length w → length (put_mid at n w (replicate n 0)) ≡ length w
+zero_length at n w h = search (rules, places)
 
-  pub clearing_done : capacity ≤ 16 * i → Cleared capacity w₀ w
-  clearing_done h =
-      record {
-        marks = marks_by capacity w (replicate capacity 0) (length-replicate capacity 0)
-            (λ t k. ap (field (t % 16)) (f.zeros (t / 16) (omega arith)) ∙ field_zero (t % 16) ∙ sym (get_or-replicate capacity t 0 0 k));
-        size = f.size;
-        same = f.same;
-      }
+taken_length : (at n : ℕ) (w : List ℕ) → at + n ≤ length w → length (take n (drop at w)) ≡ n
+taken_length at n w h = grind (arith, common_steps)
+
+pub cleared : {capacity n : ℕ} {w zs : List ℕ} → work_at capacity ≤ length w → capacity ≤ 16 * n → n ≤ capacity
+    → zs ≡ replicate (length (take n (drop marks_at w))) 0 → Cleared capacity w (put_mid marks_at n w zs)
+cleared {capacity} {n} {w} room h k e =
+    let l : length (take n (drop marks_at w)) ≡ n = taken_length marks_at n w (omega arith) in
+    rw (e, l) (record {
+      marks = marks_by capacity (put_mid marks_at n w (replicate n 0)) (replicate capacity 0) (length-replicate capacity 0)
+          (λ t b. ap (field (t % 16)) (zero_in marks_at n (t / 16) w (omega arith) (omega arith)) ∙ field_zero (t % 16) ∙ sym (get_or-replicate capacity t 0 0 b));
+      size = zero_length marks_at n w (omega arith);
+      same = λ j o. zero_out marks_at n j w (omega arith) (λ q. omega (arith, o q));
+    })
 
 -- ---- leaving out: the first i ids are marked
 pub record Leaving (capacity : ℕ) (ids w₀ w : List ℕ) (i : ℕ) : Type 0 where
   pub goes : mark_all (marks_of capacity w) (drop i ids) ≡ mark_all (marks_of capacity w₀) ids
   pub size : length w ≡ length w₀
   pub same : Outside marks_at capacity w₀ w
-
-pub leaving_none : (capacity : ℕ) (ids w : List ℕ) → Leaving capacity ids w w 0
-leaving_none capacity ids w = record { goes = refl; size = refl; same = outside_none marks_at capacity w }
 
 module _ {capacity : ℕ} {ids w₀ w : List ℕ} {i : ℕ} (f : Leaving capacity ids w₀ w i) where
   module _ (h : i < length ids) {s : ℕ} (e : s ≡ get_or ids i 0) where
@@ -152,9 +145,6 @@ module _ {capacity : ℕ} {ids w₀ w : List ℕ} {i : ℕ} (f : Leaving capacit
       leaving_other k =
           let o : set (marks_of capacity w) s 1 ≡ marks_of capacity w = set_out (marks_of capacity w) s 1 (rw (marks_length capacity w) k) in
           record { goes = rw o at rest; size = f.size; same = f.same }
-
-  pub leaving_done : length ids ≤ i → LeftOut capacity ids w₀ w
-  leaving_done h = record { marks = rw (drop_of_length-le ids) at f.goes; size = f.size; same = f.same }
 
 -- ---- the walk begins
 module _ {capacity : ℕ} (d start : ℕ) {ids w v u : List ℕ} (room : work_at capacity ≤ length w) (h : start < capacity) (f : Cleared capacity w v) (g : LeftOut capacity ids v u) where
@@ -197,6 +187,6 @@ module _ {capacity : ℕ} (d start : ℕ) {ids w v u : List ℕ} (room : work_at
             (outside_wide 0 2 0 (work_at capacity) (put_mark u start 1) (put (put_mark u start 1) 0 d start) (put_outside (put_mark u start 1) 0 d start) (omega arith) (omega arith));
       }
 
-pub begun : {capacity d start s : ℕ} {ids w v u u' w' : List ℕ} → work_at capacity ≤ length w → start < capacity → d ≤ 16777216
-    → Cleared capacity w v → LeftOut capacity ids v u → s ≡ start → u' ≡ put_mark u s 1 → w' ≡ put u' 0 d start → Begun capacity ids d start w w'
-begun room h small f g q m e = rw (e, m, q) (begun_first _ _ room h f g small)
+pub begun : {capacity d start : ℕ} {ids w v u u' w' : List ℕ} → work_at capacity ≤ length w → start < capacity → d ≤ 16777216
+    → Cleared capacity w v → LeftOut capacity ids v u → u' ≡ put_mark u start 1 → w' ≡ put u' 0 d start → Begun capacity ids d start w w'
+begun room h small f g m e = rw (e, m) (begun_first _ _ room h f g small)

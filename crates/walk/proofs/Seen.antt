@@ -1,5 +1,5 @@
 -- What the walk sees of the lent slices: the distances and live neighbours of a view. Assumes nothing.
-use Prim.Native.Nat.{ℕ, ◌+◌, ◌*◌, ◌≤◌, ◌<◌}
+use Prim.Native.Nat.{ℕ, ◌≤◌, ◌<◌}
 use mathlib.Core.Bool.{true, not}
 use mathlib.Core.Path.{◌≡◌, refl, sym}
 use mathlib.Core.List.{List, [], ◌∷◌}
@@ -7,7 +7,6 @@ use native.Mathlib.Omega.{arith}
 use lib.ListN.{length}
 use Rattle.lists.specs.Lists.{All, filter, elem, sorted_set}
 use Rattle.lists.proofs.All.{all_map, all_filter, filter_test}
-use Rattle.lists.proofs.Parts.{fits_in}
 use Rattle.lists.proofs.Filter.{filter_every}
 use Rattle.lists.proofs.Members.{elem_sorted}
 use Rattle.slots.specs.View.{live_neighbors}
@@ -16,7 +15,7 @@ use Rattle.slots.specs.Store.{Arrays, Store, is_valid, vector_of, store_view, re
 use Rattle.slots.specs.Inner.Rows.{live_from}
 use Rattle.slots.proofs.Places.{live_inside, live_from_whole}
 use Rattle.walk.specs.Walk.{graph_search}
-use Rattle.walk.specs.Inner.Scratch.{near_of, near_but, Vectors}
+use Rattle.walk.specs.Inner.Scratch.{near_of, near_but}
 
 -- a walk over the slices is a walk over the view of them
 pub walk_view : (b : Store) (query : List ℕ) (start beam : ℕ)
@@ -35,11 +34,6 @@ walk_view_but ids b query start beam = refl
 -- ---- distances
 pub dist_small : {d r : ℕ} → Measured d r → r ≤ 16777216
 dist_small f = omega (arith, f.bound)
-
--- what the distance of a slot inside asks
-pub dist_ready : {dim capacity : ℕ} {vectors query : List ℕ} {s t : ℕ} → Vectors dim capacity vectors query → t < capacity → s ≡ t
-    → (s * dim + dim ≤ length vectors) × (length query ≡ dim) × (dim ≤ 256)
-dist_ready {dim} {capacity} {vectors} {s = s} f h e = (fits_in dim capacity s (length vectors) (omega arith) f.vectors_long, f.query_long, f.dim_most)
 
 -- ---- neighbours
 pub near_from : (a : Arrays) (s : ℕ) → near_of a s ≡ live_from a s 0

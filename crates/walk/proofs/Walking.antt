@@ -13,7 +13,9 @@ use Rattle.candidates.specs.Candidates.{Candidate}
 use Rattle.candidates.specs.Inner.Words.{pair, cand, cands, Outside}
 use Rattle.candidates.proofs.Words.{cands_none, cands_length, cands_take, cands_split, cands_cons, cands_each, outside_none, outside_wide, outside_then}
 use Rattle.walk.specs.Walk.{State, unexpanded, enter, ends, meet, expand, turn, turns}
-use Rattle.walk.specs.Inner.Scratch.{mark_word, mark, put_mark, marks_of, state_of, Walkable, Scannable, Entered, Unexpanded, Next, Stepped}
+use Rattle.vectors.specs.Space.{query_distance, space}
+use Rattle.slots.specs.Store.{Arrays}
+use Rattle.walk.specs.Inner.Scratch.{near_of, mark_word, mark, put_mark, marks_of, state_of, expands, Walkable, Entered, Unexpanded, Next, Stepped}
 use Rattle.walk.proofs.Ordered.{all_enter, enter_ordered, enter_short}
 use Rattle.slots.specs.Scratch.{marks_at, work_at}
 use Rattle.walk.proofs.Marks.{put_mark_length, mark_cases, mark_kept, mark_at, marks_set, list_kept, outside_mark}
@@ -77,41 +79,14 @@ entered_goes {capacity} {beam} {w} {n} {next} {d} {t} {w'} {n'} {next'} f h smal
       done = rw g.front (all_map (λ c. mark w c.id ≡ 2) (λ c. mark w' c.id ≡ 2) (λ c k. keeps c.id ∙ k) (cands w 0 next') (all_front _ w next next' g.passed f.done));
     }
 
--- ---- slots are met, ts to come
-pub record Meeting (capacity beam : ℕ) (dist : ℕ → ℕ) (near : ℕ → List ℕ) (w₀ : List ℕ) (to : State) (ts w : List ℕ) (n next : ℕ) : Type 0 where
-  pub meets : foldl (meet beam dist near) (state_of capacity w n) ts ≡ to
-  pub goes : Walkable capacity beam w n next
-  pub size : length w ≡ length w₀
-  pub same : Outside 0 (work_at capacity) w₀ w
-
-pub meeting_none : {capacity beam : ℕ} (dist : ℕ → ℕ) (near : ℕ → List ℕ) {w : List ℕ} {n next : ℕ} {us ts : List ℕ} → Walkable capacity beam w n next → us ≡ ts
-    → Meeting capacity beam dist near w (foldl (meet beam dist near) (state_of capacity w n) us) ts w n next
-meeting_none {capacity} {beam} dist near {w} {n} f e =
-    record { meets = ap (foldl (meet beam dist near) (state_of capacity w n)) (sym e); goes = f; size = refl; same = outside_none 0 (work_at capacity) w }
-
-module _ {capacity beam : ℕ} {dist : ℕ → ℕ} {near : ℕ → List ℕ} {w₀ : List ℕ} {to : State} {ts w : List ℕ} {n next : ℕ} (m : Meeting capacity beam dist near w₀ to ts w n next) where
-  -- with the state st, in which they have entered, us are to come
-  pub meeting_part : {st : State} {us w' w'' : List ℕ} {n' next' : ℕ} → foldl (meet beam dist near) st us ≡ foldl (meet beam dist near) (state_of capacity w n) ts
-      → Outside 0 (work_at capacity) w w' → length w' ≡ length w → Stepped capacity beam w' st w'' n' next' → Meeting capacity beam dist near w₀ to us w'' n' next'
-  meeting_part {us = us} {w'} {w''} e o l g =
-      record {
-        meets = ap (λ (x : State). foldl (meet beam dist near) x us) g.holds ∙ e ∙ m.meets;
-        goes = g.goes;
-        size = g.size ∙ l ∙ m.size;
-        same = outside_then 0 (work_at capacity) w₀ w w'' m.same (outside_then 0 (work_at capacity) w w' w'' o g.same);
-      }
-
-  pub meeting_done : ts ≡ [] → Stepped capacity beam w₀ to w n next
-  meeting_done e = record { holds = rw e at m.meets; goes = m.goes; size = m.size; same = m.same }
-
 -- the slot of a candidate is inside
-pub placed_inside : {capacity beam : ℕ} {w : List ℕ} {n next i s t : ℕ} → Walkable capacity beam w n next → i < n → t ≡ (cand w (0 + 2 * i)).id → s ≡ t → s < capacity
-placed_inside {capacity} {w = w} {n} {i = i} f h p q = rw (q, p) (cands_each (λ c. c.id < capacity) w 0 n f.inside i h)
+pub placed_inside : {capacity beam : ℕ} {w : List ℕ} {n next i s : ℕ} → Walkable capacity beam w n next → i < n → s ≡ (cand w (0 + 2 * i)).id → s < capacity
+placed_inside {capacity} {w = w} {n} {i = i} f h p = rw p (cands_each (λ c. c.id < capacity) w 0 n f.inside i h)
 
 -- a candidate is marked as expanded, and its neighbours are met
-module _ {capacity beam : ℕ} {w : List ℕ} {n next s t : ℕ} (f : Walkable capacity beam w n next) (h : next < n) (p : t ≡ (cand w (0 + 2 * next)).id) (q : s ≡ t) where
+module _ {capacity beam : ℕ} {w : List ℕ} {n next s : ℕ} (f : Walkable capacity beam w n next) (h : next < n) (p : s ≡ (cand w (0 + 2 * next)).id) where
   pub expands_inside : s < capacity
-  expands_inside = placed_inside f h p q
+  expands_inside = placed_inside f h p
 
   module _ {v : List ℕ} (m : v ≡ put_mark w s 2) where
     pub expands_goes : Walkable capacity beam v n next
@@ -122,7 +97,7 @@ module _ {capacity beam : ℕ} {w : List ℕ} {n next s t : ℕ} (f : Walkable c
     unfolding expand
     expanded_by dist near {w'} g =
         let z : 0 + 2 * next ≡ 2 * next = omega arith in
-        let i : s ≡ (cand w (2 * next)).id = q ∙ rw z at p in
+        let i : s ≡ (cand w (2 * next)).id = rw z at p in
         record {
           holds = g.holds ∙ ap (λ (st : State). foldl (meet beam dist near) st (near s)) (rw m (marked_state f s 2 expands_inside (omega arith)))
               ∙ ap (λ (x : ℕ). foldl (meet beam dist near) (record { list = cands w 0 n; marks = set (marks_of capacity w) x 2 }) (near x)) i;
@@ -165,17 +140,6 @@ module _ {capacity beam : ℕ} {w : List ℕ} {n next : ℕ} (f : Walkable capac
       passes ∙ ap (unexpanded (marks_of capacity w)) (cands_cons w 0 n r h)
       ∙ rw z (unexpanded_here (marks_of capacity w) (cand w (2 * r)) _ (λ y. x.stops h (sym (mark_at capacity w _ i) ∙ y)))
 
--- what the search for it asks
-pub next_ready : {capacity beam : ℕ} {w : List ℕ} {n next : ℕ} → Walkable capacity beam w n next → Scannable w n next
-next_ready {w = w} {n} f =
-    record {
-      long = f.listed.long;
-      most = omega (arith, f.listed);
-      inside = all_map _ _ (λ c h. omega (arith, f.room)) (cands w 0 n) f.inside;
-      passed = f.passed;
-      done = f.done;
-    }
-
 -- ---- turns: with `left` of them to come
 module _ (beam : ℕ) (dist : ℕ → ℕ) (near : ℕ → List ℕ) where
   turns_none : (st : State) → turns beam dist near 0 st ≡ st
@@ -203,23 +167,27 @@ module _ (beam : ℕ) (dist : ℕ → ℕ) (near : ℕ → List ℕ) where
   unfolding turn
   turn_goes st us c cs e h = rw (e, h)
 
-pub record Walking (capacity beam : ℕ) (dist : ℕ → ℕ) (near : ℕ → List ℕ) (w₀ : List ℕ) (to : State) (left : ℕ) (w : List ℕ) (n next : ℕ) : Type 0 where
-  pub turns_left : turns beam dist near left (state_of capacity w n) ≡ to
-  pub goes : Walkable capacity beam w n next
+pub record Walking (a : Arrays) (query : List ℕ) (beam : ℕ) (w₀ : List ℕ) (to : State) (left : ℕ) (w : List ℕ) (n next : ℕ) : Type 0 where
+  pub turns_left : turns beam (query_distance (space a.dim a.vectors) query) (near_of a) left (state_of (length a.marks) w n) ≡ to
+  pub goes : Walkable (length a.marks) beam w n next
   pub size : length w ≡ length w₀
-  pub same : Outside 0 (work_at capacity) w₀ w
-
-pub walking_none : {capacity beam : ℕ} (dist : ℕ → ℕ) (near : ℕ → List ℕ) (all : ℕ) {left : ℕ} {w : List ℕ} {n next : ℕ} → left ≡ all → Walkable capacity beam w n next
-    → Walking capacity beam dist near w (turns beam dist near all (state_of capacity w n)) left w n next
-walking_none {capacity} {beam} dist near all {w = w} {n} e f =
-    record { turns_left = ap (λ (k : ℕ). turns beam dist near k (state_of capacity w n)) e; goes = f; size = refl; same = outside_none 0 (work_at capacity) w }
+  pub same : Outside 0 (work_at (length a.marks)) w₀ w
 
 -- the cursor at the front
 from_front : {capacity beam : ℕ} {w : List ℕ} {n next : ℕ} → Walkable capacity beam w n next → Walkable capacity beam w n 0
 from_front {w = w} f =
     record { room = f.room; listed = f.listed; inside = f.inside; met = f.met; passed = omega arith; done = rw (cands_none w 0 0 refl) tt }
 
-module _ {capacity beam : ℕ} {dist : ℕ → ℕ} {near : ℕ → List ℕ} {w₀ : List ℕ} {to : State} {left : ℕ} {w : List ℕ} {n next : ℕ} (g : Walking capacity beam dist near w₀ to left w n next) where
+module _ {a : Arrays} {query : List ℕ} {beam : ℕ} {w₀ : List ℕ} {to : State} {left : ℕ} {w : List ℕ} {n next : ℕ} (g : Walking a query beam w₀ to left w n next) where
+  abbrev capacity : ℕ
+  capacity = length a.marks
+
+  abbrev dist : ℕ → ℕ
+  dist = query_distance (space a.dim a.vectors) query
+
+  abbrev near : ℕ → List ℕ
+  near = near_of a
+
   stays : turns beam dist near left (state_of capacity w n) ≡ state_of capacity w n → Stepped capacity beam w₀ to w n 0
   stays e = record { holds = sym e ∙ g.turns_left; goes = from_front g.goes; size = g.size; same = g.same }
 
@@ -249,15 +217,9 @@ module _ {capacity beam : ℕ} {dist : ℕ → ℕ} {near : ℕ → List ℕ} {w
       pub below : r < n
       below = omega (arith, here.within)
 
-      -- the cursor moves up
-      pub moved_up : Walkable capacity beam w n r
-      moved_up =
-          let f = g.goes in
-          record { room = f.room; listed = f.listed; inside = f.inside; met = f.met; passed = here.within; done = here.done }
-
       pub walking_more : {more : ℕ} {w' : List ℕ} {n' next' : ℕ} → left ≡ suc more
-          → Stepped capacity beam w (expand beam dist near (state_of capacity w n) (cand w (2 * r))) w' n' next'
-          → Walking capacity beam dist near w₀ to more w' n' next'
+          → Stepped capacity beam w (expands a query beam w n r) w' n' next'
+          → Walking a query beam w₀ to more w' n' next'
       walking_more {more} {w'} s y =
           let st : State = state_of capacity w n in
           record {

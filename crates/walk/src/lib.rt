@@ -5,15 +5,16 @@ mod words;
 
 ghost use Rattle.std.specs.Prelude.{false, ◌≡◌, List, ℕ, ◌+◌, ◌*◌, max, ◌<◌, ◌≤◌, length, take};
 ghost use Rattle.lists.specs.Lists.{elem};
+ghost use Rattle.vectors.specs.Lent.{HasVector};
 ghost use Rattle.slots.specs.Scratch.{work_at};
-ghost use Rattle.slots.specs.Store.{arrays};
-ghost use Rattle.slots.specs.Inner.Rows.{RowShape};
-ghost use Rattle.walk.specs.Inner.Scratch.{near_of, near_but, mark_word, mark, with_fresh, expands, takes_turns, Walkable, Fresh, UnmetAt, Added, Gathers, Stepped, Vectors, Lent, Ready, Found, Pool};
+ghost use Rattle.slots.specs.Lent.{graph_of};
+ghost use Rattle.walk.specs.Inner.Scratch.{near_of, near_but, mark_word, mark, with_fresh, expands, takes_turns, Walkable, Fresh, UnmetAt, Added, Gathers, Stepped, Ready, Found, Pool};
 
 use candidates::id_at;
 use distances::{query_distance, touch_vector};
-use slots::marks::{is_valid, wide};
-use slots::rows::{Ref, live_at, target_at, touch_row};
+use slots::Graph;
+use slots::marks::is_valid;
+use vectors::Space;
 use words::{EXPANDED, Held};
 
 // How many places of a row are gathered at once, at most.
@@ -22,71 +23,44 @@ const FRESH: usize = 64;
 // More than what is touched for a part of a row sums up to.
 const TOUCHED: u32 = 1048576;
 
+// A search: the graph that is walked, the query, and how many candidates the list holds at most.
+#[derive(Clone, Copy)]
+struct Search<'a> {
+    graph: Graph<'a>,
+    query: &'a [u8],
+    beam: usize,
+    ghost query_long: { length query.now ≡ graph.space.dim },
+}
+
 // The reference at a place of slot `s`'s row, where it is live and leads to a slot that is not met. What is met needs no further test.
-fn unmet_at(
-    degree: usize,
-    targets: &[u32],
-    edges: &[u16],
-    versions: &[u16],
-    marks: &[u8],
-    s: usize,
-    place: usize,
-    scratch: &[u32],
-) -> Ref
-    requires row_shape { RowShape degree targets.now edges.now versions.now marks.now }
-    requires s_in_bounds { (s < length marks.now) × (place < degree) × (work_at (length marks.now) ≤ length scratch.now) }
-    ensures { (dim : ℕ) (vectors : List ℕ) → UnmetAt (arrays dim degree vectors targets.now edges.now versions.now marks.now) s place scratch.now result }
+fn unmet_at(graph: &Graph<'_>, s: usize, place: usize, scratch: &[u32]) -> Option<u32>
+    requires { (s < length graph.now.rows.marks.now) × (place < graph.now.rows.degree) × (work_at (length graph.now.rows.marks.now) ≤ length scratch.now) }
+    ensures { UnmetAt (graph_of graph.now) s place scratch.now result }
 {
-    let t = target_at(degree, targets, s, place);
-    if words::is_unmet(scratch, marks.len(), t) {
-        return live_at(degree, targets, edges, versions, marks, s, place);
+    let rows = graph.rows;
+    let t = rows.target_at(s, place);
+    if words::is_unmet(scratch, rows.marks.len(), t) {
+        return rows.live_at(s, place);
     }
-    Ref::Dead
+    None
 }
 
 // Marks slot `id`, which is not met, as met and writes it behind the `n` slots of `fresh`. Touches its vector.
-fn add(dim: usize, vectors: &[u8], id: u32, n: usize, scratch: &mut [u32], fresh: &mut [u32]) -> u32
-    requires dim_in_bounds { id * dim + dim ≤ length vectors.now }
+fn add(space: &Space<'_>, id: u32, n: usize, scratch: &mut [u32], fresh: &mut [u32]) -> u32
+    requires has_vector { HasVector space.now id }
     requires id_in_bounds { (mark_word id < length scratch.old) × (mark scratch.old id ≡ 0) × (n < length fresh.old) }
     ensures { Added id n scratch.old fresh.old scratch.new fresh.new × (result ≤ 1020) }
 {
-    let s = wide(id);
+    let s = id as usize;
     words::mark_met(scratch, s);
     fresh[n] = id;
-    touch_vector(dim, vectors, s)
-}
-
-// Touches the row of the candidate behind `held.next`, which is often the one that is expanded next.
-fn touch_next(
-    degree: usize,
-    targets: &[u32],
-    edges: &[u16],
-    capacity: usize,
-    beam: usize,
-    held: Held,
-    scratch: &[u32],
-) -> u32
-    requires targets_len { (length targets.now ≡ capacity * degree) × (length edges.now ≡ capacity * degree) }
-    requires walkable { Walkable capacity beam scratch.now held.count held.next × (held.next < held.count) }
-    ensures { result ≤ 1020 }
-{
-    let i = held.next + 1;
-    if i < held.count {
-        return touch_row(degree, targets, edges, wide(id_at(scratch, 0, i)));
-    }
-    0
+    touch_vector(space, s)
 }
 
 // Gathers the slots of slot `s`'s row that are live and not met, from place `from` up to `to`. Returns how many they are. What is
 // touched counts for nothing, nor does `ahead`, which was touched before: but the compiler, which does not know that, reads it.
 fn gather(
-    dim: usize,
-    degree: usize,
-    vectors: &[u8],
-    targets: &[u32],
-    edges: &[u16],
-    versions: &[u16],
-    marks: &[u8],
+    graph: &Graph<'_>,
     s: usize,
     from: usize,
     to: usize,
@@ -94,236 +68,139 @@ fn gather(
     scratch: &mut [u32],
     fresh: &mut [u32],
 ) -> usize
-    requires row_shape { RowShape degree targets.now edges.now versions.now marks.now × (length vectors.now ≡ length marks.now * dim) }
-    requires marks_in_bounds { (work_at (length marks.now) ≤ length scratch.old) × (length fresh.old ≡ 64) }
-    requires s_in_bounds { (s < length marks.now) × (from ≤ to) × (to ≤ degree) × (to ≤ from + 64) × (ahead ≤ 1020) }
-    ensures { Gathers (arrays dim degree vectors.now targets.now edges.now versions.now marks.now) s from to scratch.old scratch.new fresh.new result }
+    requires marks_in_bounds { (work_at (length graph.now.rows.marks.now) ≤ length scratch.old) × (length fresh.old ≡ 64) }
+    requires s_in_bounds { (s < length graph.now.rows.marks.now) × (from ≤ to) × (to ≤ graph.now.rows.degree) × (to ≤ from + 64) × (ahead ≤ 1020) }
+    ensures { Gathers (graph_of graph.now) s from to scratch.old scratch.new fresh.new result }
 {
     let mut n: usize = 0;
     let mut touched = ahead;
-    let mut place = from;
-    while place < to {
-        let r = unmet_at(degree, targets, edges, versions, marks, s, place, scratch);
-        match r {
-            Ref::At(t) => {
-                touched += add(dim, vectors, t, n, scratch, fresh);
-                n += 1;
-            }
-            Ref::Dead => {}
+    for place in from..to {
+        if let Some(t) = unmet_at(graph, s, place, scratch) {
+            touched += add(&graph.space, t, n, scratch, fresh);
+            n += 1;
         }
-        place += 1;
     }
     n + (touched / TOUCHED) as usize
 }
 
-// The `n` slots of `fresh` enter the list, each at its distance.
-fn enter_all(
-    dim: usize,
-    vectors: &[u8],
-    query: &[u8],
-    capacity: usize,
-    beam: usize,
-    held: Held,
-    n: usize,
-    fresh: &[u32],
-    scratch: &mut [u32],
-) -> Held
-    requires vectors { Vectors dim capacity vectors.now query.now × Walkable capacity beam scratch.old held.count held.next }
-    requires n_in_bounds { (n ≤ length fresh.now) × Fresh capacity scratch.old held.count (take n fresh.now) }
-    ensures { Stepped capacity beam scratch.old (with_fresh dim vectors.now query.now capacity beam scratch.old held.count (take n fresh.now)) scratch.new result.count result.next }
-{
-    let mut now = held;
-    let mut k: usize = 0;
-    while k < n {
-        let id = fresh[k];
-        let dist = query_distance(dim, vectors, query, wide(id));
-        now = words::enter(scratch, beam, now, dist, id);
-        k += 1;
-    }
-    now
-}
+impl Search<'_> {
+    ghost use Rattle.std.specs.Prelude.{◌≡◌, ◌<◌, ◌≤◌, length};
+    ghost use Rattle.slots.specs.Lent.{graph_of};
+    ghost use Rattle.walk.specs.Inner.Scratch.{with_fresh, expands, takes_turns, Fresh};
+    ghost use Rattle.walk.specs.Inner.Searching.{Goes, Steps};
 
-// Where a part of a row ends that begins at `place`: at most 64 places behind.
-fn part_end(degree: usize, place: usize) -> usize
-    requires { place < degree }
-    ensures { (place < result) × (result ≤ degree) × (result ≤ place + 64) }
-{
-    if degree - place < FRESH {
-        degree
-    } else {
-        place + FRESH
-    }
-}
-
-// Expands the candidate at `held.next`: its slot is marked, and its live neighbours are met in row order.
-fn expand(
-    dim: usize,
-    degree: usize,
-    vectors: &[u8],
-    targets: &[u32],
-    edges: &[u16],
-    versions: &[u16],
-    marks: &[u8],
-    query: &[u8],
-    beam: usize,
-    held: Held,
-    scratch: &mut [u32],
-    fresh: &mut [u32],
-) -> Held
-    requires lent { Lent (arrays dim degree vectors.now targets.now edges.now versions.now marks.now) query.now }
-    requires walkable { Walkable (length marks.now) beam scratch.old held.count held.next × (held.next < held.count) × (length fresh.old ≡ 64) }
-    ensures { Stepped (length marks.now) beam scratch.old (expands (arrays dim degree vectors.now targets.now edges.now versions.now marks.now) query.now beam scratch.old held.count held.next) scratch.new result.count result.next }
-{
-    let ahead = touch_next(degree, targets, edges, marks.len(), beam, held, scratch);
-    let i = held.next;
-    let s = wide(id_at(scratch, 0, i));
-    words::set_mark(scratch, s, EXPANDED);
-    let mut now = held;
-    let mut place: usize = 0;
-    while place < degree {
-        let to = part_end(degree, place);
-        let n = gather(
-            dim, degree, vectors, targets, edges, versions, marks, s, place, to, ahead, scratch,
-            fresh,
-        );
-        now = enter_all(
-            dim,
-            vectors,
-            query,
-            marks.len(),
-            beam,
-            now,
-            n,
-            fresh,
-            scratch,
-        );
-        place = to;
-    }
-    now
-}
-
-// The turns of the walk, from the start alone. Returns how many candidates the list holds then.
-fn take_turns(
-    dim: usize,
-    degree: usize,
-    vectors: &[u8],
-    targets: &[u32],
-    edges: &[u16],
-    versions: &[u16],
-    marks: &[u8],
-    query: &[u8],
-    beam: usize,
-    scratch: &mut [u32],
-    fresh: &mut [u32],
-) -> usize
-    requires lent { Lent (arrays dim degree vectors.now targets.now edges.now versions.now marks.now) query.now }
-    requires walkable { Walkable (length marks.now) beam scratch.old 1 0 × (length fresh.old ≡ 64) }
-    ensures { Stepped (length marks.now) beam scratch.old (takes_turns (arrays dim degree vectors.now targets.now edges.now versions.now marks.now) query.now beam scratch.old 1) scratch.new result 0 }
-{
-    let mut held = Held { count: 1, next: 0 };
-    for _ in 0..marks.len() {
-        let i = words::next(scratch, beam, held);
-        if i == held.count {
-            return i;
+    // Touches the row of the candidate behind `held.next`, which is often the one that is expanded next.
+    fn touch_next(&self, held: Held, scratch: &[u32]) -> u32
+        requires { Goes self.now scratch.now held.count held.next × (held.next < held.count) }
+        ensures { result ≤ 1020 }
+    {
+        let i = held.next + 1;
+        if i < held.count {
+            return self.graph.rows.touch(id_at(scratch, 0, i) as usize);
         }
-        held.next = i;
-        held = expand(
-            dim, degree, vectors, targets, edges, versions, marks, query, beam, held, scratch,
-            fresh,
-        );
+        0
     }
-    held.count
-}
 
-// The beam, at least 1.
-fn at_least_one(beam: usize) -> usize
-    ensures { result ≡ max 1 beam }
-{
-    if beam == 0 { 1 } else { beam }
+    // The slots of `fresh` enter the list, each at its distance.
+    fn enter_all(&self, held: Held, fresh: &[u32], scratch: &mut [u32]) -> Held
+        requires { Goes self.now scratch.old held.count held.next × Fresh (length self.now.graph.rows.marks.now) scratch.old held.count fresh.now }
+        ensures { Steps self.now scratch.old (with_fresh (graph_of self.now.graph) self.now.query.now self.now.beam scratch.old held.count fresh.now) scratch.new result.count result.next }
+    {
+        let mut now = held;
+        for id in fresh {
+            let dist = query_distance(&self.graph.space, self.query, *id as usize);
+            now = words::enter(scratch, self.beam, now, dist, *id);
+        }
+        now
+    }
+
+    // Expands the candidate at `held.next`: its slot is marked, and its live neighbours are met in row order.
+    fn expand(&self, held: Held, scratch: &mut [u32], fresh: &mut [u32]) -> Held
+        requires { Goes self.now scratch.old held.count held.next × (held.next < held.count) × (length fresh.old ≡ 64) }
+        ensures { Steps self.now scratch.old (expands (graph_of self.now.graph) self.now.query.now self.now.beam scratch.old held.count held.next) scratch.new result.count result.next }
+    {
+        let ahead = self.touch_next(held, scratch);
+        let s = id_at(scratch, 0, held.next) as usize;
+        words::set_mark(scratch, s, EXPANDED);
+        let degree = self.graph.rows.degree;
+        let mut now = held;
+        for from in (0..degree).step_by(FRESH) {
+            let to = from + FRESH.min(degree - from);
+            let n = gather(&self.graph, s, from, to, ahead, scratch, fresh);
+            now = self.enter_all(now, &fresh[..n], scratch);
+        }
+        now
+    }
+
+    // The turns of the walk, from the start alone. Returns how many candidates the list holds then.
+    fn take_turns(&self, scratch: &mut [u32]) -> usize
+        requires { Goes self.now scratch.old 1 0 }
+        ensures { Steps self.now scratch.old (takes_turns (graph_of self.now.graph) self.now.query.now self.now.beam scratch.old 1) scratch.new result 0 }
+    {
+        let mut fresh = [0u32; FRESH];
+        let mut held = Held { count: 1, next: 0 };
+        for _ in 0..self.graph.rows.marks.len() {
+            let i = words::next(scratch, self.beam, held);
+            if i == held.count {
+                return i;
+            }
+            held.next = i;
+            held = self.expand(held, scratch, &mut fresh);
+        }
+        held.count
+    }
 }
 
 // The walk from `start` that leaves the slots of `ids` out; these may be any numbers. Returns how many candidates it found.
 pub fn residual_search(
-    dim: usize,
-    degree: usize,
-    vectors: &[u8],
-    targets: &[u32],
-    edges: &[u16],
-    versions: &[u16],
-    marks: &[u8],
+    graph: &Graph<'_>,
     query: &[u8],
     start: u32,
     beam: usize,
     ids: &[u32],
     scratch: &mut [u32],
 ) -> usize
-    requires ready { Ready (arrays dim degree vectors.now targets.now edges.now versions.now marks.now) query.now start beam scratch.old }
+    requires ready { Ready (graph_of graph.now) query.now start beam scratch.old }
     requires ids_value { elem start ids.now ≡ false }
-    ensures { Found (arrays dim degree vectors.now targets.now edges.now versions.now marks.now) query.now (near_but ids.now) start beam scratch.old scratch.new result }
+    ensures { Found (graph_of graph.now) query.now (near_but ids.now) start beam scratch.old scratch.new result }
 {
-    let width = at_least_one(beam);
-    let dist = query_distance(dim, vectors, query, wide(start));
-    words::begin(scratch, marks.len(), ids, dist, start);
-    let mut fresh = [0u32; 64];
-    take_turns(
-        dim, degree, vectors, targets, edges, versions, marks, query, width, scratch, &mut fresh,
-    )
+    let dist = query_distance(&graph.space, query, start as usize);
+    words::begin(scratch, graph.rows.marks.len(), ids, dist, start);
+    let search = Search {
+        graph: *graph,
+        query,
+        beam: beam.max(1),
+    };
+    search.take_turns(scratch)
 }
 
 // The walk from `start`: its candidates, nearest first, from word 0 of `scratch` on. Returns how many they are.
 pub fn graph_search(
-    dim: usize,
-    degree: usize,
-    vectors: &[u8],
-    targets: &[u32],
-    edges: &[u16],
-    versions: &[u16],
-    marks: &[u8],
+    graph: &Graph<'_>,
     query: &[u8],
     start: u32,
     beam: usize,
     scratch: &mut [u32],
 ) -> usize
-    requires { Ready (arrays dim degree vectors.now targets.now edges.now versions.now marks.now) query.now start beam scratch.old }
-    ensures { Found (arrays dim degree vectors.now targets.now edges.now versions.now marks.now) query.now near_of start beam scratch.old scratch.new result }
+    requires { Ready (graph_of graph.now) query.now start beam scratch.old }
+    ensures { Found (graph_of graph.now) query.now near_of start beam scratch.old scratch.new result }
 {
-    residual_search(
-        dim,
-        degree,
-        vectors,
-        targets,
-        edges,
-        versions,
-        marks,
-        query,
-        start,
-        beam,
-        &[],
-        scratch,
-    )
+    residual_search(graph, query, start, beam, &[], scratch)
 }
 
 // The walk from the entry; nothing where the entry is dead.
 pub fn search_pool(
-    dim: usize,
-    degree: usize,
-    vectors: &[u8],
-    targets: &[u32],
-    edges: &[u16],
-    versions: &[u16],
-    marks: &[u8],
+    graph: &Graph<'_>,
     query: &[u8],
     entry: u32,
     beam: usize,
     scratch: &mut [u32],
 ) -> usize
-    requires { Ready (arrays dim degree vectors.now targets.now edges.now versions.now marks.now) query.now entry beam scratch.old }
-    ensures { Pool (arrays dim degree vectors.now targets.now edges.now versions.now marks.now) query.now entry beam scratch.old scratch.new result }
+    requires { Ready (graph_of graph.now) query.now entry beam scratch.old }
+    ensures { Pool (graph_of graph.now) query.now entry beam scratch.old scratch.new result }
 {
-    if is_valid(marks, wide(entry)) {
-        return graph_search(
-            dim, degree, vectors, targets, edges, versions, marks, query, entry, beam, scratch,
-        );
+    if is_valid(graph.rows.marks, entry as usize) {
+        return graph_search(graph, query, entry, beam, scratch);
     }
     0
 }

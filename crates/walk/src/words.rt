@@ -1,6 +1,6 @@
 // What a walk keeps in the scratch (its map: slots::scratch): the list, and a mark for each slot, which is 0 before the slot is met, 1 when it is met and
 // 2 when it is expanded. A mark takes two bits, so that a word has those of 16 slots. The words behind the marks are not touched.
-ghost use Rattle.std.specs.Prelude.{◌≡◌, ◌+◌, ◌*◌, ◌%◌, min, ◌<◌, ◌≤◌, length};
+ghost use Rattle.std.specs.Prelude.{◌≡◌, ◌+◌, ◌*◌, ◌%◌, ◌<◌, ◌≤◌, length};
 ghost use Rattle.candidates.specs.Inner.Words.{pair, cand, cands};
 ghost use Rattle.walk.specs.Walk as Walk;
 ghost use Rattle.slots.specs.Scratch.{work_at};
@@ -8,14 +8,14 @@ ghost use Rattle.walk.specs.Inner.Scratch as Scratch;
 ghost use Rattle.walk.specs.Inner.Scratch.{mark_word, put_mark, unmet, Listed, Scannable, Entered, Unexpanded, Next, Cleared, LeftOut, Begun};
 
 use candidates::{dist_at, id_at, insert_ordered, put};
-use slots::marks::wide;
 use slots::scratch::MARKS;
 
+// Marks are numbers and no enum, since they are bits of the lent words: the memory is fixed.
 const MET: u32 = 1;
 
 pub const EXPANDED: u32 = 2;
 
-// How many candidates the list holds, and how many of its first are known to be expanded.
+// How many candidates the list holds, and how many of its first are known to be expanded. It has no field for the words, since Rattle passes no `&mut` field on.
 #[derive(Clone, Copy)]
 pub struct Held {
     pub count: usize,
@@ -63,7 +63,7 @@ pub fn set_mark(scratch: &mut [u32], s: usize, v: u32)
     scratch[at] = put_field(place_of(s), v, scratch[at]);
 }
 
-// Marks slot `s`, which is not met, as met.
+// Marks slot `s`, which is not met, as met: one sum, where `set_mark` reads and writes the two bits.
 pub fn mark_met(scratch: &mut [u32], s: usize)
     requires { (mark_word s < length scratch.old) × (Scratch.mark scratch.old s ≡ 0) }
     ensures { scratch.new ≡ put_mark scratch.old s 1 }
@@ -76,18 +76,8 @@ pub fn is_unmet(scratch: &[u32], capacity: usize, id: u32) -> bool
     requires { work_at capacity ≤ length scratch.now }
     ensures { result ≡ unmet capacity scratch.now id }
 {
-    let s = wide(id);
-    if s < capacity {
-        return mark(scratch, s) == 0;
-    }
-    false
-}
-
-// The lesser of two numbers.
-fn least(a: usize, b: usize) -> usize
-    ensures { result ≡ min a b }
-{
-    if a < b { a } else { b }
+    let s = id as usize;
+    s < capacity && mark(scratch, s) == 0
 }
 
 // Marks no slot as met.
@@ -95,12 +85,7 @@ fn clear(scratch: &mut [u32], capacity: usize)
     requires { work_at capacity ≤ length scratch.old }
     ensures { Cleared capacity scratch.old scratch.new }
 {
-    let words = (capacity + 15) / 16;
-    let mut i: usize = 0;
-    while i < words {
-        scratch[MARKS + i] = 0;
-        i += 1;
-    }
+    scratch[MARKS..MARKS + capacity.div_ceil(16)].fill(0);
 }
 
 // Marks those of `ids` that are slots as met, so that the walk leaves them out.
@@ -108,13 +93,11 @@ fn leave_out(scratch: &mut [u32], capacity: usize, ids: &[u32])
     requires { work_at capacity ≤ length scratch.old }
     ensures { LeftOut capacity ids.now scratch.old scratch.new }
 {
-    let mut i: usize = 0;
-    while i < ids.len() {
-        let s = wide(ids[i]);
+    for id in ids {
+        let s = *id as usize;
         if s < capacity {
             set_mark(scratch, s, MET);
         }
-        i += 1;
     }
 }
 
@@ -125,7 +108,7 @@ pub fn begin(scratch: &mut [u32], capacity: usize, ids: &[u32], dist: u32, start
 {
     clear(scratch, capacity);
     leave_out(scratch, capacity, ids);
-    set_mark(scratch, wide(start), MET);
+    set_mark(scratch, start as usize, MET);
     put(scratch, 0, dist, start);
 }
 
@@ -134,15 +117,12 @@ fn unexpanded(scratch: &[u32], n: usize, from: usize) -> usize
     requires { Scannable scratch.now n from }
     ensures { Unexpanded scratch.now n result }
 {
-    let mut i = from;
-    while i < n {
-        let s = wide(id_at(scratch, 0, i));
-        if mark(scratch, s) != EXPANDED {
+    for i in from..n {
+        if mark(scratch, id_at(scratch, 0, i) as usize) != EXPANDED {
             return i;
         }
-        i += 1;
     }
-    i
+    n
 }
 
 // Whether the walk ends before candidate `i` of `n` is expanded: the list is full, and the candidate is not nearer than the worst.
@@ -150,10 +130,7 @@ fn ends(scratch: &[u32], beam: usize, n: usize, i: usize) -> bool
     requires { (i < n) × (2 * n ≤ length scratch.now) }
     ensures { result ≡ Walk.ends beam (cands scratch.now 0 n) (cand scratch.now (2 * i)) }
 {
-    if beam <= n {
-        return dist_at(scratch, 0, n - 1) <= dist_at(scratch, 0, i);
-    }
-    false
+    beam <= n && dist_at(scratch, 0, n - 1) <= dist_at(scratch, 0, i)
 }
 
 // The place of the candidate that is expanded next; `held.count` where the walk ends.
@@ -163,10 +140,7 @@ pub fn next(scratch: &[u32], beam: usize, held: Held) -> usize
 {
     let n = held.count;
     let i = unexpanded(scratch, n, held.next);
-    if i == n {
-        return n;
-    }
-    if ends(scratch, beam, n, i) {
+    if i == n || ends(scratch, beam, n, i) {
         return n;
     }
     i
@@ -182,7 +156,7 @@ pub fn enter(scratch: &mut [u32], beam: usize, held: Held, dist: u32, id: u32) -
         let place = insert_ordered(scratch, 0, n, dist, id);
         return Held {
             count: n + 1,
-            next: least(place, held.next),
+            next: place.min(held.next),
         };
     }
     let last = n - 1;
@@ -192,6 +166,6 @@ pub fn enter(scratch: &mut [u32], beam: usize, held: Held, dist: u32, id: u32) -
     let place = insert_ordered(scratch, 0, last, dist, id);
     Held {
         count: n,
-        next: least(place, held.next),
+        next: place.min(held.next),
     }
 }

@@ -2,11 +2,9 @@
 use Rattle.std.specs.Prelude.{ℕ, ◌+◌, ◌≤◌, ◌<◌, Bool, not, cond, List, ◌≡◌, length, set}
 use Rattle.lists.specs.Lists.{filter, elem, part, put_front}
 use Rattle.vectors.specs.Space.{query_distance, space}
-use Rattle.vectors.specs.Vector.{Bytes}
 use Rattle.candidates.specs.Candidates.{ids}
 use Rattle.slots.specs.Scratch.{work_at}
 use Rattle.slots.specs.Store.{Arrays}
-use Rattle.slots.specs.Inner.Rows.{RowShape}
 use Rattle.walk.specs.Walk.{graph_search}
 use Rattle.walk.specs.Inner.Scratch.{near_but}
 
@@ -22,8 +20,6 @@ lost_of before after ls = filter (λ l. not (after l)) (filter before ls)
 
 -- what a trial walk asks
 pub record Walks (a : Arrays) (entry beam : ℕ) (w : List ℕ) : Type 0 where
-  pub bytes : Bytes a.dim (length a.marks) a.vectors
-  pub rows : RowShape a.degree a.targets a.edges a.versions a.marks
   pub entry_inside : entry < length a.marks
   pub beam_most : beam ≤ 1024
   pub room : work_at (length a.marks) ≤ length w

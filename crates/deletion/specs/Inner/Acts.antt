@@ -7,25 +7,25 @@ use Rattle.slots.specs.Store.{Arrays, arrays, store_ops}
 use Rattle.row.specs.Row.{index_of}
 use Rattle.links.specs.Inner.Linking.{between, apply_link}
 use Rattle.links.specs.Inner.Planning.{Area, plans_at}
-use Rattle.deletion.specs.Inner.Naming.{Emptied, Inside, cleared, entry_after}
+use Rattle.deletion.specs.declared.layout.Layout.{Layout}
+use Rattle.deletion.specs.declared.plans.Repair.{Repair}
+use Rattle.deletion.specs.Inner.Layout.{layout_of}
+use Rattle.deletion.specs.Inner.Naming.{Emptied, Inside}
 use Rattle.deletion.specs.Inner.Plans.{RowsTaken, Makeable, PlansMade}
 
 -- ---- the first acts
--- places for the slots of 256 ids, one behind the other
-pub record Takeable (marks : List ℕ) (entry : ℕ) (named w : List ℕ) (from stats plans : ℕ) : Type 0 where
-  pub entry_in : entry < length marks
+-- 256 ids at most, room for the slots and their plans, and rows of at most 64
+pub record Takeable (a : Arrays) (named w : List ℕ) : Type 0 where
   pub ids_most : length named ≤ 256
-  pub first : from + 512 ≤ stats
-  pub second : stats + 1024 ≤ plans
-  pub third : plans + 163840 ≤ length w
+  pub room : (layout_of (length a.marks) 0).base ≤ length w
+  pub low : a.degree ≤ 64
 
--- the p slots stood in the words `taken`; their rows are taken, their marks are cleared, and e is the entry
-pub record Marked (a : Arrays) (entry : ℕ) (named w : List ℕ) (from stats plans p e : ℕ) (marks' w' : List ℕ) : Type 0 where
+-- the slots of the layout stood in the words `taken`, and their rows are taken
+pub record Taken (a : Arrays) (named w : List ℕ) (at : Layout) (w' : List ℕ) : Type 0 where
+  pub place : at ≡ layout_of (length a.marks) at.count
   pub taken : List ℕ
-  pub list : Emptied a.marks named w from p taken
-  pub rows : RowsTaken a taken from p stats plans w'
-  pub marks_are : marks' ≡ cleared a.marks (ids (cands taken from p))
-  pub entry_is : e ≡ entry_after marks' entry (ids (cands taken from p))
+  pub list : Emptied a.marks named w at.from at.count taken
+  pub rows : RowsTaken a taken at w'
 
 -- ---- the last act
 pub record Finishable (degree : ℕ) (targets edges versions w : List ℕ) (at n : ℕ) : Type 0 where
@@ -39,16 +39,17 @@ pub record AllFinished (degree : ℕ) (targets edges versions w : List ℕ) (at 
 
 -- ---- the later acts
 -- the plans can be made, and words behind them are room to apply the links of one
-pub record Repairable (a : Arrays) (entry beam repair_degree : ℕ) (w : List ℕ) (from p stats plans base : ℕ) : Type 0 where
-  pub makes : Makeable a entry beam repair_degree w from p stats plans
-  pub placed : plans + 640 * p ≤ base
-  pub area : Area a.degree w base
+pub record Repairable (a : Arrays) (how : Repair) (w : List ℕ) (at : Layout) : Type 0 where
+  pub makes : Makeable a how w at
+  pub placed : at.plans + 640 * at.count ≤ at.base
+  pub area : Area a.degree w at.base
 
 -- the plans stood in the words `made`; their links were applied, and the slots were finished
-pub record Repaired (alpha : Float) (a : Arrays) (entry beam repair_degree : ℕ) (w : List ℕ) (from p stats plans base : ℕ) (a' : Arrays) (w' : List ℕ) : Type 0 where
+pub record Repaired (alpha : Float) (a : Arrays) (how : Repair) (w : List ℕ) (at : Layout) (a' : Arrays) (w' : List ℕ) : Type 0 where
   pub made : List ℕ
-  pub plan : PlansMade a entry beam repair_degree w from p stats plans made
-  pub does : index_of alpha entry a'
-      ≡ foldl store_ops.finish (foldl apply_link (index_of alpha entry a) (plans_at (between a.dim a.vectors) repair_degree entry made stats plans p)) (ids (cands w from p))
+  pub plan : PlansMade a how w at made
+  pub does : index_of alpha how.entry a'
+      ≡ foldl store_ops.finish (foldl apply_link (index_of alpha how.entry a) (plans_at (between a.dim a.vectors) how.degree how.entry made at.stats at.plans at.count))
+      (ids (cands w at.from at.count))
   pub size : length w' ≡ length w
-  pub same : (i : ℕ) → i < base → get_or w' i 0 ≡ get_or made i 0
+  pub same : (i : ℕ) → i < at.base → get_or w' i 0 ≡ get_or made i 0

@@ -1,47 +1,49 @@
--- The plans of a delete in lent words: what the functions ask, and what they leave. From word `from` on lie the deleted slots as candidates, from `stats`
--- on four counts for each, and from `plans` on 640 words for the candidates of each plan. Assumes nothing.
-use Rattle.std.specs.Prelude.{ℕ, ◌+◌, ◌*◌, ◌≤◌, ◌<◌, Bool, false, List, [], ◌++◌, ◌≡◌, Float, length, get_or, set}
+-- The plans of a delete in lent words: what the functions ask, and what they leave. From word `from` of a layout on lie the deleted slots as candidates, from
+-- `stats` on four counts for each, and from `plans` on 640 words for the candidates of each plan. Assumes nothing.
+use Rattle.std.specs.Prelude.{ℕ, ◌+◌, ◌*◌, ◌≤◌, ◌<◌, Bool, false, List, ◌++◌, ◌≡◌, Float, length, get_or, set}
 use Rattle.lists.specs.Lists.{All, filter, elem, sorted_set}
 use Rattle.candidates.specs.Candidates.{ids}
 use Rattle.candidates.specs.Inner.Words.{cand, cands, Outside}
 use Rattle.slots.specs.Scratch.{work_at}
 use Rattle.slots.specs.View.{View, live_neighbors}
-use Rattle.slots.specs.Store.{Arrays, is_valid, refs_of, store_view, arrays}
+use Rattle.slots.specs.Store.{Arrays, is_valid, refs_of, store_view}
 use Rattle.row.specs.Row.{index_of}
 use Rattle.walk.specs.Walk.{search_pool}
 use Rattle.links.specs.Inner.Planning.{Plan, Attempted, count_at}
+use Rattle.deletion.specs.declared.layout.Layout.{Layout}
+use Rattle.deletion.specs.declared.plans.Repair.{Repair}
 use Rattle.deletion.specs.Inner.Naming.{Inside}
 
 -- ---- the rows of the deleted slots
-pub record Table (degree : ℕ) (w : List ℕ) (from p stats plans : ℕ) : Type 0 where
-  pub first : from + 2 * p ≤ stats
-  pub second : stats + 4 * p ≤ plans
-  pub third : plans + 640 * p ≤ length w
-  pub few : p ≤ 256
+pub record Table (degree : ℕ) (w : List ℕ) (at : Layout) : Type 0 where
+  pub first : at.from + 2 * at.count ≤ at.stats
+  pub second : at.stats + 4 * at.count ≤ at.plans
+  pub third : at.plans + 640 * at.count ≤ length w
+  pub few : at.count ≤ 256
   pub low : degree ≤ 64
 
 -- the number of live targets of slot j
-abbrev pub row_count : List ℕ → ℕ → ℕ → ℕ
-row_count w stats j = get_or w (stats + 4 * j) 0
+abbrev pub row_count : List ℕ → Layout → ℕ → ℕ
+row_count w at j = get_or w (at.stats + 4 * j) 0
 
 -- the live row of slot s lies at plan j, and its length is the first count
-pub record RowOf (a : Arrays) (s : ℕ) (w : List ℕ) (stats plans j : ℕ) : Type 0 where
-  pub list : (alpha : Float) (entry : ℕ) → ids (cands w (plans + 640 * j) (row_count w stats j)) ≡ live_neighbors (store_view (index_of alpha entry a)) s
-  pub few : row_count w stats j ≤ a.degree
+pub record RowOf (a : Arrays) (s : ℕ) (w : List ℕ) (at : Layout) (j : ℕ) : Type 0 where
+  pub list : (alpha : Float) (entry : ℕ) → ids (cands w (at.plans + 640 * j) (row_count w at j)) ≡ live_neighbors (store_view (index_of alpha entry a)) s
+  pub few : row_count w at j ≤ a.degree
 
-pub record RowsTaken (a : Arrays) (w : List ℕ) (from p stats plans : ℕ) (w' : List ℕ) : Type 0 where
-  pub each : (j : ℕ) → j < p → RowOf a (cand w (from + 2 * j)).id w' stats plans j
+pub record RowsTaken (a : Arrays) (w : List ℕ) (at : Layout) (w' : List ℕ) : Type 0 where
+  pub each : (j : ℕ) → j < at.count → RowOf a (cand w (at.from + 2 * j)).id w' at j
   pub size : length w' ≡ length w
-  pub same : (j : ℕ) → j < stats → get_or w' j 0 ≡ get_or w j 0
+  pub same : (j : ℕ) → j < at.stats → get_or w' j 0 ≡ get_or w j 0
 
 -- ---- the candidates of a plan
 -- whether the row of slot s holds id in its present version
-abbrev pub refers : ℕ → ℕ → List ℕ → List ℕ → List ℕ → ℕ → Bool
-refers id degree targets edges versions s = elem id (refs_of (arrays 0 degree [] targets edges versions []) s)
+abbrev pub refers : Arrays → ℕ → ℕ → Bool
+refers a id s = elem id (refs_of a s)
 
 -- rows for the slots of n candidates at `at`, and room for as many at `to`
-pub record RowsIn (degree : ℕ) (targets edges w : List ℕ) (at n to : ℕ) : Type 0 where
-  pub stored : All (λ c. (c.id * degree + degree ≤ length targets) × (c.id * degree + degree ≤ length edges)) (cands w at n)
+pub record RowsIn (a : Arrays) (w : List ℕ) (at n to : ℕ) : Type 0 where
+  pub stored : All (λ c. (c.id * a.degree + a.degree ≤ length a.targets) × (c.id * a.degree + a.degree ≤ length a.edges)) (cands w at n)
   pub apart : at + 2 * n ≤ to
   pub inside : to + 2 * n ≤ length w
 
@@ -86,26 +88,26 @@ abbrev pub counted : List ℕ → ℕ → ℕ → ℕ → ℕ → List ℕ
 counted w at q m n = set (set (set w (at + 1) q) (at + 2) m) (at + 3) n
 
 -- the deleted slots are dead, and the first count of each is that of its row
-pub record Makeable (a : Arrays) (entry beam repair_degree : ℕ) (w : List ℕ) (from p stats plans : ℕ) : Type 0 where
-  pub entry_in : entry < length a.marks
-  pub beam_most : beam ≤ 256
-  pub degree_most : repair_degree ≤ 16
-  pub behind : work_at (length a.marks) ≤ from
-  pub table : Table a.degree w from p stats plans
-  pub inside : Inside (length a.marks) w from p
-  pub dead : All (λ c. is_valid a.marks c.id ≡ false) (cands w from p)
-  pub rows : (j : ℕ) → j < p → row_count w stats j ≤ a.degree
+pub record Makeable (a : Arrays) (how : Repair) (w : List ℕ) (at : Layout) : Type 0 where
+  pub entry_in : how.entry < length a.marks
+  pub beam_most : how.beam ≤ 256
+  pub degree_most : how.degree ≤ 16
+  pub behind : work_at (length a.marks) ≤ at.from
+  pub table : Table a.degree w at
+  pub inside : Inside (length a.marks) w at.from at.count
+  pub dead : All (λ c. is_valid a.marks c.id ≡ false) (cands w at.from at.count)
+  pub rows : (j : ℕ) → j < at.count → row_count w at j ≤ a.degree
 
 -- plan j, of slot s: its four counts and its candidates
-pub record PlanOf (a : Arrays) (s entry beam repair_degree : ℕ) (w : List ℕ) (stats plans j : ℕ) (w' : List ℕ) : Type 0 where
-  pub row : row_count w' stats j ≡ row_count w stats j
-  pub recovered : (alpha : Float) → get_or w' (stats + 4 * j + 1) 0 ≡ length (recovered_by (store_view (index_of alpha entry a)) beam s)
-  pub list : (alpha : Float) → ids (cands w' (plans + 640 * j) (count_at w' stats j))
-      ≡ candidates_by (store_view (index_of alpha entry a)) beam s (ids (cands w (plans + 640 * j) (row_count w stats j)))
-  pub plan : Plan a.marks w' (plans + 640 * j) (count_at w' stats j)
-  pub links : Attempted repair_degree (count_at w' stats j) (get_or w' (stats + 4 * j + 3) 0)
+pub record PlanOf (a : Arrays) (s : ℕ) (how : Repair) (w : List ℕ) (at : Layout) (j : ℕ) (w' : List ℕ) : Type 0 where
+  pub row : row_count w' at j ≡ row_count w at j
+  pub recovered : (alpha : Float) → get_or w' (at.stats + 4 * j + 1) 0 ≡ length (recovered_by (store_view (index_of alpha how.entry a)) how.beam s)
+  pub list : (alpha : Float) → ids (cands w' (at.plans + 640 * j) (count_at w' at.stats j))
+      ≡ candidates_by (store_view (index_of alpha how.entry a)) how.beam s (ids (cands w (at.plans + 640 * j) (row_count w at j)))
+  pub plan : Plan a.marks w' (at.plans + 640 * j) (count_at w' at.stats j)
+  pub links : Attempted how.degree (count_at w' at.stats j) (get_or w' (at.stats + 4 * j + 3) 0)
 
-pub record PlansMade (a : Arrays) (entry beam repair_degree : ℕ) (w : List ℕ) (from p stats plans : ℕ) (w' : List ℕ) : Type 0 where
-  pub each : (j : ℕ) → j < p → PlanOf a (cand w (from + 2 * j)).id entry beam repair_degree w stats plans j w'
+pub record PlansMade (a : Arrays) (how : Repair) (w : List ℕ) (at : Layout) (w' : List ℕ) : Type 0 where
+  pub each : (j : ℕ) → j < at.count → PlanOf a (cand w (at.from + 2 * j)).id how w at j w'
   pub size : length w' ≡ length w
-  pub same : (i : ℕ) → work_at (length a.marks) ≤ i → i < stats → get_or w' i 0 ≡ get_or w i 0
+  pub same : (i : ℕ) → work_at (length a.marks) ≤ i → i < at.stats → get_or w' i 0 ≡ get_or w i 0

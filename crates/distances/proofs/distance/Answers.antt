@@ -1,4 +1,4 @@
-use Prim.Native.Nat.{◌≤◌}
+use Prim.Native.Nat.{◌≤◌, ◌+◌, ◌-◌}
 use mathlib.Core.Path.{◌≡◌}
 use lib.ListN.{length, drop, drop_of_length-le}
 use native.Mathlib.Omega.{arith}
@@ -7,38 +7,13 @@ use Rattle.vectors.proofs.Distances.{distance_end}
 use Rattle.distances.proofs.Sums.{summed_join, summed_all}
 use Rattle.distances.proofs.distance.Goals as goal
 
-pub rest-requires : goal.rest-requires
-rest-requires c = (omega arith, omega arith, omega arith)
-
 pub returns-then-a-lt8 : goal.returns-then-a-lt8
 returns-then-a-lt8 c = let e = summed_all (omega arith) c.rest.ensures in
     record { equals = omega (arith, e); bound = omega arith }
 
-pub four-requires : goal.four-requires
-four-requires c = (omega arith, omega arith)
-
-pub four-requires-then-a-lt16 : goal.four-requires-then-a-lt16
-four-requires-then-a-lt16 c = (omega arith, omega arith)
-
-pub rest-requires-then-a-lt16 : goal.rest-requires-then-a-lt16
-rest-requires-then-a-lt16 c = (omega arith, omega arith, omega arith)
-
 pub returns-then-a-lt16 : goal.returns-then-a-lt16
-returns-then-a-lt16 c = let f = summed_join c.four.ensures c.four-then-a-lt16.ensures in
-    let e = summed_all (omega arith) c.rest-then-a-lt16.ensures in
-    record { equals = omega (arith, e, f.step); bound = omega arith }
-
-pub sixty_four-sum-requires : goal.sixty_four-sum-requires
-sixty_four-sum-requires c = (omega arith, omega arith)
-
-pub sixteen-sum-requires : goal.sixteen-sum-requires
-sixteen-sum-requires c = (omega arith, omega arith)
-
-pub four-sum-requires : goal.four-sum-requires
-four-sum-requires c = (omega arith, omega arith)
-
-pub rest-requires-else-left-ge4 : goal.rest-requires-else-left-ge4
-rest-requires-else-left-ge4 c = (omega arith, omega arith, omega arith)
+returns-then-a-lt16 c = let f = summed_join c.fours.ensures c.rest-then-a-lt16.ensures in
+    record { equals = summed_all (omega arith) (let e : 8 + (length c.args.a.now - 8) ≡ length c.args.a.now - 0 = omega arith in rw e at f); bound = omega arith }
 
 pub returns-else-left-ge4 : goal.returns-else-left-ge4
 returns-else-left-ge4 c = let e = summed_all (omega arith) c.rest-else-left-ge4.ensures in

@@ -1,13 +1,6 @@
-use Prim.Native.Nat.{◌+◌, ◌-◌}
-use mathlib.Core.Path.{◌≡◌}
-use lib.ListN.{length}
 use native.Mathlib.Omega.{arith}
 use Rattle.vectors.proofs.Distances.{distance_step}
 use Rattle.distances.proofs.rest.Goals as goal
 
 pub loop-i-preserved : goal.loop-i-preserved
 loop-i-preserved c = omega (arith, distance_step c.args.a.now c.args.b.now c.loop-i.i (omega arith) (omega arith))
-
-pub returns : goal.returns
-returns c = let e : c.args.from + (length c.args.a.now - c.args.from) ≡ c.loop-i.i = omega arith in
-    record { step = rw e (omega arith); bound = omega arith }

@@ -1,5 +1,5 @@
 -- A chunk: what the functions ask, and what they leave. Assumes nothing.
-use Rattle.std.specs.Prelude.{ℕ, ◌+◌, ◌*◌, ◌≤◌, ◌<◌, ◌≡◌, List, Float, length, get_or}
+use Rattle.std.specs.Prelude.{ℕ, ◌+◌, ◌*◌, ◌≤◌, ◌<◌, ◌≡◌, List, Float, length}
 use Rattle.lists.specs.Lists.{foldl, range, chunks}
 use Rattle.slots.specs.Scratch.{work_at}
 use Rattle.slots.specs.Store.{Arrays, store_view, store_ops}
@@ -9,7 +9,7 @@ use Rattle.insertion.specs.declared.layout.Layout.{Layout}
 use Rattle.insert.specs.Insert.{Plan, plan, chunk_rows, insert_chunk}
 use Rattle.insertion.specs.Batch.{insert_words}
 use Rattle.insertion.specs.Inner.Chains.{Chains}
-use Rattle.insertion.specs.Inner.Filling.{filling_at, fillings_from, chunk_of}
+use Rattle.insertion.specs.Inner.Filling.{filling_at, chunk_of, AsLong, Inside}
 use Rattle.insertion.specs.Inner.Plans.{Laid}
 use Rattle.insertion.specs.Inner.Outgoing.{own_at}
 use Rattle.insertion.specs.Inner.Targets.{renewed_at}
@@ -34,23 +34,25 @@ pub record Linked (degree capacity : ℕ) (plans : ℕ → Plan) (w : List ℕ) 
 pub record RowsWritten (alpha : Float) (a : Arrays) (slots w : List ℕ) (at : Layout) (n : ℕ) (a' : Arrays) : Type 0 where
   pub rows : (entry : ℕ) → index_of alpha entry a'
       ≡ foldl (renewed_at w at n) (foldl (own_at w at n slots) (index_of alpha entry a) (range 0 (length slots))) (range 0 (length a.marks))
+  pub longs : AsLong a a'
 
 -- the rows of a chunk whose slots are filled
 pub record RowsInserted (alpha : Float) (a : Arrays) (start beam : ℕ) (bytes slots : List ℕ) (a' : Arrays) : Type 0 where
   pub rows : index_of alpha start a'
       ≡ write_rows store_ops (index_of alpha start a) (chunk_rows (store_view (index_of alpha start a)) beam (chunk_of a.dim bytes slots))
+  pub longs : AsLong a a'
 
--- a whole chunk: k slots of a list from one on
-pub record ChunkInserted (alpha : Float) (a : Arrays) (start beam : ℕ) (bytes slots : List ℕ) (from k : ℕ) (a' : Arrays) : Type 0 where
-  pub chunk : index_of alpha start a' ≡ insert_chunk store_ops beam (index_of alpha start a) (fillings_from a.dim bytes slots from k)
+-- a whole chunk
+pub record ChunkInserted (alpha : Float) (a : Arrays) (start beam : ℕ) (bytes slots : List ℕ) (a' : Arrays) : Type 0 where
+  pub chunk : index_of alpha start a' ≡ insert_chunk store_ops beam (index_of alpha start a) (chunk_of a.dim bytes slots)
+  pub longs : AsLong a a'
 
 -- ---- chunk after chunk
--- the slots of a list up to one
-pub record Assigned (dim capacity : ℕ) (bytes slots : List ℕ) (to : ℕ) : Type 0 where
-  pub bytes_in : to * dim ≤ length bytes
-  pub slots_in : to ≤ length slots
-  pub below : to ≤ 65536
-  pub inside : (i : ℕ) → i < to → get_or slots i 0 < capacity
+-- a vector for each slot of a list
+pub record Assigned (dim capacity : ℕ) (bytes slots : List ℕ) : Type 0 where
+  pub bytes_in : length slots * dim ≤ length bytes
+  pub below : length slots ≤ 65536
+  pub inside : Inside capacity slots
 
-pub record ChunksInserted (alpha : Float) (a : Arrays) (start beam : ℕ) (bytes slots : List ℕ) (count : ℕ) (a' : Arrays) : Type 0 where
-  pub chunked : index_of alpha start a' ≡ foldl (insert_chunk store_ops beam) (index_of alpha start a) (chunks count 256 (fillings_from a.dim bytes slots 0 count))
+pub record ChunksInserted (alpha : Float) (a : Arrays) (start beam : ℕ) (bytes slots : List ℕ) (a' : Arrays) : Type 0 where
+  pub chunked : index_of alpha start a' ≡ foldl (insert_chunk store_ops beam) (index_of alpha start a) (chunks (length slots) 256 (chunk_of a.dim bytes slots))

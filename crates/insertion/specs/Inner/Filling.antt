@@ -1,5 +1,5 @@
 -- The slots that a batch fills: what the functions ask, and what they leave. Assumes nothing.
-use Rattle.std.specs.Prelude.{ℕ, ◌+◌, ◌*◌, ◌≤◌, ◌<◌, Bool, cond, ◌≡◌, List, map, Float, length, get_or, set}
+use Rattle.std.specs.Prelude.{ℕ, ◌*◌, ◌≤◌, ◌<◌, ◌≡◌, List, map, Float, length, get_or}
 use Rattle.lists.specs.Lists.{range, part}
 use Rattle.slots.specs.Store.{Arrays, store_ops}
 use Rattle.row.specs.Row.{index_of}
@@ -16,11 +16,6 @@ fillings_from dim bytes slots from k = map (filling_at dim bytes slots) (range f
 abbrev pub chunk_of : ℕ → List ℕ → List ℕ → List Filling
 chunk_of dim bytes slots = fillings_from dim bytes slots 0 (length slots)
 
--- a slot is noted at n, unless it is live
-pub record Noted (live : Bool) (id : ℕ) (slots : List ℕ) (n r : ℕ) (slots' : List ℕ) : Type 0 where
-  pub count : r ≡ cond live n (n + 1)
-  pub list : slots' ≡ cond live slots (set slots n id)
-
 -- each slot is below the capacity
 abbrev pub Inside : ℕ → List ℕ → Type 0
 Inside capacity slots = (i : ℕ) → i < length slots → get_or slots i 0 < capacity
@@ -31,5 +26,13 @@ pub record Fillable (dim capacity : ℕ) (bytes slots : List ℕ) : Type 0 where
   pub few : length slots ≤ 256
   pub inside : Inside capacity slots
 
+-- the slices are as long as they were
+pub record AsLong (a₀ a : Arrays) : Type 0 where
+  pub vectors : length a.vectors ≡ length a₀.vectors
+  pub targets : length a.targets ≡ length a₀.targets
+  pub edges : length a.edges ≡ length a₀.edges
+  pub marks : length a.marks ≡ length a₀.marks
+
 pub record ChunkFilled (a : Arrays) (bytes slots : List ℕ) (a' : Arrays) : Type 0 where
   pub fills : (alpha : Float) (entry : ℕ) → index_of alpha entry a' ≡ fill_all store_ops (index_of alpha entry a) (chunk_of a.dim bytes slots)
+  pub longs : AsLong a a'

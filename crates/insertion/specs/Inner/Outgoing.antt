@@ -28,6 +28,8 @@ pub record Unnamed (degree : ℕ) (targets edges versions : List ℕ) (s : ℕ) 
   pub row : (dim : ℕ) (vectors marks : List ℕ) (alpha : Float) (entry : ℕ) → s < length marks
       → index_of alpha entry (arrays dim degree vectors targets' edges' versions marks)
       ≡ own_row w n (cands w p r) (index_of alpha entry (arrays dim degree vectors targets edges versions marks)) s
+  pub targets_long : length targets' ≡ length targets
+  pub edges_long : length edges' ≡ length edges
   pub size : length w' ≡ length w
   pub same : (j : ℕ) → j < to → get_or w' j 0 ≡ get_or w j 0
 
@@ -49,5 +51,7 @@ pub record OutgoingWritten (degree : ℕ) (targets edges versions slots w : List
   pub rows : (dim : ℕ) (vectors marks : List ℕ) (alpha : Float) (entry : ℕ) → Inside (length marks) slots
       → index_of alpha entry (arrays dim degree vectors targets' edges' versions marks)
       ≡ foldl (own_at w at n slots) (index_of alpha entry (arrays dim degree vectors targets edges versions marks)) (range 0 (length slots))
+  pub targets_long : length targets' ≡ length targets
+  pub edges_long : length edges' ≡ length edges
   pub size : length w' ≡ length w
   pub same : (j : ℕ) → j < at.chosen → get_or w' j 0 ≡ get_or w j 0

@@ -3,6 +3,8 @@
 use Rattle.std.specs.Prelude.{ℕ, zero, suc, ◌+◌, ◌*◌, min, ◌≤◌, ◌<◌, Bool, cond, List, [], ◌∷◌, ◌++◌, ◌≡◌, length, take, eqb, ltb}
 use Rattle.lists.specs.Lists.{All, foldl, least_of, put_front}
 use Rattle.vectors.specs.Vector.{Bytes}
+use Rattle.vectors.specs.Lent.{HasVector}
+use Rattle.vectors.specs.declared.Space.{Space}
 use Rattle.candidates.specs.Candidates.{Candidate, scored}
 use Rattle.candidates.specs.Inner.Words.{pair, cands}
 use Rattle.slots.specs.Scratch.{work_at}
@@ -41,19 +43,15 @@ module _ (d : ℕ → ℕ → ℕ) where
       chosen wanted (scored (λ s. least_of (d s) (entry ∷ existing)) (sample_by (free stays (entry ∷ existing)) capacity (stride_of capacity sample) wanted))
 
 -- ---- what the functions ask
--- the bytes hold the vector of slot s
-abbrev pub HasVector : ℕ → List ℕ → ℕ → Type 0
-HasVector dim vectors s = s * dim + dim ≤ length vectors
-
 -- n candidates at a whose vectors the bytes hold
-pub record Listed (dim : ℕ) (vectors : List ℕ) (a : ℕ) (w : List ℕ) (n : ℕ) : Type 0 where
-  pub small : dim ≤ 256
+pub record Listed (space : Space) (a : ℕ) (w : List ℕ) (n : ℕ) : Type 0 where
+  pub small : space.dim ≤ 256
   pub room : a + 2 * n ≤ length w
-  pub inside : All (λ c. HasVector dim vectors c.id) (cands w a n)
+  pub inside : All (λ c. HasVector space c.id) (cands w a n)
 
 -- slices that belong together; room behind the first `kept` of the list, and for the sample in the work region of the scratch
-pub record Selectable (dim : ℕ) (vectors marks : List ℕ) (entry wanted sample : ℕ) (list : List ℕ) (kept : ℕ) (w : List ℕ) : Type 0 where
-  pub bytes : Bytes dim (length marks) vectors
+pub record Selectable (space : Space) (marks : List ℕ) (entry wanted sample : ℕ) (list : List ℕ) (kept : ℕ) (w : List ℕ) : Type 0 where
+  pub bytes : Bytes space.dim (length marks) space.vectors.now
   pub few : length marks ≤ 65536
   pub references : References (length marks) list kept entry
   pub wanted_most : wanted ≤ 1024

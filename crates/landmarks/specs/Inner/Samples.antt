@@ -1,9 +1,10 @@
 -- The sample that landmarks are chosen from, over tests of slots instead of a view, and what the functions that take it ask and leave. Assumes nothing.
-use Rattle.std.specs.Prelude.{ℕ, ◌+◌, ◌*◌, ◌%◌, ◌/◌, max, ◌≤◌, ◌<◌, Bool, true, false, not, ◌&&◌, cond, List, [], ◌++◌, ◌≡◌, length, take, eqb, ltb}
+use Rattle.std.specs.Prelude.{ℕ, ◌+◌, ◌*◌, ◌%◌, ◌/◌, max, ◌≤◌, ◌<◌, Bool, true, false, not, ◌&&◌, cond, List, [], ◌∷◌, ◌++◌, ◌≡◌, length, take, eqb, ltb}
 use Rattle.lists.specs.Lists.{All, filter, elem, range}
 use Rattle.candidates.specs.Candidates.{scored}
 use Rattle.candidates.specs.Inner.Words.{cands}
 use Rattle.slots.specs.Store.{blank, is_valid}
+use Rattle.landmarks.specs.declared.sample.Free.{Free}
 
 -- slot s is live and none of the ids
 abbrev pub remains : List ℕ → List ℕ → ℕ → Bool
@@ -12,6 +13,10 @@ remains marks ids s = is_valid marks s && not (elem s ids)
 -- slot s stays and is no reference
 abbrev pub free : (ℕ → Bool) → List ℕ → ℕ → Bool
 free stays references s = stays s && not (elem s references)
+
+-- those that a sample is taken of
+abbrev pub free_of : Free → ℕ → Bool
+free_of f = free (remains f.marks.now f.ids.now) (f.entry ∷ f.kept.now)
 
 -- slot s is one of a stride, or one of the others
 abbrev pub on_stride : ℕ → Bool → ℕ → Bool

@@ -2,13 +2,22 @@
 use Rattle.std.specs.Prelude.{ℕ, ◌+◌, ◌*◌, ◌≤◌, ◌<◌, cond, List, [], ◌∷◌, ◌++◌, ◌≡◌, Float, eqb, length}
 use Rattle.lists.specs.Lists.{All, elem, filter, foldl, concat_map}
 use Rattle.vectors.specs.Space.{slot_distance, space}
+use Rattle.vectors.specs.declared.Space as lent
 use Rattle.candidates.specs.Candidates.{ids}
 use Rattle.candidates.specs.Inner.Words.{pair, cands, Outside}
 use Rattle.slots.specs.View.{live_neighbors}
 use Rattle.slots.specs.Store.{Arrays, Store, store_view, store_ops}
+use Rattle.slots.specs.Lent.{rows_mut_of, SameSlices}
+use Rattle.slots.specs.declared.graph.RowsMut.{RowsMut}
 use Rattle.row.specs.Row.{index_of}
 use Rattle.repair.specs.Repair.{Link, insert_and_prune}
 use Rattle.repair.proofs.Sources.{both_ways}
+use Rattle.links.specs.declared.span.Pair.{Pair}
+use Rattle.links.specs.declared.linker.Linker.{Linker}
+
+-- rows that are written, beside vectors and marks, as lists
+abbrev pub arrays_of : lent.Space → RowsMut → List ℕ → Arrays
+arrays_of p r marks = rows_mut_of p.dim p.vectors.now r marks
 
 -- the distance of two slots of lent bytes
 abbrev pub between : ℕ → List ℕ → ℕ → ℕ → ℕ
@@ -27,13 +36,17 @@ link s t = record { source = s; target = t }
 abbrev pub links_at : ℕ → List ℕ → ℕ → ℕ → List Link
 links_at x w to n = concat_map (both_ways x) (ids (cands w to n))
 
--- the links of the n pairs from word a on
-abbrev pub pairs_of : List ℕ → ℕ → ℕ → List Link
-pairs_of w a n = concat_map (λ c. both_ways c.dist c.id) (cands w a n)
+-- the links of pairs
+abbrev pub pairs_of : List Pair → List Link
+pairs_of ps = concat_map (λ p. both_ways p.slot p.parent) ps
 
 -- those whose source is s
 abbrev pub from : ℕ → List Link → List Link
 from s ls = filter (λ l. eqb l.source s) ls
+
+-- those of each source of ss in turn
+abbrev pub from_each : List Link → List ℕ → List Link
+from_each ls ss = concat_map (λ s. from s ls) ss
 
 -- they are applied
 abbrev pub by_source : List Link → Store → ℕ → Store
@@ -48,10 +61,9 @@ pub record Room (degree : ℕ) (w : List ℕ) (at : ℕ) : Type 0 where
   pub inside : at + link_words degree ≤ length w
   pub below : at + link_words degree ≤ 8388608
 
--- n pairs of slots inside
-pub record Pairs (slots : ℕ) (pairs : List ℕ) (n : ℕ) : Type 0 where
-  pub inside : 2 * n ≤ length pairs
-  pub slots_in : All (λ c. (c.dist < slots) × (c.id < slots)) (cands pairs 0 n)
+-- pairs of slots inside
+abbrev pub Pairs : ℕ → List Pair → Type 0
+Pairs slots ps = All (λ p. (p.slot < slots) × (p.parent < slots)) ps
 
 -- ---- what is left of the words w, as w'
 -- the n candidates at `at` with the target t, at its distance to s, where none of them has it
@@ -68,8 +80,15 @@ pub record Applied (alpha : Float) (a : Arrays) (ls : List Link) (a' : Arrays) (
   pub size : length w' ≡ length w
   pub same : Outside at k w w'
 
--- the same of links by their source, for each source of ss in turn
-pub record BySource (alpha : Float) (a : Arrays) (ls : List Link) (ss : List ℕ) (a' : Arrays) (w : List ℕ) (at k : ℕ) (w' : List ℕ) : Type 0 where
-  pub does : (entry : ℕ) → index_of alpha entry a' ≡ foldl (by_source ls) (index_of alpha entry a) ss
-  pub size : length w' ≡ length w
-  pub same : Outside at k w w'
+-- what a linker's rows are beside
+abbrev pub held : Linker → Arrays
+held l = arrays_of l.kept.space l.rows.now l.marks.now
+
+-- links are applied by a linker; the words that may change are so many as the degree of its rows asks
+pub record Made (l : Linker) (ls : List Link) (w : List ℕ) (at : ℕ) (words : ℕ → ℕ) (l' : Linker) (w' : List ℕ) : Type 0 where
+  pub applied : Applied l.alpha (held l) ls (held l') w at (words l.rows.now.degree) w'
+  pub slices : SameSlices l.rows.now l'.rows.now
+  pub rows : l'.rows.ghost_name ≡ l.rows.ghost_name
+  pub alpha : l'.alpha ≡ l.alpha
+  pub marks : l'.marks ≡ l.marks
+  pub space : l'.kept.space ≡ l.kept.space

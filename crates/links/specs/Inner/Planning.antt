@@ -1,13 +1,14 @@
 -- The links of a plan over lent words: what the functions ask, and what they leave. From word `base` on lie the connected candidates, from 640 words on
 -- those that remain, each with its distance to the nearest connected one, from 1,280 on the connected ones by their distance to the next, and from 1,920
 -- on the words in which a link is applied. The pairs of slots to be linked lie in words of their own. Assumes nothing.
-use Rattle.std.specs.Prelude.{ℕ, suc, ◌+◌, ◌-◌, ◌*◌, ◌≤◌, ◌<◌, min, true, List, ◌++◌, map, ◌≡◌, length, get_or}
+use Rattle.std.specs.Prelude.{ℕ, suc, ◌+◌, ◌-◌, ◌*◌, ◌≤◌, ◌<◌, min, true, List, ◌++◌, map, ◌≡◌, length, take, get_or}
 use Rattle.lists.specs.Lists.{All, concat_map, range, least_from, least_of}
 use Rattle.lists.proofs.Unique.{Unique}
 use Rattle.candidates.specs.Candidates.{Candidate, scored, ids}
 use Rattle.candidates.specs.Inner.Words.{pair, cand, cands, Outside}
 use Rattle.slots.specs.Store.{is_valid}
 use Rattle.repair.specs.Repair.{Link, span, repair_links}
+use Rattle.links.specs.declared.span.Pair.{Pair}
 use Rattle.links.specs.Inner.Linking.{between, pairs_of, link_words}
 
 -- ---- lists of candidates
@@ -61,16 +62,10 @@ pub record Plot (w : List ℕ) (base : ℕ) : Type 0 where
   pub inside : base + 1920 ≤ length w
   pub below : base + 1920 ≤ 8388608
 
--- t pairs, and room for as many more as one slot is paired
-pub record Vacant (repair_degree : ℕ) (pairs : List ℕ) (t : ℕ) : Type 0 where
-  pub few : repair_degree ≤ 16
-  pub inside : 2 * t + 32 ≤ length pairs
-  pub below : 2 * t + 32 ≤ 8388608
-
--- the links ls are added to t pairs
-pub record PairedNearest (ls : List Link) (w : List ℕ) (base : ℕ) (pairs : List ℕ) (t : ℕ) (w' pairs' : List ℕ) (r : ℕ) : Type 0 where
-  pub added : pairs_of pairs' 0 r ≡ pairs_of pairs 0 t ++ ls
-  pub more : r ≤ t + 16
+-- the first r pairs have the links ls
+pub record PairedNearest (ls : List Link) (w : List ℕ) (base : ℕ) (w' : List ℕ) (pairs' : List Pair) (r : ℕ) : Type 0 where
+  pub added : pairs_of (take r pairs') ≡ ls
+  pub more : r ≤ 16
   pub size : length w' ≡ length w
   pub same : Outside (base + 1280) 640 w w'
 
@@ -88,17 +83,17 @@ pub record Planned (dim : ℕ) (vectors w : List ℕ) (base k m : ℕ) : Type 0 
 abbrev pub span_at : ℕ → List ℕ → ℕ → List ℕ → ℕ → ℕ → ℕ → ℕ → List Link
 span_at dim vectors repair_degree w base k m f = span (between dim vectors) repair_degree f (ids (cands w base k)) (ids (cands w (base + 640) m))
 
--- one more is connected
-pub record Connected (dim : ℕ) (vectors : List ℕ) (repair_degree : ℕ) (w : List ℕ) (base k m : ℕ) (pairs : List ℕ) (t : ℕ) (w' pairs' : List ℕ) (r : ℕ) : Type 0 where
+-- one more is connected, by the first r pairs
+pub record Connected (dim : ℕ) (vectors : List ℕ) (repair_degree : ℕ) (w : List ℕ) (base k m : ℕ) (w' : List ℕ) (pairs' : List Pair) (r : ℕ) : Type 0 where
   pub planned : Planned dim vectors w' base (k + 1) (m - 1)
-  pub goes : (f : ℕ) → pairs_of pairs 0 t ++ span_at dim vectors repair_degree w base k m (suc f) ≡ pairs_of pairs' 0 r ++ span_at dim vectors repair_degree w' base (k + 1) (m - 1) f
-  pub more : r ≤ t + 16
+  pub goes : (f : ℕ) → span_at dim vectors repair_degree w base k m (suc f) ≡ pairs_of (take r pairs') ++ span_at dim vectors repair_degree w' base (k + 1) (m - 1) f
+  pub more : r ≤ 16
   pub size : length w' ≡ length w
   pub same : Outside base 1920 w w'
 
--- all are connected; r pairs are to be linked
-pub record Spanned (dim : ℕ) (vectors : List ℕ) (repair_degree : ℕ) (w : List ℕ) (base n : ℕ) (w' pairs' : List ℕ) (r : ℕ) : Type 0 where
-  pub paired : pairs_of pairs' 0 r ≡ span_at dim vectors repair_degree w base 1 n n
+-- all are connected, by the first r pairs
+pub record Spanned (dim : ℕ) (vectors : List ℕ) (repair_degree : ℕ) (w : List ℕ) (base n : ℕ) (w' : List ℕ) (pairs' : List Pair) (r : ℕ) : Type 0 where
+  pub paired : pairs_of (take r pairs') ≡ span_at dim vectors repair_degree w base 1 n n
   pub few : r ≤ 5120
   pub size : length w' ≡ length w
   pub same : Outside base 1920 w w'

@@ -1,14 +1,13 @@
 -- Numbers that stand twice in a list, found part by part: each part's places are sorted by their numbers, and later places are looked up in it. Assumes nothing.
-use Rattle.std.specs.Prelude.{ℕ, ◌+◌, ◌≤◌, ◌<◌, Bool, true, false, ◌≡◌, List, [], length, take, get_or}
+use Rattle.std.specs.Prelude.{ℕ, ◌+◌, ◌≤◌, ◌<◌, Option, Some, None, Bool, true, false, ◌≡◌, List, [], length, take, get_or}
 use Rattle.lists.specs.Lists.{elem}
 use Rattle.sorting.specs.Inner.Places.{key_at, Placed, Risen}
 use Rattle.numbers.specs.Numbers.{taken}
 
--- the place of a key among the first n of an order; n where none has it
-pub record Met (keys order : List ℕ) (n key r : ℕ) : Type 0 where
-  pub most : r ≤ n
-  pub here : r < n → key_at keys order r ≡ key
-  pub absent : n ≤ r → (i : ℕ) → i < n → key_at keys order i ≡ key → ⊥
+-- the place of a key among the first n of an order
+pub record Met (keys order : List ℕ) (n key : ℕ) (r : Option ℕ) : Type 0 where
+  pub here : (i : ℕ) → r ≡ Some i → (i < n) × (key_at keys order i ≡ key)
+  pub absent : r ≡ None → (i : ℕ) → i < n → key_at keys order i ≡ key → ⊥
 
 -- the n places from a on, each once, by their numbers
 pub record Chunk (given order : List ℕ) (a n : ℕ) : Type 0 where

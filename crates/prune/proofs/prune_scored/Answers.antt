@@ -1,9 +1,12 @@
 -- The passes over what is selected from.
+use Rattle.std.proofs.Common.{rules}
 use Rattle.prune.proofs.Scored.{still_given, still_room, still_few, pruned}
 use Rattle.prune.proofs.prune_scored.Goals as goal
 
 pub pick-requires : goal.pick-requires
-pick-requires c = (still_given c.requires.0 _ c.prepare-m.ensures, still_room c.requires.0 _ c.prepare-m.ensures, still_few c.requires.0 _ c.prepare-m.ensures, c.requires.1)
+pick-requires g c =
+    let space = c.args.kept.now.space in
+    (search rules, (still_given space c.requires _ c.prepare-m.ensures, still_room space c.requires _ c.prepare-m.ensures, still_few space c.requires _ c.prepare-m.ensures))
 
 pub returns : goal.returns
-returns c = (pruned c.requires.0 _ c.prepare-m.ensures c.pick.ensures.0, c.pick.ensures.1)
+returns g c = (pruned c.args.kept.now.space c.requires _ c.prepare-m.ensures c.pick.ensures.0, c.pick.ensures.1)

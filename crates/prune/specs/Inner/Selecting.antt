@@ -3,6 +3,8 @@ use Rattle.std.specs.Prelude.{ℕ, suc, ◌+◌, ◌-◌, ◌*◌, ◌≤◌, �
 use Rattle.std.specs.Float.{binary32, nan}
 use Rattle.std.specs.Float.Ieee.{mul, lt}
 use Rattle.lists.specs.Lists.{All, range, foldl}
+use Rattle.vectors.specs.Lent.{HasVector}
+use Rattle.vectors.specs.declared.Space.{Space}
 use Rattle.candidates.specs.Candidates.{Candidate}
 use Rattle.candidates.specs.Quotient.{largest, fmax, fmin, quotient}
 use Rattle.candidates.specs.Inner.Words.{cands, Small, Outside}
@@ -25,11 +27,11 @@ selection factors selected = record { factors = factors; selected = selected }
 
 -- ---- what is asked
 -- n candidates at a whose slots have vectors and numbers of 16 bits, and whose distances an f32 holds exactly
-pub record Given (dim : ℕ) (vectors w : List ℕ) (a n : ℕ) : Type 0 where
-  pub short : dim ≤ 256
+pub record Given (space : Space) (w : List ℕ) (a n : ℕ) : Type 0 where
+  pub short : space.dim ≤ 256
   pub inside : a + 2 * n ≤ length w
   pub small : Small (cands w a n)
-  pub stored : All (λ c. c.id * dim + dim ≤ length vectors) (cands w a n)
+  pub stored : All (λ c. HasVector space c.id) (cands w a n)
   pub numbered : All (λ c. c.id < 65536) (cands w a n)
 
 -- room for as many as the degree at `to`, apart from n candidates at a

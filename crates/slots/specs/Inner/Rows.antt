@@ -1,11 +1,9 @@
 -- What the functions on lent slices read: the reference at a place of a row, a row from a place on, and the vector of a slot. Assumes nothing.
-use Rattle.std.specs.Prelude.{◌≡◌, ℕ, ◌+◌, ◌*◌, ◌≤◌, Bool, true, false, ◌&&◌, List, [], length, drop, ◌==◌, slice_index, slice_index_or}
+use Rattle.std.specs.Prelude.{◌≡◌, ℕ, ◌+◌, ◌*◌, ◌≤◌, Bool, true, false, ◌&&◌, Option, Some, None, List, [], length, drop, ◌==◌, slice_index, slice_index_or}
 use Rattle.std.specs.Borrow.{Bor}
 use Rattle.lists.specs.Lists.{filter, part}
 use Rattle.vectors.specs.Vector.{VectorAt}
 use Rattle.slots.specs.Store.{Arrays, is_valid, current}
-use Rattle.slots.specs.declared.rows.Ref.{Ref}
-use Rattle.slots.specs.declared.rows.Ref.TheVariants.{At, Dead}
 
 -- slices of rows, versions and marks that belong together; a blank target is outside
 pub record RowShape (degree : ℕ) (targets edges versions marks : List ℕ) : Type 0 where
@@ -16,12 +14,12 @@ pub record RowShape (degree : ℕ) (targets edges versions marks : List ℕ) : T
 
 -- ---- what is read
 
-abbrev pub ref_of : Bool → ℕ → Ref
-ref_of true t = At t
-ref_of false t = Dead
+abbrev pub ref_of : Bool → ℕ → Option ℕ
+ref_of true t = Some t
+ref_of false t = None
 
 -- `live_at`: the target at a place of a row, if its mark is set and the edge version is its version
-unfoldable pub ref_at : Arrays → ℕ → ℕ → Ref
+unfoldable pub ref_at : Arrays → ℕ → ℕ → Option ℕ
 ref_at a s place =
     let t = slice_index_or a.targets (s * a.degree + place) 0 in
     ref_of (is_valid a.marks t && slice_index a.edges (s * a.degree + place) == slice_index a.versions t) t

@@ -1,14 +1,12 @@
 -- The walk in lent words: what its functions ask of the words, and what they leave in them. The regions are those of `slots` (Scratch): the list, and
 -- the marks, of which a word has 16. Assumes nothing.
-use Rattle.std.specs.Prelude.{ℕ, ◌+◌, ◌-◌, ◌*◌, ◌/◌, ◌%◌, ◌^◌, max, ◌≤◌, ◌<◌, Bool, true, false, not, ◌&&◌, List, [], ◌∷◌, map, ◌≡◌, length, take, get_or, set, replicate, eqb, ltb}
+use Rattle.std.specs.Prelude.{ℕ, ◌+◌, ◌-◌, ◌*◌, ◌/◌, ◌%◌, ◌^◌, max, ◌≤◌, ◌<◌, Bool, true, false, not, ◌&&◌, Option, Some, None, List, [], ◌∷◌, map, ◌≡◌, length, take, get_or, set, replicate, eqb, ltb}
 use Rattle.lists.specs.Lists.{All, Ordered, Pairwise, filter, elem, foldl, range}
 use Rattle.vectors.specs.Space.{query_distance, space}
 use Rattle.candidates.specs.Candidates.{Candidate, before, scored}
 use Rattle.candidates.specs.Inner.Words.{pair, cand, cands, Small, Outside}
 use Rattle.slots.specs.Store.{Arrays, Store, is_valid, refs_of, store_view}
-use Rattle.slots.specs.Inner.Rows.{RowShape, ref_at, live_from}
-use Rattle.slots.specs.declared.rows.Ref.{Ref}
-use Rattle.slots.specs.declared.rows.Ref.TheVariants.{At, Dead}
+use Rattle.slots.specs.Inner.Rows.{ref_at, live_from}
 use Rattle.walk.specs.Walk.{State, enter, ends, graph_search, search_pool}
 use Rattle.slots.specs.Scratch.{list_words, marks_at, work_at}
 use Rattle.walk.specs.Walk as Walk
@@ -57,9 +55,9 @@ abbrev pub mark_all : List ℕ → List ℕ → List ℕ
 mark_all marks ids = foldl (λ m s. set m s 1) marks ids
 
 -- the state when the slots xs have entered too, each at its distance
-abbrev pub with_fresh : ℕ → List ℕ → List ℕ → ℕ → ℕ → List ℕ → ℕ → List ℕ → State
-with_fresh dim vectors query capacity beam w n xs =
-    record { list = foldl (enter beam) (cands w 0 n) (scored (query_distance (space dim vectors) query) xs); marks = marks_of capacity w }
+abbrev pub with_fresh : Arrays → List ℕ → ℕ → List ℕ → ℕ → List ℕ → State
+with_fresh a query beam w n xs =
+    record { list = foldl (enter beam) (cands w 0 n) (scored (query_distance (space a.dim a.vectors) query) xs); marks = marks_of (length a.marks) w }
 
 -- what the definition makes of the state in the words: slots are met, the candidate at place i is expanded, and all turns are taken
 abbrev pub meets : Arrays → List ℕ → ℕ → State → List ℕ → State
@@ -110,9 +108,9 @@ pub record Fresh (capacity : ℕ) (w : List ℕ) (n : ℕ) (xs : List ℕ) : Typ
 
 -- ---- what the functions leave
 -- the reference at a place of slot s's row, where it is live and leads to a slot that is not met
-pub record UnmetAt (a : Arrays) (s place : ℕ) (w : List ℕ) (r : Ref) : Type 0 where
-  pub found : (t : ℕ) → r ≡ At t → (At t ≡ ref_at a s place) × (mark w t ≡ 0)
-  pub none : r ≡ Dead → (t : ℕ) → At t ≡ ref_at a s place → mark w t ≡ 0 → ⊥
+pub record UnmetAt (a : Arrays) (s place : ℕ) (w : List ℕ) (r : Option ℕ) : Type 0 where
+  pub found : (t : ℕ) → r ≡ Some t → (Some t ≡ ref_at a s place) × (mark w t ≡ 0)
+  pub none : r ≡ None → (t : ℕ) → Some t ≡ ref_at a s place → mark w t ≡ 0 → ⊥
 
 -- slot id is met, and stands behind n slots of f
 pub record Added (id n : ℕ) (w f w' f' : List ℕ) : Type 0 where
@@ -121,7 +119,7 @@ pub record Added (id n : ℕ) (w f w' f' : List ℕ) : Type 0 where
 
 -- of the slots ts those that were not met are the slots xs, and are met; the slots us are still to be met
 pub record Gathered (a : Arrays) (query : List ℕ) (beam : ℕ) (w : List ℕ) (n next : ℕ) (ts us w' xs : List ℕ) : Type 0 where
-  pub holds : meets a query beam (with_fresh a.dim a.vectors query (length a.marks) beam w' n xs) us ≡ meets a query beam (state_of (length a.marks) w n) ts
+  pub holds : meets a query beam (with_fresh a query beam w' n xs) us ≡ meets a query beam (state_of (length a.marks) w n) ts
   pub goes : Walkable (length a.marks) beam w' n next
   pub fresh : Fresh (length a.marks) w' n xs
   pub same : Outside 0 (work_at (length a.marks)) w w'
@@ -182,20 +180,9 @@ pub record Stepped (capacity beam : ℕ) (w : List ℕ) (to : State) (w' : List 
   pub same : Outside 0 (work_at capacity) w w'
 
 -- ---- the calls
--- vectors for all slots, and a query
-pub record Vectors (dim capacity : ℕ) (vectors query : List ℕ) : Type 0 where
-  pub vectors_long : length vectors ≡ capacity * dim
-  pub dim_most : dim ≤ 256
-  pub query_long : length query ≡ dim
-
--- slices that belong together
-pub record Lent (a : Arrays) (query : List ℕ) : Type 0 where
-  pub vectors : Vectors a.dim (length a.marks) a.vectors query
-  pub rows : RowShape a.degree a.targets a.edges a.versions a.marks
-
--- what a walk asks
+-- what a walk over a graph asks
 pub record Ready (a : Arrays) (query : List ℕ) (start beam : ℕ) (w : List ℕ) : Type 0 where
-  pub lent : Lent a query
+  pub query_long : length query ≡ a.dim
   pub start_inside : start < length a.marks
   pub beam_most : beam ≤ 1024
   pub room : work_at (length a.marks) ≤ length w

@@ -1,4 +1,3 @@
-use Prim.Native.Nat.{◌-◌}
 use lib.ListN.{length}
 use Rattle.landmarks.specs.Inner.Samples.{remains}
 use Rattle.admission.proofs.Entering.{Passing}
@@ -6,6 +5,3 @@ use Rattle.admission.proofs.entry.residual_entry.Given as goal
 
 abbrev pub invariant-loop-s : goal.invariant-loop-s
 invariant-loop-s l = Passing (remains l.marks l.ids) (length l.marks) l.s
-
-abbrev pub decreases-loop-s : goal.decreases-loop-s
-decreases-loop-s l = length l.marks - l.s

@@ -1,12 +1,8 @@
-use Rattle.insertion.proofs.Batching.{Chunking}
+use Rattle.slots.specs.Lent.{rows_mut_of, SameSlices}
 use mathlib.Core.Path.{◌≡◌}
-use Prim.Native.Nat.{◌-◌}
-use lib.ListN.{length}
-use Rattle.slots.specs.Store.{arrays}
+use Rattle.insertion.proofs.Batching.{Chunking}
+use Rattle.insertion.proofs.Same.{left_of}
 use Rattle.insertion.proofs.batch.insert_chunks.Given as goal
 
-abbrev pub invariant-loop-from : goal.invariant-loop-from
-invariant-loop-from l = Chunking l.alpha l.start l.beam l.bytes l.slots l.count (arrays l.dim l.degree l.initial.vectors l.initial.targets l.initial.edges l.versions l.initial.marks) (arrays l.dim l.degree l.vectors l.targets l.edges l.versions l.marks) l.from × (length l.scratch ≡ length l.initial.scratch)
-
-abbrev pub decreases-loop-from : goal.decreases-loop-from
-decreases-loop-from l = l.count - l.from
+abbrev pub invariant-loop-part : goal.invariant-loop-part
+invariant-loop-part l = Chunking l.alpha l.start l.beam l.bytes l.slots (rows_mut_of l.dim l.initial.vectors l.initial.rows l.initial.marks) (left_of l.dim l.vectors l.initial.rows l.rows l.marks) l.rest l.part-iterator.rest.now × SameSlices l.initial.rows l.rows × (l.part-iterator.size ≡ 256)

@@ -3,6 +3,3 @@ use Rattle.insertion.proofs.chains.link.Given as goal
 
 abbrev pub invariant-loop-k : goal.invariant-loop-k
 invariant-loop-k l = Linking l.initial.scratch l.at l.n l.capacity l.scratch l.k
-
-abbrev pub decreases-loop-k : goal.decreases-loop-k
-decreases-loop-k l = l.k

@@ -1,13 +1,10 @@
 use Rattle.insertion.proofs.ChunkRows.{named_renewable, rows_both}
-use Rattle.row.proofs.Kept.{together_kept}
-use mathlib.Core.Path.{refl}
+use Rattle.slots.proofs.Slices.{same_then}
 use Rattle.insertion.proofs.chunk.write_rows.Goals as goal
 
-pub write_outgoing-requires : goal.write_outgoing-requires
-write_outgoing-requires c = c.requires.outgoing_rows.0
-
-pub write_named-requires : goal.write_named-requires
-write_named-requires c = record { together = together_kept refl c.targets-1.given c.edges-1.given refl c.requires.together; renewable = named_renewable c.requires.outgoing_rows.1 c.write_outgoing.ensures }
-
 pub returns : goal.returns
-returns c = rows_both _ _ c.requires.outgoing_rows.1 c.requires.outgoing_rows.2 c.write_outgoing.ensures c.write_named.ensures
+returns c = let s = c.write_outgoing.ensures.1 in
+    (rows_both _ _ c.requires.outgoing_rows.1 c.requires.outgoing_rows.2 c.write_outgoing.ensures.0 (rw (s.degree, s.versions) at c.write_named.ensures.0), same_then s c.write_named.ensures.1)
+
+pub write_named-requires-clause-renewable : goal.write_named-requires-clause-renewable
+write_named-requires-clause-renewable c = rw c.write_outgoing.ensures.1.degree (named_renewable c.requires.outgoing_rows.1 c.write_outgoing.ensures.0)

@@ -1,24 +1,10 @@
-use Rattle.insertion.proofs.Targeting.{sweeping_none, sweep_asks, sweeping_more, sweeping_done}
-use native.Mathlib.Omega.{arith}
+use Rattle.slots.proofs.Slices.{same_then}
+use Rattle.insertion.proofs.Targeting.{sweep_asks, sweeping_more}
 use Rattle.insertion.proofs.targets.write_named.Goals as goal
 
-pub loop-i-init : goal.loop-i-init
-loop-i-init c = sweeping_none _ _ _ _ c.requires.together
+pub loop-s-preserved : goal.loop-s-preserved
+loop-s-preserved c = let s = c.loop-s.invariant.1 in let t = c.renew.ensures.1 in
+    (sweeping_more c.requires.renewable c.loop-s.invariant.0 c.loop-s-test.true (rw (t.degree, t.versions, s.degree, s.versions) at c.renew.ensures.0), same_then s c.renew.ensures.1)
 
-pub renew-requires : goal.renew-requires
-renew-requires c = record { together = c.loop-i.invariant.together; s_in_bounds = sweep_asks c.requires.renewable c.loop-i.invariant c.loop-i-test.true }
-
-pub overflow_add-s : goal.overflow_add-s
-overflow_add-s c = omega (arith, c.loop-i.invariant.equal, c.requires.together.rows.few, c.loop-i-test.true)
-
-pub overflow_add-i : goal.overflow_add-i
-overflow_add-i c = omega (arith, c.requires.together.rows.few, c.loop-i-test.true)
-
-pub loop-i-smaller : goal.loop-i-smaller
-loop-i-smaller c = omega (arith, c.loop-i-test.true)
-
-pub loop-i-preserved : goal.loop-i-preserved
-loop-i-preserved c = sweeping_more c.requires.renewable c.loop-i.invariant c.loop-i-test.true c.renew.ensures c.targets-1.given c.edges-1.given
-
-pub returns : goal.returns
-returns c = sweeping_done c.requires.renewable c.loop-i.invariant c.loop-i-test.false
+pub renew-requires-clause-s_in_bounds : goal.renew-requires-clause-s_in_bounds
+renew-requires-clause-s_in_bounds c = rw c.loop-s.invariant.1.degree (sweep_asks c.requires.renewable c.loop-s.invariant.0 c.loop-s-test.true)

@@ -1,11 +1,7 @@
+use Rattle.slots.specs.Lent.{rows_mut_of, SameSlices}
+use Rattle.insertion.proofs.Same.{left_of}
 use Rattle.insertion.proofs.Targeting.{Sweeping}
-use Prim.Native.Nat.{◌-◌}
-use lib.ListN.{length}
-use Rattle.slots.specs.Store.{arrays}
 use Rattle.insertion.proofs.targets.write_named.Given as goal
 
-abbrev pub invariant-loop-i : goal.invariant-loop-i
-invariant-loop-i l = Sweeping l.alpha l.initial.scratch l.at l.n (arrays l.dim l.degree l.vectors l.initial.targets l.initial.edges l.versions l.marks) (arrays l.dim l.degree l.vectors l.targets l.edges l.versions l.marks) l.scratch l.i l.s
-
-abbrev pub decreases-loop-i : goal.decreases-loop-i
-decreases-loop-i l = length l.marks - l.i
+abbrev pub invariant-loop-s : goal.invariant-loop-s
+invariant-loop-s l = Sweeping l.alpha l.initial.scratch l.at l.n (rows_mut_of l.space.dim l.space.vectors.now l.initial.rows l.marks) (left_of l.space.dim l.space.vectors.now l.initial.rows l.rows l.marks) l.scratch l.s × SameSlices l.initial.rows l.rows

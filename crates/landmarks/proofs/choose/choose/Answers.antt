@@ -1,4 +1,3 @@
-use native.Mathlib.Omega.{arith}
 use Rattle.landmarks.proofs.Choosing.{farthest_inside, choosing_none, choosing_more, choosing_empty, choosing_done}
 use Rattle.landmarks.proofs.choose.choose.Goals as goal
 
@@ -11,23 +10,11 @@ returns-then-m-eq0 c = choosing_empty c.loop-k.invariant c.if-m-eq0.true
 pub farthest_id-next-requires : goal.farthest_id-next-requires
 farthest_id-next-requires c = c.loop-k.invariant.listed.room
 
-pub overflow_add-list : goal.overflow_add-list
-overflow_add-list c = omega (arith, c.requires.1)
-
-pub offset_bounds-list-at : goal.offset_bounds-list-at
-offset_bounds-list-at c = omega (arith, c.requires.1)
-
-pub bounds-list-at : goal.bounds-list-at
-bounds-list-at c = omega (arith, c.requires.1, c.loop-k.invariant.list_size)
-
 pub draw_near-m-requires : goal.draw_near-m-requires
 draw_near-m-requires c = (c.loop-k.invariant.listed, farthest_inside c.loop-k.invariant.listed c.if-m-eq0.false c.farthest_id-next.ensures)
-
-pub overflow_add-k : goal.overflow_add-k
-overflow_add-k c = omega (arith, c.requires.1)
 
 pub loop-k-preserved : goal.loop-k-preserved
 loop-k-preserved c = choosing_more c.loop-k.invariant c.requires.1 c.loop-k-test.true c.if-m-eq0.false c.farthest_id-next.ensures c.draw_near-m.ensures
 
 pub returns : goal.returns
-returns c = choosing_done c.loop-k.invariant c.loop-k-test.false
+returns c = choosing_done c.loop-k.invariant c.loop-k.auto.k-end c.loop-k-test.false

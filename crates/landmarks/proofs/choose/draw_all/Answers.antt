@@ -1,30 +1,16 @@
-use mathlib.Core.Path.{refl}
-use native.Mathlib.Omega.{arith}
-use Rattle.lists.proofs.Taking.{taken_at}
-use Rattle.landmarks.specs.Inner.Choices.{HasVector}
+use Rattle.lists.proofs.Places.{all_at}
+use Rattle.vectors.specs.Lent.{HasVector}
 use Rattle.landmarks.proofs.Drawing.{drawing_first, drawing_next, drawn_done}
 use Rattle.landmarks.proofs.choose.draw_all.Goals as goal
 
-pub draw_near-m-requires : goal.draw_near-m-requires
-draw_near-m-requires c = (c.requires.0, c.requires.1)
+pub loop-id-init : goal.loop-id-init
+loop-id-init c = drawing_first _ _ _ c.requires.0 c.draw_near-m.ensures
 
-pub loop-i-init : goal.loop-i-init
-loop-i-init c = drawing_first _ _ _ _ c.requires.0 c.draw_near-m.ensures
+pub draw_near-m-requires-in-loop-id : goal.draw_near-m-requires-in-loop-id
+draw_near-m-requires-in-loop-id c = (c.loop-id.invariant.listed, all_at 0 (HasVector c.args.space.now) c.args.kept.now c.requires.2 _ c.loop-id-test.true)
 
-pub offset_bounds-list-i : goal.offset_bounds-list-i
-offset_bounds-list-i c = omega (arith, c.requires.2)
-
-pub bounds-list-i : goal.bounds-list-i
-bounds-list-i c = omega (arith, c.requires.2)
-
-pub draw_near-m-requires-in-loop-i : goal.draw_near-m-requires-in-loop-i
-draw_near-m-requires-in-loop-i c = (c.loop-i.invariant.listed, taken_at (HasVector c.args.dim c.args.vectors.now) c.args.list.now c.args.kept _ c.requires.2 c.requires.3 c.loop-i-test.true)
-
-pub overflow_add-i : goal.overflow_add-i
-overflow_add-i c = omega (arith, c.requires.2)
-
-pub loop-i-preserved : goal.loop-i-preserved
-loop-i-preserved c = drawing_next c.loop-i.invariant _ c.requires.2 c.loop-i-test.true refl c.draw_near-m-in-loop-i.ensures
+pub loop-id-preserved : goal.loop-id-preserved
+loop-id-preserved c = drawing_next c.loop-id.invariant c.loop-id-test.true c.draw_near-m-in-loop-id.ensures
 
 pub returns : goal.returns
-returns c = drawn_done c.loop-i.invariant _ c.draw_near-m.ensures c.loop-i-test.false
+returns c = drawn_done c.loop-id.invariant _ c.draw_near-m.ensures c.loop-id-test.false

@@ -1,10 +1,6 @@
 -- Of the candidates before `i` the farthest is the pair of `best` and `id`.
-use Prim.Native.Nat.{◌-◌}
 use Rattle.landmarks.proofs.Choosing.{Comparing}
 use Rattle.landmarks.proofs.choose.farthest_id.Given as goal
 
 abbrev pub invariant-loop-i : goal.invariant-loop-i
 invariant-loop-i l = Comparing l.words l.a l.n l.best l.id l.i
-
-abbrev pub decreases-loop-i : goal.decreases-loop-i
-decreases-loop-i l = l.n - l.i

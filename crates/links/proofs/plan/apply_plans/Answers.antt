@@ -1,9 +1,12 @@
-use Rattle.distances.proofs.Kept.{kept_zeros}
-use mathlib.Core.Path.{refl}
+use native.Mathlib.Omega.{arith}
+use Rattle.links.proofs.Linking.{made_marks}
+use Rattle.links.proofs.Planning.{plans_next, made_area, plans_more}
 use Rattle.links.proofs.plan.apply_plans.Goals as goal
 
-pub apply_each-requires : goal.apply_each-requires
-apply_each-requires c = record { together = c.requires.together; in_bounds = (c.requires.in_bounds.0, c.requires.in_bounds.1, c.requires.in_bounds.2, kept_zeros _ _ 16384, c.requires.in_bounds.3, refl) }
+pub apply_plan-requires : goal.apply_plan-requires
+apply_plan-requires c =
+    let r = plans_next c.args.repair_degree c.args.entry c.loop-j.invariant.0 c.requires.in_bounds.1 c.loop-j-test.true in
+    (rw (made_marks c.loop-j.invariant.0) c.requires.in_bounds.0, r.0, r.1, made_area c.loop-j.invariant.0 c.requires.in_bounds.2, c.requires.in_bounds.3, c.loop-j.invariant.1)
 
-pub returns : goal.returns
-returns c = c.apply_each.ensures.0
+pub loop-j-preserved : goal.loop-j-preserved
+loop-j-preserved c = (plans_more c.args.repair_degree c.args.entry c.loop-j.invariant.0 c.requires.in_bounds.1 c.loop-j-test.true c.apply_plan.ensures, omega arith)

@@ -1,9 +1,7 @@
-use Rattle.links.proofs.Spanning.{Pairing}
-use Prim.Native.Nat.{◌-◌}
+use mathlib.Core.Path.{◌≡◌}
+use lib.ListN.{take}
+use Rattle.links.specs.Inner.Linking.{pairs_of, links_at}
 use Rattle.links.proofs.span.pair_each.Given as goal
 
 abbrev pub invariant-loop-i : goal.invariant-loop-i
-invariant-loop-i l = Pairing l.x l.scratch l.to l.n l.initial.pairs l.t l.pairs l.i
-
-abbrev pub decreases-loop-i : goal.decreases-loop-i
-decreases-loop-i l = l.n - l.i
+invariant-loop-i l = pairs_of (take l.i l.pairs) ≡ links_at l.x l.scratch l.to l.i

@@ -1,10 +1,6 @@
 use Rattle.links.specs.Inner.Linking.{between}
-use Rattle.links.proofs.Scoring.{Scoring}
-use Prim.Native.Nat.{◌-◌}
+use Rattle.links.specs.Inner.Planning.{Scored}
 use Rattle.links.proofs.span.score.Given as goal
 
 abbrev pub invariant-loop-k : goal.invariant-loop-k
-invariant-loop-k l = Scoring (λ x. between l.dim l.vectors x l.y) l.initial.scratch l.at l.n l.to l.scratch l.k
-
-abbrev pub decreases-loop-k : goal.decreases-loop-k
-decreases-loop-k l = l.n - l.k
+invariant-loop-k l = Scored (λ x. between l.space.dim l.space.vectors.now x l.y) l.initial.scratch l.at l.k l.to l.scratch

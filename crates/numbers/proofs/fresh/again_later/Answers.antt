@@ -1,17 +1,15 @@
-use Rattle.numbers.proofs.Twice.{later_start, later_found, later_more, later_done}
+use mathlib.Core.Path.{◌∙◌}
+use native.Mathlib.Omega.{arith}
+use Rattle.std.proofs.Common.{rules}
+use Rattle.std.proofs.lemmas.Slice.{between_to_end}
+use Prim.Native.Nat.{◌+◌}
+use lib.ListN.{drop}
+use Rattle.std.proofs.lemmas.Iterator.{YieldsList-from_slice, cases_from_any}
+use Rattle.numbers.proofs.Twice.{Has, Lacks, has_from_met, lacks_from_met, later}
 use Rattle.numbers.proofs.fresh.again_later.Goals as goal
 
-pub loop-j-init : goal.loop-j-init
-loop-j-init c = later_start c.requires
-
-pub place-requires : goal.place-requires
-place-requires c = (c.requires.placed, c.requires.risen)
-
-pub returns-then-place-n : goal.returns-then-place-n
-returns-then-place-n c = later_found c.requires c.loop-j-test.true c.loop-j.invariant c.place.ensures c.if-place-n.true
-
-pub loop-j-preserved : goal.loop-j-preserved
-loop-j-preserved c = later_more c.requires c.loop-j-test.true c.loop-j.invariant c.place.ensures c.if-place-n.false
-
 pub returns : goal.returns
-returns c = later_done c.loop-j-test.false c.loop-j.invariant
+returns c =
+    later c.requires c.any.result
+    (cases_from_any _ _ _ (Has c.args.given.now c.args.order.now c.args.n) (Lacks c.args.given.now c.args.order.now c.args.n) c.any.ensures.ran
+    (YieldsList-from_slice (drop (c.args.a + c.args.n) c.args.given.now) (c.iter.ensures.rest ∙ between_to_end c.args.given.now (c.args.a + c.args.n) _ (omega arith))) (λ x q k. search (rules, has_from_met)) (λ x q k. search (rules, lacks_from_met)))

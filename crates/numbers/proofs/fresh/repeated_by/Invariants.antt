@@ -1,4 +1,4 @@
--- The invariant: of the places before `a` none has 0, or a number that stands later again.
+-- Of the places before `a` none has 0, or a number that stands later again.
 use Prim.Native.Nat.{◌-◌}
 use mathlib.Core.Path.{◌≡◌}
 use lib.ListN.{length}

@@ -1,16 +1,12 @@
-use mathlib.Core.Path.{◌∙◌, ap}
-use Rattle.numbers.specs.Numbers.{number_of}
-use Rattle.numbers.proofs.Loops.{met_past, met_other, met_here}
+use mathlib.Core.Path.{◌∙◌}
+use borrow.Author.Tests.{le-ltb}
+use Rattle.numbers.proofs.Loops.{met_then, met_else}
+use Rattle.numbers.proofs.naming.place.Goals.{then-r-n, else-r-n}
 use Rattle.numbers.proofs.naming.place.Goals as goal
 
-pub below-r-requires : goal.below-r-requires
-below-r-requires c = c.requires
-
-pub returns-then-n-r : goal.returns-then-n-r
-returns-then-n-r c = met_past c.requires.1 c.below-r.ensures c.if-n-r.true
-
-pub returns-then-number_at-key : goal.returns-then-number_at-key
-returns-then-number_at-key c = met_other c.requires.1 c.below-r.ensures (c.number_at.ensures ∙ ap (number_of c.args.keys.now) c.wide.ensures) c.if-number_at-key.true
-
 pub returns : goal.returns
-returns c = met_here c.requires.1 c.below-r.ensures c.if-n-r.false (c.number_at.ensures ∙ ap (number_of c.args.keys.now) c.wide.ensures) c.if-number_at-key.false
+returns c =
+    elim c.if-r-n.branch [
+      | then-r-n w ↦ met_then c.requires.1 c.below-r.ensures w.if-r-n.true w.number_at.ensures w.then_some-is c.then_some.ensures
+      | else-r-n w ↦ met_else c.requires.1 c.below-r.ensures w.if-r-n.false (w.then_some-is ∙ le-ltb c.below-r.result c.args.n w.if-r-n.false) c.then_some.ensures
+    ]

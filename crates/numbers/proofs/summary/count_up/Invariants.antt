@@ -1,10 +1,6 @@
--- The invariant: the first `i` places are written.
-use Prim.Native.Nat.{◌-◌}
+-- The first `i` places are written.
 use Rattle.numbers.proofs.Loops.{Counted}
 use Rattle.numbers.proofs.summary.count_up.Given as goal
 
 abbrev pub invariant-loop-i : goal.invariant-loop-i
 invariant-loop-i l = Counted l.from l.n l.initial.order l.i l.order
-
-abbrev pub decreases-loop-i : goal.decreases-loop-i
-decreases-loop-i l = l.n - l.i

@@ -3,13 +3,10 @@ use Rattle.numbers.proofs.Listing.{summary_placed, summarized}
 use Rattle.numbers.proofs.Loops.{counted_blank}
 use Rattle.numbers.proofs.summary.summarize.Goals as goal
 
-pub count_up-requires : goal.count_up-requires
-count_up-requires c = (omega arith, omega arith)
-
 pub sort-requires : goal.sort-requires
-sort-requires c = let e = counted_blank c.args.count _ c.args.summary.now c.requires.1 c.count_up.ensures c.count_up.auto.order c.blank_from.ensures in
-    (summary_placed _ _ c.requires.0 e, omega arith)
+sort-requires c =
+    summary_placed _ _ c.requires.0 (counted_blank c.args.count _ c.args.summary.now c.requires.1 (omega arith) c.count_up.ensures c.count_up.auto.order (c.fill.ensures.after (λ y e. e)))
 
 pub returns : goal.returns
-returns c = let e = counted_blank c.args.count _ c.args.summary.now c.requires.1 c.count_up.ensures c.count_up.auto.order c.blank_from.ensures in
-    summarized c.requires.0 c.sort.ensures e
+returns c =
+    summarized c.requires.0 c.sort.ensures (counted_blank c.args.count _ c.args.summary.now c.requires.1 (omega arith) c.count_up.ensures c.count_up.auto.order (c.fill.ensures.after (λ y e. e)))

@@ -1,11 +1,7 @@
--- The invariant: the numbers of the first `i` slots are written.
-use Prim.Native.Nat.{◌-◌}
+-- The numbers of the first `i` slots are written.
 use Rattle.numbers.specs.Numbers.{number_of}
 use Rattle.numbers.proofs.Writes.{Mapped}
 use Rattle.numbers.proofs.writing.copy_numbers.Given as goal
 
 abbrev pub invariant-loop-i : goal.invariant-loop-i
 invariant-loop-i l = Mapped (number_of l.numbers) l.slots l.n l.initial.out l.i l.out
-
-abbrev pub decreases-loop-i : goal.decreases-loop-i
-decreases-loop-i l = l.n - l.i

@@ -1,11 +1,6 @@
--- The invariant: the first `i` numbers are written.
-use Prim.Native.Nat.{◌-◌}
-use lib.ListN.{length}
+-- The first `i` numbers are written.
 use Rattle.numbers.proofs.Writes.{Written}
 use Rattle.numbers.proofs.writing.write_numbers.Given as goal
 
 abbrev pub invariant-loop-i : goal.invariant-loop-i
 invariant-loop-i l = Written l.slots l.given l.initial.numbers l.i l.numbers
-
-abbrev pub decreases-loop-i : goal.decreases-loop-i
-decreases-loop-i l = length l.given - l.i

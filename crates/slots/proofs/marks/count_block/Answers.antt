@@ -1,16 +1,8 @@
-use Rattle.slots.proofs.Count.{counting_none, counting_live, counting_dead, counting_done}
+use Rattle.std.proofs.Common.{sym, ap, ◌∙◌}
+use lib.Seq.{take_all}
+use Rattle.std.specs.List.{count_by}
+use Rattle.slots.proofs.Count.{is_set, count_marks}
 use Rattle.slots.proofs.marks.count_block.Goals as goal
-use Rattle.slots.proofs.marks.count_block.Goals.{then-marks-s-ne0, else-marks-s-ne0}
-
-pub loop-s-init : goal.loop-s-init
-loop-s-init c = counting_none _ _ _ c.requires.0
-
-pub loop-s-preserved : goal.loop-s-preserved
-loop-s-preserved c =
-    elim c.if-marks-s-ne0.branch [
-      | then-marks-s-ne0 w ↦ rw w.n-is (counting_live c.loop-s-test.true c.loop-s.invariant w.if-marks-s-ne0.true)
-      | else-marks-s-ne0 w ↦ rw w.n-is (counting_dead c.loop-s-test.true c.loop-s.invariant w.if-marks-s-ne0.false)
-    ]
 
 pub returns : goal.returns
-returns c = counting_done c.loop-s-test.false c.loop-s.invariant
+returns c = c.loop-mark.invariant.1 ∙ ap (count_by is_set) (take_all c.loop-mark.mark-index c.args.marks.now c.loop-mark-test.false) ∙ sym (count_marks c.args.marks.now)

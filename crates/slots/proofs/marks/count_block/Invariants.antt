@@ -1,10 +1,8 @@
--- The invariant: `n` live slots lie from `from` up to `s`.
-use Rattle.std.proofs.Common.{◌-◌}
-use Rattle.slots.proofs.Count.{Counting}
+-- The marks so far are counted.
+use Rattle.std.proofs.Common.{◌≡◌, ◌≤◌, take}
+use Rattle.std.specs.List.{count_by}
+use Rattle.slots.proofs.Count.{is_set}
 use Rattle.slots.proofs.marks.count_block.Given as goal
 
-abbrev pub invariant-loop-s : goal.invariant-loop-s
-invariant-loop-s l = Counting l.marks l.from l.to l.n l.s
-
-abbrev pub decreases-loop-s : goal.decreases-loop-s
-decreases-loop-s l = l.to - l.s
+abbrev pub invariant-loop-mark : goal.invariant-loop-mark
+invariant-loop-mark l = (l.n ≤ l.mark-index) × (l.n ≡ count_by is_set (take l.mark-index l.marks))

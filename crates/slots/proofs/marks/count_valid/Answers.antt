@@ -1,19 +1,12 @@
-use Rattle.std.proofs.Common.{arith}
-use Rattle.slots.proofs.Count.{counting_none, counting_block, counted_all}
+use Rattle.std.proofs.Common.{◌∙◌, arith}
+use Rattle.slots.proofs.Count.{count_block, counted_all}
 use Rattle.slots.proofs.marks.count_valid.Goals as goal
 
-pub loop-s-init : goal.loop-s-init
-loop-s-init c = counting_none _ 0 _ (omega arith)
-
-pub count_block-requires : goal.count_block-requires
-count_block-requires c = (omega (arith, c.block_end-end.ensures.0), c.block_end-end.ensures.1, c.block_end-end.ensures.2)
-
-pub overflow_add-n : goal.overflow_add-n
-overflow_add-n c = let k = counting_block c.loop-s-test.true c.loop-s.invariant c.count_block.ensures c.block_end-end.ensures.0 c.block_end-end.ensures.2 in
-    omega (arith, k.few, k.below)
-
-pub loop-s-preserved : goal.loop-s-preserved
-loop-s-preserved c = counting_block c.loop-s-test.true c.loop-s.invariant c.count_block.ensures c.block_end-end.ensures.0 c.block_end-end.ensures.2
+pub loop-block-preserved : goal.loop-block-preserved
+loop-block-preserved c = let i = c.loop-block.invariant in
+    let s = c.in-Some.ensures.steps in
+    let k = count_block _ _ _ s.1.0 (c.from-n.ensures ∙ c.count_block.ensures) in
+    (s.0 ∙ i.0, omega (arith, k.0, i.1), omega (arith, k.1, i.2))
 
 pub returns : goal.returns
-returns c = counted_all c.loop-s-test.false c.loop-s.invariant
+returns c = counted_all _ _ c.in-None.ensures.steps.1.0 c.loop-block.invariant.2

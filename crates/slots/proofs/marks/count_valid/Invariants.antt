@@ -1,10 +1,8 @@
--- The invariant: `n` live slots lie before `s`.
-use Rattle.std.proofs.Common.{◌-◌, length}
-use Rattle.slots.proofs.Count.{Counting}
+-- What is counted and the set marks of the blocks that are left are those of all marks.
+use Rattle.std.proofs.Common.{◌≡◌, ◌+◌, ◌≤◌, length}
+use Rattle.std.specs.List.{count_by}
+use Rattle.slots.proofs.Count.{is_set}
 use Rattle.slots.proofs.marks.count_valid.Given as goal
 
-abbrev pub invariant-loop-s : goal.invariant-loop-s
-invariant-loop-s l = Counting l.marks 0 (length l.marks) l.n l.s
-
-abbrev pub decreases-loop-s : goal.decreases-loop-s
-decreases-loop-s l = length l.marks - l.s
+abbrev pub invariant-loop-block : goal.invariant-loop-block
+invariant-loop-block l = (l.block-iterator.size ≡ 128) × (l.n + length l.block-iterator.rest.now ≤ length l.marks) × (l.n + count_by is_set l.block-iterator.rest.now ≡ count_by is_set l.marks)

@@ -1,5 +1,4 @@
 -- The slots of the candidates before `i` are expanded.
-use Prim.Native.Nat.{◌-◌, ◌≤◌}
 use mathlib.Core.Path.{◌≡◌}
 use Rattle.lists.specs.Lists.{All}
 use Rattle.candidates.specs.Inner.Words.{cands}
@@ -7,7 +6,4 @@ use Rattle.walk.specs.Inner.Scratch.{mark}
 use Rattle.walk.proofs.words.unexpanded.Given as goal
 
 abbrev pub invariant-loop-i : goal.invariant-loop-i
-invariant-loop-i l = (l.i ≤ l.n) × All (λ c. mark l.scratch c.id ≡ 2) (cands l.scratch 0 l.i)
-
-abbrev pub decreases-loop-i : goal.decreases-loop-i
-decreases-loop-i l = l.n - l.i
+invariant-loop-i l = All (λ c. mark l.scratch c.id ≡ 2) (cands l.scratch 0 l.i)

@@ -1,0 +1,11 @@
+use mathlib.Core.Path.{◌≡◌}
+use lib.ListN.{length}
+use Rattle.links.specs.Inner.Linking.{between, Made}
+use Rattle.links.specs.Inner.Planning.{plan_words, plans_at}
+use Rattle.links.proofs.plan.apply_plans.Given as goal
+
+abbrev pub invariant-loop-j : goal.invariant-loop-j
+invariant-loop-j l =
+    let space = l.initial.linker.kept.space in
+    Made l.initial.linker (plans_at (between space.dim space.vectors.now) l.repair_degree l.entry l.initial.scratch l.table.stats l.table.plans l.j) l.initial.scratch l.table.base plan_words l.linker l.scratch
+    × (length l.pairs ≡ 5120)

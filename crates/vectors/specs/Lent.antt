@@ -1,0 +1,12 @@
+-- The vectors as the code has them: `dim` and the lent bytes. Assumes nothing.
+use Rattle.std.specs.Prelude.{ℕ, ◌+◌, ◌*◌, ◌≤◌, length}
+use Rattle.vectors.specs.Space.{Space, space}
+use Rattle.vectors.specs.declared.Space as lent
+
+-- what the bytes hold
+abbrev pub space_of : lent.Space → Space
+space_of p = space p.dim p.vectors.now
+
+-- the bytes hold the vector of slot s
+abbrev pub HasVector : lent.Space → ℕ → Type 0
+HasVector p s = s * p.dim + p.dim ≤ length p.vectors.now
