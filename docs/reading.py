@@ -26,7 +26,7 @@ SAME = {"finder_delete_numbers": "finder_delete", "finder_guarded_delete_numbers
 ROWS = [
     ("an index: sizes and limits, what it shows, how it is stored, the plain index", "slots/specs/Sizes slots/specs/View slots/specs/Ops slots/specs/Store slots/specs/Plain"),
     ("every call: arguments, when it is turned back, what it does and writes", "calls/specs/Calls calls/specs/State calls/specs/Refusals calls/specs/Step calls/specs/Outputs slots/specs/Scratch"),
-    ("a run of a function for C, in words and lists", "exported/specs/Runs exported/specs/Performs words/specs/IndexWords words/specs/GuardWords words/specs/Given index/specs/Index index/specs/Create reading/specs/Search updating/specs/Insert updating/specs/Delete guarding/specs/Guarding guarding/specs/Guarded deletion/specs/Batch calls/specs/Runs"),
+    ("a run of a function for C, in words and lists", "exported/specs/Runs exported/specs/Performs words/specs/IndexWords words/specs/GuardWords words/specs/Given index/specs/Refusal index/specs/Index index/specs/Create reading/specs/Search updating/specs/Insert updating/specs/Delete guarding/specs/Guarding guarding/specs/Guarded deletion/specs/Batch calls/specs/Runs"),
     ("demand 1: what is turned back", "calls/specs/Refused exported/specs/Refused"),
     ("demand 2: the algorithms, under the names of the Rust", "vectors/specs/Distance vectors/specs/Space candidates/specs/Candidates candidates/specs/Quotient walk/specs/Walk prune/specs/Prune insert/specs/Insert repair/specs/Repair repair/specs/Delete guard/specs/Guard"),
     ("demand 2: the paper, and where the library uses it", "walk/specs/GreedySearch prune/specs/RobustPrune calls/specs/Instances"),

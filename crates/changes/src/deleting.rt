@@ -1,61 +1,54 @@
 // Lines `delete`.
 use deletion::stats_place;
-use lines::kinds::DELETE;
-use lines::prepare::{GIVEN_ROWS, Step, least, part};
-use lines::words::Word;
-use text::{Number, after, ends, first, same_words};
-use updating::{Deleted, Naming};
-
-// Whether a line names neither slots nor numbers. Such a line is not performed, and differs.
-pub fn no_naming(naming: Number) -> bool {
-    !naming.good || 1 < naming.value
-}
+use index::Refusal;
+use lines::prepare::{State, part, part_mut};
+use text::{Differs, Numbers};
+use updating::{Changed, Naming};
 
 // What the names of a delete are.
-pub fn naming_of(n: u32) -> Naming {
-    if n == 0 {
-        return Naming::Slots;
+pub fn naming(line: &mut Numbers<'_>) -> Result<Naming, Differs> {
+    match line.number()? {
+        0 => Ok(Naming::Slots),
+        1 => Ok(Naming::Numbers),
+        _ => Err(Differs::Malformed),
     }
-    Naming::Numbers
 }
 
-// How many words the stats of n slots have.
-fn stats_words(n: u32) -> usize {
-    n as usize * 4
-}
-
-// Whether the rest of a line has the number n of the slots that a delete emptied and their stats, which it left in the scratch.
-pub fn same_emptied(line: &[u8], before: Number, n: u32, capacity: u32, scratch: &[u32]) -> bool {
-    let count = after(line, before);
-    let at = least(stats_place(capacity), scratch.len());
-    n == count.value && same_words(line, count, stats_words(n), &scratch[at..])
-}
-
-// The step after a delete: the index without what was deleted, or the former one where it was refused.
-fn after_delete(
-    line: &[u8],
-    refusal: Number,
-    step: Step,
-    deleted: Deleted,
+// Passes the number n of the slots that a delete emptied and their stats, four words each, which it left in the scratch.
+pub fn expect_emptied(
+    line: &mut Numbers<'_>,
+    n: u32,
+    capacity: u32,
     scratch: &[u32],
-) -> Step {
-    let mut new = step;
+) -> Result<(), Differs> {
+    line.expect(n)?;
+    let stats = scratch
+        .get(stats_place(capacity)..)
+        .ok_or(Differs::TooMuch)?;
+    line.expect_first(n as usize * 4, stats)
+}
+
+// Passes the answer to a delete, which leaves the index without what is deleted, or the former one where it is refused.
+fn expect_deleted(
+    line: &mut Numbers<'_>,
+    state: &mut State,
+    deleted: Result<Changed, Refusal>,
+    scratch: &[u32],
+) -> Result<(), Differs> {
     match deleted {
-        Deleted::Refused(r) => new.good = r == refusal.value && ends(line, refusal),
-        Deleted::Done(index, n) => {
-            new.index = index;
-            new.good = refusal.value == 0
-                && same_emptied(line, refusal, n, index.capacity, scratch);
+        Err(r) => line.expect(r as u32),
+        Ok(changed) => {
+            state.index = changed.index;
+            line.expect(0)?;
+            expect_emptied(line, changed.count, changed.index.capacity, scratch)
         }
     }
-    new
 }
 
 // Performs a line `delete`.
 pub fn delete(
-    line: &[u8],
-    word: Word,
-    step: Step,
+    line: &mut Numbers<'_>,
+    state: &mut State,
     names: &[u32],
     vectors: &[u8],
     targets: &mut [u32],
@@ -66,45 +59,27 @@ pub fn delete(
     numbers: &mut [u32],
     summary: &mut [u32],
     scratch: &mut [u32],
-) -> Step {
-    if word.kind != DELETE {
-        return step;
-    }
-    let naming = first(line, word.end);
-    if no_naming(naming) {
-        return step;
-    }
-    let beam = after(line, naming);
-    let degree = after(line, beam);
-    let refusal = after(line, degree);
-    let lent = step.lent;
-    let i = part(lent, GIVEN_ROWS, names.len());
-    let v = part(lent, 0, vectors.len());
-    let t = part(lent, 1, targets.len());
-    let e = part(lent, 2, edges.len());
-    let n = part(lent, 3, versions.len());
-    let a = part(lent, 4, marks.len());
-    let p = part(lent, 5, pool.len());
-    let f = part(lent, 6, numbers.len());
-    let u = part(lent, 7, summary.len());
-    let room = part(lent, 8, 1024);
-    let w = part(lent, 11, scratch.len());
+) -> Result<(), Differs> {
+    let naming = naming(line)?;
+    let beam = line.argument();
+    let degree = line.argument();
+    let lent = state.lent;
     let deleted = updating::delete(
-        step.index,
-        &vectors[..v],
-        &mut targets[..t],
-        &mut edges[..e],
-        &mut versions[..n],
-        &mut marks[..a],
-        &pool[..p],
-        &mut numbers[..f],
-        &mut summary[..u],
-        &names[..i],
-        naming_of(naming.value),
-        beam.value,
-        degree.value,
-        room,
-        &mut scratch[..w],
+        state.index,
+        part(vectors, lent.vectors),
+        part_mut(targets, lent.targets),
+        part_mut(edges, lent.edges),
+        part_mut(versions, lent.versions),
+        part_mut(marks, lent.marks),
+        part(pool, lent.pool),
+        part_mut(numbers, lent.numbers),
+        part_mut(summary, lent.summary),
+        part(names, lent.rows),
+        naming,
+        beam,
+        degree,
+        lent.slots.min(1024),
+        part_mut(scratch, lent.words),
     );
-    after_delete(line, refusal, step, deleted, scratch)
+    expect_deleted(line, state, deleted, scratch)
 }

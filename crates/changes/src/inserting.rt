@@ -1,40 +1,31 @@
 // Lines `insert`.
-use lines::kinds::INSERT;
-use lines::prepare::{GIVEN, GIVEN_NUMBERS, Step, part, wide};
-use lines::words::Word;
-use text::{Number, after, ends, first, same_words};
-use updating::Inserted;
+use index::Refusal;
+use lines::prepare::{State, part, part_mut};
+use text::{Differs, Numbers};
+use updating::Changed;
 
-// Whether an insert of n vectors was carried out as stored.
-fn same_filled(line: &[u8], refusal: Number, n: u32, slots: &[u32; 1024]) -> bool {
-    let count = after(line, refusal);
-    refusal.value == 0 && n == count.value && same_words(line, count, wide(n), slots)
-}
-
-// The step after an insert: the index with what was inserted, or the former one where it was refused.
-fn after_insert(
-    line: &[u8],
-    refusal: Number,
-    step: Step,
-    inserted: Inserted,
-    slots: &[u32; 1024],
-) -> Step {
-    let mut new = step;
+// Passes the answer to an insert, which leaves the index with what is inserted, or the former one where it is refused.
+fn expect_inserted(
+    line: &mut Numbers<'_>,
+    state: &mut State,
+    inserted: Result<Changed, Refusal>,
+    slots: &[u32],
+) -> Result<(), Differs> {
     match inserted {
-        Inserted::Refused(r) => new.good = r == refusal.value && ends(line, refusal),
-        Inserted::Done(index, n) => {
-            new.index = index;
-            new.good = same_filled(line, refusal, n, slots);
+        Err(r) => line.expect(r as u32),
+        Ok(changed) => {
+            state.index = changed.index;
+            line.expect(0)?;
+            line.expect(changed.count)?;
+            line.expect_first(changed.count as usize, slots)
         }
     }
-    new
 }
 
 // Performs a line `insert`.
 pub fn insert(
-    line: &[u8],
-    word: Word,
-    step: Step,
+    line: &mut Numbers<'_>,
+    state: &mut State,
     given: &[u8],
     figures: &[u32],
     vectors: &mut [u8],
@@ -46,41 +37,25 @@ pub fn insert(
     numbers: &mut [u32],
     summary: &mut [u32],
     scratch: &mut [u32],
-) -> Step {
-    if word.kind != INSERT {
-        return step;
-    }
+) -> Result<(), Differs> {
     let mut slots = [0u32; 1024];
-    let beam = first(line, word.end);
-    let refusal = after(line, beam);
-    let lent = step.lent;
-    let b = part(lent, GIVEN, given.len());
-    let g = part(lent, GIVEN_NUMBERS, figures.len());
-    let v = part(lent, 0, vectors.len());
-    let t = part(lent, 1, targets.len());
-    let e = part(lent, 2, edges.len());
-    let n = part(lent, 3, versions.len());
-    let a = part(lent, 4, marks.len());
-    let p = part(lent, 5, pool.len());
-    let f = part(lent, 6, numbers.len());
-    let u = part(lent, 7, summary.len());
-    let s = part(lent, 8, 1024);
-    let w = part(lent, 11, scratch.len());
+    let beam = line.argument();
+    let lent = state.lent;
     let inserted = updating::insert(
-        step.index,
-        &mut vectors[..v],
-        &mut targets[..t],
-        &mut edges[..e],
-        &versions[..n],
-        &mut marks[..a],
-        &pool[..p],
-        &mut numbers[..f],
-        &mut summary[..u],
-        &given[..b],
-        &figures[..g],
-        beam.value,
-        &mut slots[..s],
-        &mut scratch[..w],
+        state.index,
+        part_mut(vectors, lent.vectors),
+        part_mut(targets, lent.targets),
+        part_mut(edges, lent.edges),
+        part(versions, lent.versions),
+        part_mut(marks, lent.marks),
+        part(pool, lent.pool),
+        part_mut(numbers, lent.numbers),
+        part_mut(summary, lent.summary),
+        part(given, lent.given),
+        part(figures, lent.figures),
+        beam,
+        part_mut(&mut slots, lent.slots),
+        part_mut(scratch, lent.words),
     );
-    after_insert(line, refusal, step, inserted, &slots)
+    expect_inserted(line, state, inserted, &slots)
 }

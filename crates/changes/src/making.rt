@@ -1,62 +1,27 @@
 // Lines `make`.
-use index::Created;
-use lines::kinds::MAKE;
-use lines::prepare::{GIVEN, GIVEN_NUMBERS, GIVEN_ROWS, Step, alpha_of, part};
-use lines::words::Word;
-use text::{after, ends, first};
+use index::{Index, Refusal};
+use lines::prepare::{State, alpha_of, part, part_mut};
+use text::{Differs, Numbers};
 
-// The numbers of a line `make`.
-#[derive(Clone, Copy)]
-struct Making {
-    dim: u32,
-    capacity: u32,
-    degree: u32,
-    alpha: f32,
-    entry: u32,
-    count: u32,
-    refusal: u32,
-    good: bool,
-}
-
-// Reads a line `make`.
-fn read_making(line: &[u8], end: usize) -> Making {
-    let dim = first(line, end);
-    let capacity = after(line, dim);
-    let degree = after(line, capacity);
-    let alpha = after(line, degree);
-    let entry = after(line, alpha);
-    let count = after(line, entry);
-    let refusal = after(line, count);
-    Making {
-        dim: dim.value,
-        capacity: capacity.value,
-        degree: degree.value,
-        alpha: alpha_of(alpha.value),
-        entry: entry.value,
-        count: count.value,
-        refusal: refusal.value,
-        good: ends(line, refusal),
-    }
-}
-
-// The step after a making: the new index, or the former one where it was refused.
-fn after_making(step: Step, created: Created, m: Making) -> Step {
-    let mut new = step;
+// Passes the answer to a making, which leaves the new index, or the former one where it is refused.
+fn expect_made(
+    line: &mut Numbers<'_>,
+    state: &mut State,
+    created: Result<Index, Refusal>,
+) -> Result<(), Differs> {
     match created {
-        Created::Refused(r) => new.good = m.good && r == m.refusal,
-        Created::Done(index) => {
-            new.index = index;
-            new.good = m.good && m.refusal == 0;
+        Err(r) => line.expect(r as u32),
+        Ok(index) => {
+            state.index = index;
+            line.expect(0)
         }
     }
-    new
 }
 
 // Performs a line `make`.
 pub fn make(
-    line: &[u8],
-    word: Word,
-    step: Step,
+    line: &mut Numbers<'_>,
+    state: &mut State,
     given: &[u8],
     rows: &[u32],
     figures: &[u32],
@@ -68,41 +33,32 @@ pub fn make(
     pool: &mut [u32],
     numbers: &mut [u32],
     summary: &mut [u32],
-) -> Step {
-    if word.kind != MAKE {
-        return step;
-    }
-    let m = read_making(line, word.end);
-    let lent = step.lent;
-    let b = part(lent, GIVEN, given.len());
-    let r = part(lent, GIVEN_ROWS, rows.len());
-    let g = part(lent, GIVEN_NUMBERS, figures.len());
-    let v = part(lent, 0, vectors.len());
-    let t = part(lent, 1, targets.len());
-    let e = part(lent, 2, edges.len());
-    let n = part(lent, 3, versions.len());
-    let a = part(lent, 4, marks.len());
-    let p = part(lent, 5, pool.len());
-    let f = part(lent, 6, numbers.len());
-    let s = part(lent, 7, summary.len());
+) -> Result<(), Differs> {
+    let dim = line.argument();
+    let capacity = line.argument();
+    let degree = line.argument();
+    let alpha = alpha_of(line.argument());
+    let entry = line.argument();
+    let count = line.argument();
+    let lent = state.lent;
     let created = index::create(
-        m.dim,
-        m.capacity,
-        m.degree,
-        m.alpha,
-        m.entry,
-        m.count,
-        &given[..b],
-        &rows[..r],
-        &figures[..g],
-        &mut vectors[..v],
-        &mut targets[..t],
-        &mut edges[..e],
-        &mut versions[..n],
-        &mut marks[..a],
-        &mut pool[..p],
-        &mut numbers[..f],
-        &mut summary[..s],
+        dim,
+        capacity,
+        degree,
+        alpha,
+        entry,
+        count,
+        part(given, lent.given),
+        part(rows, lent.rows),
+        part(figures, lent.figures),
+        part_mut(vectors, lent.vectors),
+        part_mut(targets, lent.targets),
+        part_mut(edges, lent.edges),
+        part_mut(versions, lent.versions),
+        part_mut(marks, lent.marks),
+        part_mut(pool, lent.pool),
+        part_mut(numbers, lent.numbers),
+        part_mut(summary, lent.summary),
     );
-    after_making(step, created, m)
+    expect_made(line, state, created)
 }

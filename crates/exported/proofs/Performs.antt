@@ -5,10 +5,10 @@ use mathlib.Core.List.{List, [], map}
 use mathlib.Core.Logic.{◌⊎◌, inl, inr, ⊎_elim}
 use mathlib.Core.Option.{some}
 use mathlib.Core.Path.{◌≡◌, refl, sym, ap, ◌∙◌, subst}
-use borrow.Author.Tests.{eqb-true, eqb-false, eq-eqb, ne_eqb}
 use lib.Dec.{eqb}
 use lib.Ieee.{Float}
 use lib.ListN.{length, get_or, length-map}
+use Rattle.std.specs.Prelude.{Some, None, Result, Ok, Err}
 use Rattle.lists.specs.Lists.{range}
 use Rattle.lists.proofs.Ranges.{length_range}
 use Rattle.vectors.specs.Distance.{f32}
@@ -24,39 +24,31 @@ use Rattle.calls.specs.Step.{refusal, settle, step}
 use Rattle.calls.specs.Runs.{slices_of, value_of, call_of, run_refusal, Meets}
 use Rattle.calls.specs.Runs as Runs
 use Rattle.index.specs.declared.Index.{Index}
-use Rattle.index.specs.declared.Created.{Created}
-use Rattle.index.specs.declared.Created.TheVariants.{Refused as not_made, Done}
-use Rattle.index.specs.declared.Guard.TheVariants.{Off, On}
+use Rattle.index.specs.declared.Refusal.{Refusal}
 use Rattle.index.specs.Index.{guard_of, index_value, state_of}
 use Rattle.index.specs.Create.{created_as, left_by, create_run}
 use Rattle.index.proofs.Calls.{create_meets}
 use Rattle.reading.specs.declared.Reading.{Reading}
 use Rattle.reading.specs.declared.Reading.TheVariants.{Dim, Capacity, Degree, Alpha, Entry, Live, Mark, Version, Number, Target}
 use Rattle.reading.specs.declared.Value.{Value}
-use Rattle.reading.specs.declared.Value.TheVariants.{Refused}
-use Rattle.reading.specs.declared.Found.TheVariants.{Refused as none_found, Found as Nearest}
+use Rattle.reading.specs.declared.Value.TheVariants.{Alpha as Factor}
 use Rattle.reading.specs.Read.{reading_of, answer_of, Reads}
 use Rattle.reading.specs.Search.{found_as, search_outputs}
-use Rattle.updating.specs.declared.Inserted.TheVariants.{Refused as not_inserted, Done as Filled}
+use Rattle.updating.specs.declared.Changed.{Changed}
 use Rattle.updating.specs.Insert.{insert_outputs, inserted_as, index_after}
-use Rattle.updating.specs.declared.Deleted.{Deleted}
-use Rattle.updating.specs.declared.Deleted.TheVariants.{Refused as not_deleted, Done as Emptied}
 use Rattle.updating.specs.Delete.{stats_outputs, deleted_as, index_left}
 use Rattle.repair.specs.Delete.{Stats}
 use Rattle.deletion.specs.Batch.{stats_of, stats_at}
 use Rattle.words.specs.IndexWords.{index_of, value_words, words_of}
 use Rattle.words.specs.IndexWords.{guard_of as guard_in}
-use Rattle.words.specs.Given.{created_given, CreatesWords, value_in, ReadsLength, SearchesWords, inserted_given, InsertsWords, deleted_put, DeletesWords, standing_put, StandsWords, enabled_put, EnablesWords, assessed_put, AssessesWords, guarded_put, GuardsWords}
-use Rattle.exported.specs.Runs.{Memory, bytes_from, Places, places, nowhere, in_value, in_alpha, in_version, ExportedRun, making, changing, looking, Exported, finder_create, finder_dim, finder_capacity, finder_degree, finder_entry, finder_live, finder_mark, finder_slot_version, finder_number, finder_target, finder_alpha, finder_vector, finder_search, finder_insert, finder_delete, in_guard, finder_guard_enable, finder_guard_status, finder_assess, finder_guarded_delete}
+use Rattle.words.specs.Given.{map_ok, CreatesWords, value_in, ReadsNumber, ReadsLength, SearchesWords, changed_words, InsertsWords, DeletesWords, standing_words, StandsWords, enabled_words, EnablesWords, AssessesWords, guarded_words, GuardsWords}
+use Rattle.words.specs.Given as Given
+use Rattle.exported.specs.Runs.{Memory, bytes_from, Places, places, nowhere, in_value, ExportedRun, making, changing, looking, Exported, finder_create, finder_dim, finder_capacity, finder_degree, finder_entry, finder_live, finder_mark, finder_slot_version, finder_number, finder_target, finder_alpha, finder_vector, finder_search, finder_insert, finder_delete, in_guard, finder_guard_enable, finder_guard_status, finder_assess, finder_guarded_delete}
 use Rattle.guarding.specs.declared.Guarded.{Guarded}
-use Rattle.guarding.specs.declared.Guarded.TheVariants.{Refused as not_guarded, Applied, Deferred}
+use Rattle.guarding.specs.declared.Guarded.TheVariants.{Applied, Deferred}
 use Rattle.guarding.specs.Guarded.{guarded_outputs, guarded_as, index_kept}
-use Rattle.guarding.specs.declared.Standing.{Standing}
-use Rattle.guarding.specs.declared.Standing.TheVariants.{Refused as no_status, Standing as StandsSo}
+use Rattle.guarding.specs.declared.Status.{Status}
 use Rattle.guarding.specs.declared.Enabled.{Enabled}
-use Rattle.guarding.specs.declared.Enabled.TheVariants.{Refused as not_enabled, Enabled as EnabledWith}
-use Rattle.guarding.specs.declared.Assessed.{Assessed}
-use Rattle.guarding.specs.declared.Assessed.TheVariants.{Refused as not_assessed, Assessed as AssessedSo}
 use Rattle.guarding.specs.Guarding.{standing_as, enabled_as, enabled_index, report_outputs, numbers_of, assessed_as}
 use Rattle.words.specs.GuardWords.{report_words}
 use Rattle.exported.specs.Performs.{value_held, state_in, call_in, put, Rewrites, by_create, by_insert, by_delete, by_enable, by_guarded_delete, Gives, Untouched, Performs, ExportedPerforms}
@@ -77,7 +69,7 @@ same_value w =
     λ i. record { sizes = (value_held w).sizes; entry = get_or w 4 0; live = get_or w 5 0; guard = g i }
   where
     go : (b : Bool)
-        → guard_of (cond b Off (On (record { count = get_or w 7 0; multiplier = get_or w 8 0; sample = get_or w 9 0; beam = get_or w 10 0; pool = get_or w 11 0 })))
+        → guard_of (cond b None (Some (record { count = get_or w 7 0; multiplier = get_or w 8 0; sample = get_or w 9 0; beam = get_or w 10 0; pool = get_or w 11 0 })))
         ≡ cond b off (on (config (get_or w 7 0) (get_or w 8 0) (get_or w 9 0) (get_or w 10 0)) (get_or w 11 0))
     go true = refl
     go false = refl
@@ -125,21 +117,6 @@ as_run state_of r answer =
       scratch_before = r.scratch;
       scratch_after = r.scratch';
     }
-
--- ---- a status tells whether the call is carried out
-
--- the answer of a call that answers `a` where the status is 0
-abbrev by_status : ℕ → Answer → Answer
-by_status status a = cond (eqb status 0) a (refused status)
-
-module _ (status : ℕ) (a : Answer) (before after : Places) where
-  status_tells : (status ≡ 0 → put a before ≡ (0, after)) → ((status ≡ 0 → ⊥) → after ≡ before) → (status, after) ≡ put (by_status status a) before
-  unfolding put
-  status_tells done kept = go (eqb status 0) refl
-    where
-      go : (b : Bool) → eqb status 0 ≡ b → (status, after) ≡ put (cond b a (refused status)) before
-      go true e = let z = eqb-true status 0 e in ap (λ n. (n, after)) z ∙ sym (done z)
-      go false e = ap (λ o. (status, o)) (kept (eqb-false status 0 e))
 
 -- ---- the run of a call
 
@@ -198,78 +175,76 @@ performs_looking : {o : Operation} {lent : Memory} {scratch scratch' : List ℕ}
     → Performs (looking o lent scratch scratch' before after returned)
 performs_looking looks answer f t stays = performed _ answer f t stays (inr (looks answer, refl))
 
--- the words of a call that answers `a` where the status is 0
-module _ (r : ExportedRun) (status : ℕ) (a : Answer) (anew : Rewrites r.operation a) where
-  words_by_status : (status ≡ 0 → Rightly r.left) → ((status ≡ 0 → ⊥) → r.left.words ≡ r.lent.words) → Words r (by_status status a)
-  words_by_status written kept = go (eqb status 0) refl
-    where
-      go : (b : Bool) → eqb status 0 ≡ b → Words r (cond b a (refused status))
-      go true e = inl (anew, written (eqb-true status 0 e))
-      go false e = inr (not_refused, kept (eqb-false status 0 e))
-
 -- ---- making
 
 module _ {m : Making} {lent left : Memory} {status : ℕ} (c : CreatesWords m lent.slices left.slices lent.words left.words status) where
-  abbrev made : Created
-  made = created_given status left.words
+  abbrev making_run : ExportedRun
+  making_run = making m lent left status
 
-  made_as : created_as made ≡ by_status status created
-  unfolding created_as
-  made_as = go (eqb status 0)
-    where
-      go : (b : Bool) → created_as (cond b (Done (index_of left.words)) (not_made status)) ≡ cond b created (refused status)
-      go true = refl
-      go false = refl
+  abbrev Told : Result Index Refusal → Type 0
+  Told r = (status, left.words) ≡ Given.put (map_ok words_of r) lent.words
 
-  made_left : left_by made (held_in lent) left.slices ≡ held_in left
+  abbrev Held : Result Index Refusal → Type 0
+  Held r = (i : Index) → r ≡ Ok i → index_of left.words ≡ i
+
+  made_left : (r : Result Index Refusal) → Told r → Held r → left_by r (held_in lent) left.slices ≡ held_in left
   unfolding left_by state_of value_of store_view
-  made_left = go (eqb status 0) refl
-    where
-      go : (b : Bool) → eqb status 0 ≡ b → left_by (cond b (Done (index_of left.words)) (not_made status)) (held_in lent) left.slices ≡ held_in left
-      go true e = refl
-      go false e = ap (λ w. state_of (index_of w) left.slices) (sym (c.kept (eqb-false status 0 e)))
+  made_left (Ok i) e h = ap (λ j. state_of j left.slices) (sym (h i refl))
+  made_left (Err k) e h = ap (λ w. state_of (index_of w) left.slices) (sym (ap (λ x. x.1) e))
 
-  made_run : create_run m (held_in lent) lent.slices left.slices made ≡ as_run held_in (making m lent left status) (by_status status created)
+  made_run : create_run m (held_in lent) lent.slices left.slices c.answer ≡ as_run held_in making_run (created_as c.answer)
   unfolding state_of value_of store_view
   made_run = λ i. record {
     operation = create m;
     before = held_in lent;
-    after = made_left i;
-    answer = made_as i;
+    after = made_left c.answer c.told c.held i;
+    answer = created_as c.answer;
     outputs_before = no_outputs;
     outputs_after = no_outputs;
     scratch_before = [];
     scratch_after = [];
   }
 
-  performs_making : Performs (making m lent left status)
+  made_tells : (r : Result Index Refusal) → Told r → (status, nowhere) ≡ put (created_as r) nowhere
+  unfolding put created_as
+  made_tells (Ok i) e = λ j. ((e j).0, nowhere)
+  made_tells (Err k) e = λ j. ((e j).0, nowhere)
+
+  made_words : (r : Result Index Refusal) → Told r → Held r → Words making_run (created_as r)
+  unfolding created_as
+  made_words (Ok i) e h = inl (by_create, ap (λ x. x.1) e ∙ ap words_of (sym (h i refl)))
+  made_words (Err k) e h = inr (not_refused, ap (λ x. x.1) e)
+
+  performs_making : Performs making_run
   unfolding put refused_as
   performs_making =
-      performed _ (by_status status created) (subst Meets made_run (create_meets (held_in lent) made c.does))
-      (status_tells status created nowhere nowhere (λ z. refl) (λ z. refl)) (λ n. refl)
-      (words_by_status (making m lent left status) status created by_create c.written c.kept)
+      performed making_run (created_as c.answer) (subst Meets made_run (create_meets (held_in lent) c.answer c.does)) (made_tells c.answer c.told) (λ n. refl)
+      (made_words c.answer c.told c.held)
 
 -- ---- readings
 
-value_as : (status : ℕ) (v : Value) (b : Bool) → answer_of (cond b v (Refused status)) ≡ cond b (answer_of v) (refused status)
-unfolding answer_of
-value_as status v true = refl
-value_as status v false = refl
+-- what is read is put where the answer is written
+module _ {A : Type 0} (value : A → ℕ) (alpha : A → Float) (version : A → ℕ) where
+  abbrev at : A → Places
+  at a = places (value a) (alpha a) (version a) [] [] no_outputs
 
--- what is read is put where the answer is written, if the status is 0
-performs_reading : {lent : Memory} {status value value' version version' : ℕ} {alpha alpha' : Float} (q : Reading) (v : Value)
-    → Reads (index_of lent.words) lent.slices q (cond (eqb status 0) v (Refused status))
-    → put (answer_of v) (places value alpha version [] [] no_outputs) ≡ (0, places value' alpha' version' [] [] no_outputs)
-    → ((status ≡ 0 → ⊥) → ◌≡◌ {A = Places} (places value' alpha' version' [] [] no_outputs) (places value alpha version [] [] no_outputs))
-    → Performs (looking (read (reading_of q)) lent [] [] (places value alpha version [] [] no_outputs) (places value' alpha' version' [] [] no_outputs) status)
-unfolding put refused_as
-performs_reading {lent} {status} {value} {value'} {version} {version'} {alpha} {alpha'} q v c done kept =
-    let before = places value alpha version [] [] no_outputs in
-    let after = places value' alpha' version' [] [] no_outputs in
-    performs_looking (λ a h. elim h [ ]) (by_status status (answer_of v))
-    (subst (λ a. Meets (as_run held_in (looking (read (reading_of q)) lent [] [] before after status) a)) (value_as status v (eqb status 0)) c.meets)
-    (status_tells status (answer_of v) before after (λ z. done) kept)
-    (λ n. refl)
+  reading_tells : (q : A → Value) (before after : A) {status : ℕ} (r : Result A Refusal) → ◌≡◌ {A = ℕ × A} (status, after) (Given.put r before)
+      → ((a : A) → put (answer_of (Ok (q a))) (at before) ≡ (0, at a)) → (status, at after) ≡ put (answer_of (map_ok q r)) (at before)
+  unfolding put answer_of
+  reading_tells q before after (Ok a) e g = (λ i. ((e i).0, at (e i).1)) ∙ sym (g a)
+  reading_tells q before after (Err k) e g = λ i. ((e i).0, at (e i).1)
+
+  performs_reading : {lent : Memory} (before after : A) {status : ℕ} (q : Reading) (v : A → Value) (r : Result A Refusal) → Reads (index_of lent.words) lent.slices q (map_ok v r)
+      → ◌≡◌ {A = ℕ × A} (status, after) (Given.put r before) → ((a : A) → put (answer_of (Ok (v a))) (at before) ≡ (0, at a))
+      → Performs (looking (read (reading_of q)) lent [] [] (at before) (at after) status)
+  unfolding put refused_as
+  performs_reading before after q v r c e g = performs_looking (λ a h. elim h [ ]) (answer_of (map_ok v r)) c.meets (reading_tells v before after r e g) (λ n. refl)
+
+-- a number that is no version
+performs_number : {lent : Memory} {before after status : ℕ} (q : Reading) (c : ReadsNumber lent.words lent.slices q before after status)
+    → ((n : ℕ) → put (answer_of (Ok (value_in q n))) (in_value before) ≡ (0, in_value n))
+    → Performs (looking (read (reading_of q)) lent [] [] (in_value before) (in_value after) status)
+performs_number q c = performs_reading (λ n. n) (λ n. f32 0) (λ n. 0) _ _ q (value_in q) c.answer c.does c.told
 
 -- where it is turned back, the part is empty
 performs_vector : {lent : Memory} {slot n : ℕ} → ReadsLength lent.words lent.slices slot n
@@ -281,11 +256,6 @@ performs_vector {lent} {slot} {n} c =
 
 -- ---- search
 
-found_answer : (status n : ℕ) (cs : List Candidate) (ns : List ℕ) (b : Bool) → found_as (cond b (Nearest n) (none_found status)) cs ns ≡ cond b (Answers.found cs ns) (refused status)
-unfolding found_as
-found_answer status n cs ns true = refl
-found_answer status n cs ns false = refl
-
 module _ {lent : Memory} {a : Search} {slots slots' : List ℕ} {dists dists' : List Float} {numbers numbers' scratch scratch' : List ℕ} {found found' status : ℕ}
     (c : SearchesWords lent.words lent.slices a (search_outputs slots dists numbers) scratch (search_outputs slots' dists' numbers') scratch' found found' status) where
   abbrev before : Places
@@ -294,32 +264,19 @@ module _ {lent : Memory} {a : Search} {slots slots' : List ℕ} {dists dists' : 
   abbrev after : Places
   after = places found' (f32 0) 0 [] [] (search_outputs slots' dists' numbers')
 
+  search_tells : (r : Result ℕ Refusal) (cs : List Candidate) (ns : List ℕ) → (status, found') ≡ Given.put r found → ((n : ℕ) → r ≡ Ok n → n ≡ length cs)
+      → search_outputs slots' dists' numbers' ≡ written (found_as r cs ns) (search_outputs slots dists numbers) → (status, after) ≡ put (found_as r cs ns) before
+  unfolding put written found_as
+  search_tells (Ok n) cs ns e h o = let m = ap (λ x. x.1) e ∙ h n refl in λ i. ((e i).0, places (m i) (f32 0) 0 [] [] (o i))
+  search_tells (Err k) cs ns e h o = λ i. ((e i).0, places (e i).1 (f32 0) 0 [] [] (o i))
+
   performs_search : Performs (looking (search a) lent scratch scratch' before after status)
-  unfolding put written found_as refused_as
+  unfolding put refused_as
   performs_search =
-      let cs = c.does.nearest in
-      let ns = c.does.numbers in
-      let e = found_answer status found' cs ns (eqb status 0) in
-      let f = subst (λ x. Meets (as_run held_in (looking (search a) lent scratch scratch' before after status) x)) e c.does.meets in
-      performs_looking (λ a h. elim h [ ]) (by_status status (Answers.found cs ns)) f
-      (status_tells status (Answers.found cs ns) before after
-      (λ z.
-      let b = eq-eqb status 0 z in
-      let n : found' ≡ length cs = c.does.counts found' (ap (λ b. cond b (Nearest found') (none_found status)) b) in
-      let o = f.writes ∙ ap (λ b. written (cond b (Answers.found cs ns) (refused status)) (search_outputs slots dists numbers)) b in
-      λ i. (0, places (sym n i) (f32 0) 0 [] [] (sym o i)))
-      (λ z.
-      let b = ne_eqb status 0 z in
-      let o = f.writes ∙ ap (λ b. written (cond b (Answers.found cs ns) (refused status)) (search_outputs slots dists numbers)) b in
-      λ i. places (c.kept z i) (f32 0) 0 [] [] (o i)))
-      (λ n. refl)
+      let d = c.does in
+      performs_looking (λ a h. elim h [ ]) (found_as c.answer d.nearest d.numbers) d.meets (search_tells c.answer d.nearest d.numbers c.told d.counts d.meets.writes) (λ n. refl)
 
 -- ---- insert
-
-inserted_answer : (status n : ℕ) (i : Index) (ss : List ℕ) (b : Bool) → inserted_as (cond b (Filled i n) (not_inserted status)) ss ≡ cond b (Answers.inserted ss) (refused status)
-unfolding inserted_as
-inserted_answer status n i ss true = refl
-inserted_answer status n i ss false = refl
 
 module _ {lent left : Memory} {a : Insert} {slots slots' scratch scratch' : List ℕ} {found found' status : ℕ}
     (c : InsertsWords lent.words lent.slices a (insert_outputs slots) scratch left.words left.slices (insert_outputs slots') scratch' found found' status) where
@@ -336,26 +293,16 @@ module _ {lent left : Memory} {a : Insert} {slots slots' scratch scratch' : List
   filled = c.does.filled
 
   abbrev insert_answer : Answer
-  insert_answer = by_status status (Answers.inserted filled)
-
-  -- the index that the contract leaves is the one in the words
-  left_index : index_after (index_of lent.words) (inserted_given status left.words found') ≡ index_of left.words
-  unfolding index_after
-  left_index = go (eqb status 0) refl
-    where
-      go : (b : Bool) → eqb status 0 ≡ b → index_after (index_of lent.words) (cond b (Filled (index_of left.words) found') (not_inserted status)) ≡ index_of left.words
-      go true e = refl
-      go false e = ap index_of (sym (c.kept (eqb-false status 0 e)).0)
+  insert_answer = inserted_as c.answer filled
 
   insert_meets : Meets (as_run held_in insert_run insert_answer)
   insert_meets =
-      let e = inserted_answer status found' (index_of left.words) filled (eqb status 0) in
       subst Meets
       (λ i. record {
         operation = insert a;
         before = held_in lent;
-        after = state_of (left_index i) left.slices;
-        answer = e i;
+        after = state_of (sym c.held i) left.slices;
+        answer = insert_answer;
         outputs_before = insert_outputs slots;
         outputs_after = insert_outputs slots';
         scratch_before = scratch;
@@ -363,22 +310,24 @@ module _ {lent left : Memory} {a : Insert} {slots slots' scratch scratch' : List
       })
       c.does.meets
 
+  insert_tells : (r : Result Changed Refusal) (ss : List ℕ) → (status, (left.words, found')) ≡ Given.put (map_ok changed_words r) (lent.words, found)
+      → ((d : Changed) → r ≡ Ok d → d.count ≡ length ss) → insert_outputs slots' ≡ written (inserted_as r ss) (insert_outputs slots)
+      → (status, after_insert) ≡ put (inserted_as r ss) before_insert
+  unfolding put written inserted_as
+  insert_tells (Ok d) ss e h o = let m = ap (λ x. x.1.1) e ∙ h d refl in λ i. ((e i).0, places (m i) (f32 0) 0 [] [] (o i))
+  insert_tells (Err k) ss e h o = λ i. ((e i).0, places (e i).1.1 (f32 0) 0 [] [] (o i))
+
+  insert_words : (r : Result Changed Refusal) (ss : List ℕ) → (status, (left.words, found')) ≡ Given.put (map_ok changed_words r) (lent.words, found)
+      → index_of left.words ≡ index_after (index_of lent.words) r → Words insert_run (inserted_as r ss)
+  unfolding index_after inserted_as
+  insert_words (Ok d) ss e g = inl (by_insert, ap (λ x. x.1.0) e ∙ ap words_of (sym g))
+  insert_words (Err k) ss e g = inr (not_refused, ap (λ x. x.1.0) e)
+
   performs_insert : Performs insert_run
-  unfolding put written refused_as
+  unfolding put refused_as
   performs_insert =
-      let f = insert_meets in
-      performed insert_run insert_answer f
-      (status_tells status (Answers.inserted filled) before_insert after_insert
-      (λ z.
-      let b = eq-eqb status 0 z in
-      let n : found' ≡ length filled = c.does.counts (index_of left.words) found' (ap (λ b. cond b (Filled (index_of left.words) found') (not_inserted status)) b) in
-      let o = f.writes ∙ ap (λ b. written (cond b (Answers.inserted filled) (refused status)) (insert_outputs slots)) b in
-      λ i. (0, places (sym n i) (f32 0) 0 [] [] (sym o i)))
-      (λ z.
-      let b = ne_eqb status 0 z in
-      let o = f.writes ∙ ap (λ b. written (cond b (Answers.inserted filled) (refused status)) (insert_outputs slots)) b in
-      λ i. places ((c.kept z).1 i) (f32 0) 0 [] [] (o i)))
-      (λ n. refl) (words_by_status insert_run status (Answers.inserted filled) by_insert c.written (λ z. (c.kept z).0))
+      performed insert_run insert_answer insert_meets (insert_tells c.answer filled c.told c.does.counts insert_meets.writes)
+      (λ n. refl) (insert_words c.answer filled c.told c.held)
 
 -- ---- delete
 
@@ -405,22 +354,22 @@ module _ {lent left : Memory} {a : Delete} {stats stats' : List Stats} {scratch 
       })
       (c.does.meets stats refl)
 
-  delete_tells : (r : Deleted) (ts : List Stats) → (status, left.words, found') ≡ deleted_put r lent.words found
-      → ((i : Index) (n : ℕ) → r ≡ Emptied i n → ts ≡ map (stats_of scratch' (stats_at (index_of lent.words).capacity)) (range 0 n))
+  delete_tells : (r : Result Changed Refusal) (ts : List Stats) → (status, (left.words, found')) ≡ Given.put (map_ok changed_words r) (lent.words, found)
+      → ((d : Changed) → r ≡ Ok d → ts ≡ map (stats_of scratch' (stats_at (index_of lent.words).capacity)) (range 0 d.count))
       → stats_outputs stats' ≡ written (deleted_as r ts) (stats_outputs stats)
       → (status, places found' (f32 0) 0 [] [] (stats_outputs stats')) ≡ put (deleted_as r ts) (places found (f32 0) 0 [] [] (stats_outputs stats))
-  unfolding put written deleted_put deleted_as
-  delete_tells (not_deleted n) ts e w o = λ i. ((e i).0, places (e i).2 (f32 0) 0 [] [] (o i))
-  delete_tells (Emptied j n) ts e w o =
-      let many : length ts ≡ n = ap length (w j n refl) ∙ length-map (range 0 n) (stats_of scratch' (stats_at (index_of lent.words).capacity)) ∙ length_range 0 n in
-      let f = ap (λ x. x.2) e ∙ sym many in
+  unfolding put written deleted_as
+  delete_tells (Ok d) ts e w o =
+      let many : length ts ≡ d.count = ap length (w d refl) ∙ length-map (range 0 d.count) (stats_of scratch' (stats_at (index_of lent.words).capacity)) ∙ length_range 0 d.count in
+      let f = ap (λ x. x.1.1) e ∙ sym many in
       λ i. ((e i).0, places (f i) (f32 0) 0 [] [] (o i))
+  delete_tells (Err k) ts e w o = λ i. ((e i).0, places (e i).1.1 (f32 0) 0 [] [] (o i))
 
-  delete_words : (r : Deleted) (ts : List Stats) → (status, left.words, found') ≡ deleted_put r lent.words found
+  delete_words : (r : Result Changed Refusal) (ts : List Stats) → (status, (left.words, found')) ≡ Given.put (map_ok changed_words r) (lent.words, found)
       → index_of left.words ≡ index_left (index_of lent.words) r → Words delete_run (deleted_as r ts)
-  unfolding deleted_put index_left deleted_as
-  delete_words (not_deleted n) ts e g = inr (not_refused, ap (λ x. x.1) e)
-  delete_words (Emptied j n) ts e g = inl (by_delete, ap (λ x. x.1) e ∙ ap words_of (sym g))
+  unfolding index_left deleted_as
+  delete_words (Ok d) ts e g = inl (by_delete, ap (λ x. x.1.0) e ∙ ap words_of (sym g))
+  delete_words (Err k) ts e g = inr (not_refused, ap (λ x. x.1.0) e)
 
   performs_delete : Performs delete_run
   unfolding put refused_as
@@ -430,11 +379,11 @@ module _ {lent left : Memory} {a : Delete} {stats stats' : List Stats} {scratch 
 
 -- ---- the guard
 
-standing_tells : (place : List ℕ) {place' : List ℕ} {status : ℕ} (a : Standing) → (status, place') ≡ standing_put a place
-    → (status, in_guard place' no_outputs) ≡ put (standing_as a) (in_guard place no_outputs)
-unfolding put standing_put standing_as
-standing_tells place (no_status n) e = λ i. ((e i).0, in_guard (e i).1 no_outputs)
-standing_tells place (StandsSo s) e = λ i. ((e i).0, in_guard (e i).1 no_outputs)
+standing_tells : (place : List ℕ) {place' : List ℕ} {status : ℕ} (r : Result Status Refusal) → (status, place') ≡ Given.put (map_ok standing_words r) place
+    → (status, in_guard place' no_outputs) ≡ put (standing_as r) (in_guard place no_outputs)
+unfolding put standing_as
+standing_tells place (Ok s) e = λ i. ((e i).0, in_guard (e i).1 no_outputs)
+standing_tells place (Err k) e = λ i. ((e i).0, in_guard (e i).1 no_outputs)
 
 performs_status : {lent : Memory} {place place' : List ℕ} {status : ℕ} → StandsWords lent.words lent.slices place place' status
     → Performs (looking Answers.status lent [] [] (in_guard place no_outputs) (in_guard place' no_outputs) status)
@@ -444,14 +393,14 @@ performs_status c =
 
 module _ {lent : Memory} {a : Assess} {checked checked' lost lost' scratch scratch' place place' : List ℕ} {status : ℕ}
     (c : AssessesWords lent.words lent.slices a (report_outputs checked lost) scratch (report_outputs checked' lost') scratch' place place' status) where
-  assess_tells : (r : Assessed) → (status, place') ≡ assessed_put r place → ((n : Report) → r ≡ AssessedSo n → n ≡ numbers_of c.does.report)
+  assess_tells : (r : Result Report Refusal) → (status, place') ≡ Given.put (map_ok report_words r) place → ((n : Report) → r ≡ Ok n → n ≡ numbers_of c.does.report)
       → report_outputs checked' lost' ≡ written (assessed_as r c.does.report) (report_outputs checked lost)
       → (status, in_guard place' (report_outputs checked' lost')) ≡ put (assessed_as r c.does.report) (in_guard place (report_outputs checked lost))
-  unfolding put written assessed_put assessed_as report_words
-  assess_tells (not_assessed n) e h o = λ i. ((e i).0, in_guard (e i).1 (o i))
-  assess_tells (AssessedSo n) e h o =
+  unfolding put written assessed_as report_words
+  assess_tells (Ok n) e h o =
       let w = ap (λ x. x.1) e ∙ ap report_words (h n refl) in
       λ i. ((e i).0, in_guard (w i) (o i))
+  assess_tells (Err k) e h o = λ i. ((e i).0, in_guard (e i).1 (o i))
 
   performs_assess : Performs (looking (assess a) lent scratch scratch' (in_guard place (report_outputs checked lost)) (in_guard place' (report_outputs checked' lost')) status)
   unfolding put refused_as
@@ -480,17 +429,17 @@ module _ {lent left : Memory} {config : Config} {scratch scratch' place place' :
             scratch_after = scratch';
           }
 
-  enable_tells : (r : Enabled) → (status, left.words, place') ≡ enabled_put r lent.words place
+  enable_tells : (r : Result Enabled Refusal) → (status, (left.words, place')) ≡ Given.put (map_ok enabled_words r) (lent.words, place)
       → (status, in_guard place' no_outputs) ≡ put (enabled_as r) (in_guard place no_outputs)
-  unfolding put enabled_put enabled_as
-  enable_tells (not_enabled n) e = λ i. ((e i).0, in_guard (e i).2 no_outputs)
-  enable_tells (EnabledWith j s) e = λ i. ((e i).0, in_guard (e i).2 no_outputs)
+  unfolding put enabled_as
+  enable_tells (Ok n) e = λ i. ((e i).0, in_guard (e i).1.1 no_outputs)
+  enable_tells (Err k) e = λ i. ((e i).0, in_guard (e i).1.1 no_outputs)
 
-  enable_words : (r : Enabled) → (status, left.words, place') ≡ enabled_put r lent.words place → index_of left.words ≡ enabled_index (index_of lent.words) r
-      → Words enable_run (enabled_as r)
-  unfolding enabled_put enabled_index enabled_as
-  enable_words (not_enabled n) e g = inr (not_refused, ap (λ x. x.1) e)
-  enable_words (EnabledWith j s) e g = inl (by_enable, ap (λ x. x.1) e ∙ ap words_of (sym g))
+  enable_words : (r : Result Enabled Refusal) → (status, (left.words, place')) ≡ Given.put (map_ok enabled_words r) (lent.words, place)
+      → index_of left.words ≡ enabled_index (index_of lent.words) r → Words enable_run (enabled_as r)
+  unfolding enabled_index enabled_as
+  enable_words (Ok n) e g = inl (by_enable, ap (λ x. x.1.0) e ∙ ap words_of (sym g))
+  enable_words (Err k) e g = inr (not_refused, ap (λ x. x.1.0) e)
 
   performs_enable : Performs enable_run
   unfolding put refused_as
@@ -523,51 +472,53 @@ module _ {lent left : Memory} {a : Delete} {stats stats' : List Stats} {checked 
       })
       (c.does.meets stats refl)
 
-  guarded_tells : (r : Guarded) (ts : List Stats) → (status, left.words, found', place') ≡ guarded_put r lent.words found place
-      → ((i : Index) (n : ℕ) (v : Report) → r ≡ Applied i n v → ts ≡ map (stats_of scratch' (stats_at (index_of lent.words).capacity)) (range 0 n))
-      → ((i : Index) (n : ℕ) (v : Report) → r ≡ Applied i n v → v ≡ numbers_of c.does.report) → ((v : Report) → r ≡ Deferred v → v ≡ numbers_of c.does.report)
+  abbrev TellsOf : Result Guarded Refusal → Type 0
+  TellsOf r = (status, (left.words, found', place')) ≡ Given.put (map_ok (guarded_words lent.words) r) (lent.words, found, place)
+
+  guarded_tells : (r : Result Guarded Refusal) (ts : List Stats) → TellsOf r
+      → ((d : Changed) (v : Report) → r ≡ Ok (Applied d v) → ts ≡ map (stats_of scratch' (stats_at (index_of lent.words).capacity)) (range 0 d.count))
+      → ((d : Changed) (v : Report) → r ≡ Ok (Applied d v) → v ≡ numbers_of c.does.report) → ((v : Report) → r ≡ Ok (Deferred v) → v ≡ numbers_of c.does.report)
       → guarded_outputs stats' checked' lost' ≡ written (guarded_as r ts c.does.report) (guarded_outputs stats checked lost)
       → (status, places found' (f32 0) 0 [] place' (guarded_outputs stats' checked' lost')) ≡ put (guarded_as r ts c.does.report) (places found (f32 0) 0 [] place (guarded_outputs stats checked lost))
-  unfolding put written guarded_put guarded_as report_words
-  guarded_tells (not_guarded n) ts e w g h o = λ i. ((e i).0, places (e i).2 (f32 0) 0 [] (e i).3 (o i))
-  guarded_tells (Applied j n v) ts e w g h o =
-      let many : length ts ≡ n = ap length (w j n v refl) ∙ length-map (range 0 n) (stats_of scratch' (stats_at (index_of lent.words).capacity)) ∙ length_range 0 n in
-      let f = ap (λ x. x.2) e ∙ sym many in
-      let p = ap (λ x. x.3) e ∙ ap report_words (g j n v refl) in
+  unfolding put written guarded_as report_words
+  guarded_tells (Ok (Applied d v)) ts e w g h o =
+      let many : length ts ≡ d.count = ap length (w d v refl) ∙ length-map (range 0 d.count) (stats_of scratch' (stats_at (index_of lent.words).capacity)) ∙ length_range 0 d.count in
+      let f = ap (λ x. x.1.1) e ∙ sym many in
+      let p = ap (λ x. x.1.2) e ∙ ap report_words (g d v refl) in
       λ i. ((e i).0, places (f i) (f32 0) 0 [] (p i) (o i))
-  guarded_tells (Deferred v) ts e w g h o =
-      let p = ap (λ x. x.3) e ∙ ap report_words (h v refl) in
-      λ i. ((e i).0, places (e i).2 (f32 0) 0 [] (p i) (o i))
+  guarded_tells (Ok (Deferred v)) ts e w g h o =
+      let p = ap (λ x. x.1.2) e ∙ ap report_words (h v refl) in
+      λ i. ((e i).0, places (e i).1.1 (f32 0) 0 [] (p i) (o i))
+  guarded_tells (Err k) ts e w g h o = λ i. ((e i).0, places (e i).1.1 (f32 0) 0 [] (e i).1.2 (o i))
 
-  guarded_words : (r : Guarded) (ts : List Stats) → (status, left.words, found', place') ≡ guarded_put r lent.words found place
-      → index_of left.words ≡ index_kept (index_of lent.words) r → Words guarded_run (guarded_as r ts c.does.report)
-  unfolding guarded_put index_kept guarded_as
-  guarded_words (not_guarded n) ts e g = inr (not_refused, ap (λ x. x.1) e)
-  guarded_words (Applied j n v) ts e g = inl (by_guarded_delete, ap (λ x. x.1) e ∙ ap words_of (sym g))
-  guarded_words (Deferred v) ts e g = inr (λ h. elim h [ ], ap (λ x. x.1) e)
+  words_guarded : (r : Result Guarded Refusal) (ts : List Stats) → TellsOf r → index_of left.words ≡ index_kept (index_of lent.words) r → Words guarded_run (guarded_as r ts c.does.report)
+  unfolding index_kept guarded_as
+  words_guarded (Ok (Applied d v)) ts e g = inl (by_guarded_delete, ap (λ x. x.1.0) e ∙ ap words_of (sym g))
+  words_guarded (Ok (Deferred v)) ts e g = inr (λ h. elim h [ ], ap (λ x. x.1.0) e)
+  words_guarded (Err k) ts e g = inr (not_refused, ap (λ x. x.1.0) e)
 
   performs_guarded : Performs guarded_run
   unfolding put refused_as
   performs_guarded =
       performed guarded_run guarded_answer guarded_meets
       (guarded_tells c.answer c.does.stats c.told c.does.words c.does.numbers_applied c.does.numbers_deferred c.listed)
-      (λ n. refl) (guarded_words c.answer c.does.stats c.told c.held)
+      (λ n. refl) (words_guarded c.answer c.does.stats c.told c.held)
 
 -- ---- every exported function
 
 performs : {r : ExportedRun} → Exported r → Performs r
 unfolding reading_of answer_of value_in put
 performs (finder_create c) = performs_making c
-performs (finder_dim c) = performs_reading Dim _ c.does refl (λ z. ap in_value (c.kept z))
-performs (finder_capacity c) = performs_reading Capacity _ c.does refl (λ z. ap in_value (c.kept z))
-performs (finder_degree c) = performs_reading Degree _ c.does refl (λ z. ap in_value (c.kept z))
-performs (finder_entry c) = performs_reading Entry _ c.does refl (λ z. ap in_value (c.kept z))
-performs (finder_live c) = performs_reading Live _ c.does refl (λ z. ap in_value (c.kept z))
-performs (finder_mark {slot} c) = performs_reading (Mark slot) _ c.does refl (λ z. ap in_value (c.kept z))
-performs (finder_slot_version {slot} c) = performs_reading (Version slot) _ c.does refl (λ z. ap in_version (c.kept z))
-performs (finder_number {slot} c) = performs_reading (Number slot) _ c.does refl (λ z. ap in_value (c.kept z))
-performs (finder_target {slot} {place} c) = performs_reading (Target slot place) _ c.does refl (λ z. ap in_value (c.kept z))
-performs (finder_alpha c) = performs_reading Alpha _ c.does refl (λ z. ap in_alpha (c.kept z))
+performs (finder_dim c) = performs_number Dim c (λ n. refl)
+performs (finder_capacity c) = performs_number Capacity c (λ n. refl)
+performs (finder_degree c) = performs_number Degree c (λ n. refl)
+performs (finder_entry c) = performs_number Entry c (λ n. refl)
+performs (finder_live c) = performs_number Live c (λ n. refl)
+performs (finder_mark {slot} c) = performs_number (Mark slot) c (λ n. refl)
+performs (finder_slot_version {slot} c) = performs_reading (λ n. 0) (λ n. f32 0) (λ n. n) _ _ (Version slot) (value_in (Version slot)) c.answer c.does c.told (λ n. refl)
+performs (finder_number {slot} c) = performs_number (Number slot) c (λ n. refl)
+performs (finder_target {slot} {place} c) = performs_number (Target slot place) c (λ n. refl)
+performs (finder_alpha c) = performs_reading (λ a. 0) (λ a. a) (λ a. 0) _ _ Alpha Factor c.answer c.does c.told (λ a. refl)
 performs (finder_vector c) = performs_vector c
 performs (finder_search c) = performs_search c
 performs (finder_insert c) = performs_insert c

@@ -1,4 +1,4 @@
-// Delete. The slice of records makes `finder_delete` one whose proof is by hand, so it only calls `delete_words` and `write_stats`.
+// Delete. The two are twins: for C each kind of name has a function of its own.
 ghost use Rattle.std.specs.Prelude.{map};
 ghost use Rattle.slots.specs.Sizes.{slices};
 ghost use Rattle.deletion.specs.Batch.{stats_in};

@@ -1,4 +1,4 @@
-// The guarded delete. As with `finder_delete`, the proof of `finder_guarded_delete` is by hand, so it only calls `guarded_words` and `write_stats`.
+// The guarded delete. The two are twins: for C each kind of name has a function of its own.
 ghost use Rattle.std.specs.Prelude.{map};
 ghost use Rattle.slots.specs.Sizes.{slices};
 ghost use Rattle.deletion.specs.Batch.{stats_in};

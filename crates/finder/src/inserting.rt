@@ -3,7 +3,7 @@ ghost use Rattle.slots.specs.Sizes.{slices};
 ghost use Rattle.updating.specs.Insert.{inserting, insert_outputs};
 ghost use Rattle.words.specs.Given.{InsertsWords};
 
-use words::{index_from, put_inserted};
+use words::{index_from, put_changed};
 
 // Inserts the vectors of `bytes` with the numbers `given` into the lowest free slots, which go to the front of `slots`; writes the index's words and how many they are.
 #[unsafe(no_mangle)]
@@ -31,5 +31,5 @@ pub extern "C" fn finder_insert(
         held, vectors, targets, edges, versions, marks, pool, numbers, summary, bytes, given, beam,
         slots, scratch,
     );
-    put_inserted(answer, words, found)
+    put_changed(answer, words, found)
 }

@@ -4,8 +4,7 @@ ghost use Rattle.slots.specs.Sizes.{slices};
 ghost use Rattle.index.specs.Create.{making};
 ghost use Rattle.words.specs.Given.{SizesScratch, CreatesWords};
 
-use index::ScratchWords;
-use words::put_created;
+use words::{put, put_created};
 
 // 10,000 for each major version, 100 for each minor one and 1 for each patch.
 const VERSION: u32 = 2_00_00;
@@ -23,14 +22,7 @@ pub extern "C" fn finder_version() -> u32
 pub extern "C" fn finder_scratch_words(dim: u32, capacity: u32, degree: u32, size: &mut u32) -> u32
     ensures { SizesScratch dim capacity degree size.old size.new result }
 {
-    let answer = index::scratch_words(dim, capacity, degree);
-    match answer {
-        ScratchWords::Refused(n) => n,
-        ScratchWords::Words(n) => {
-            *size = n;
-            0
-        }
-    }
+    put(index::scratch_words(dim, capacity, degree), size)
 }
 
 // Makes an index of the given vectors, rows and numbers in the eight lent slices, and writes its words.

@@ -1,4 +1,4 @@
-// Readings of an index that words hold.
+// Readings of an index that words hold. They are twins: for C each reading has a function of its own.
 ghost use Rattle.slots.specs.Sizes.{slices};
 ghost use Rattle.reading.specs.declared.Reading.TheVariants.{Dim, Capacity, Degree, Alpha, Entry, Live, Mark, Version, Number, Target};
 ghost use Rattle.words.specs.Given.{ReadsNumber, ReadsAlpha, ReadsLength};

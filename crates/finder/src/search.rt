@@ -3,7 +3,7 @@ ghost use Rattle.slots.specs.Sizes.{slices};
 ghost use Rattle.reading.specs.Search.{searching, search_outputs};
 ghost use Rattle.words.specs.Given.{SearchesWords};
 
-use words::{index_from, put_found};
+use words::{index_from, put};
 
 // The `k` nearest that the walk from the entry finds: their slots, distances and figure numbers, and how many they are.
 #[unsafe(no_mangle)]
@@ -47,5 +47,5 @@ pub extern "C" fn finder_search(
         found_numbers,
         scratch,
     );
-    put_found(answer, found)
+    put(answer, found)
 }

@@ -9,7 +9,7 @@ use borrow.Author.Tests.{le-ltb, ltb-true, ltb-false, eq-eqb, ne_eqb, eqb-true, 
 use lib.Dec.{eqb, ltb}
 use lib.ListN.{length, take, drop}
 use lib.Seq.{take-append_seam}
-use Rattle.lists.specs.Lists.{All, put_front}
+use Rattle.lists.specs.Lists.{put_front}
 use Rattle.slots.specs.Sizes.{Slices, Lengths, lengths_of, limits, sizes_ok, alpha_ok, lengths_ok}
 use Rattle.slots.specs.Scratch.{size_answer}
 use Rattle.slots.specs.View.{View, live_slots}
@@ -30,40 +30,44 @@ use Rattle.calls.proofs.Enabling.{one_live}
 use Rattle.index.specs.Index.{guard_of, state_of}
 use Rattle.numbers.specs.Numbers.{labels_ok}
 use Rattle.index.specs.Inner.Deciding.{Labels, labels_of, Decided, Passed}
-use Rattle.index.proofs.Decide.{Numbered, decided_before, decided_after, turned_back, let_through, own_none, passed, passed_marks, passed_bytes, step_back, step_on}
+use Rattle.index.proofs.Decide.{decided_before, decided_after, turned_back, let_through, own_none, passed, passed_marks, passed_bytes, step_back, step_on}
 use Rattle.guarding.specs.declared.Status.{Status}
-use Rattle.guarding.specs.declared.Enabled.TheVariants.{Refused as not_enabled, Enabled as EnabledWith}
+use Rattle.index.specs.declared.Refusal.{Refusal}
+use Rattle.index.specs.declared.Refusal.TheVariants as Refused
+use Rattle.index.specs.Refusal.{number_of}
+use Rattle.std.specs.Prelude.{Result, Ok, Err}
 use Rattle.guarding.specs.Guarding.{status_of, enabled_as, enabled_index, Enables}
 use Rattle.guarding.specs.Inner.Testing.{enable_tests, Normal, guarded_index, with_pool, Stood}
 use Rattle.guarding.proofs.Shared.{pool_most, guard_room}
 
 -- ---- rows 7, 8, 12 and 13
 
-module _ {index : Index} {lent : Lengths} {looked : Labels} (c : Config) (scratch : ℕ) {r : ℕ} (d : Decided index lent looked false [] r) where
-  abbrev Turns : ℕ → Type 0
-  Turns n = Decided index lent looked false (enable_tests index c scratch) n
+module _ {index : Index} {lent : Lengths} {looked : Labels} (c : Config) (scratch : ℕ) {A : Type 0} {r : Result A Refusal} (d : Decided index lent looked false [] r) where
+  abbrev Turns : Result A Refusal → Type 0
+  Turns k = Decided index lent looked false (enable_tests index c scratch) k
 
-  pub turns_before : (r ≡ 0 → ⊥) → Turns r
-  turns_before n = decided_before d _ n
+  pub turns_before : {x : Refusal} → r ≡ Err x → Turns (Err x)
+  turns_before z = decided_before d _ z
 
-  module _ {o : Bool} (z : r ≡ 0) (k : o ≡ config_over limits c) where
-    pub turns_over : o ≡ true → Turns 7
-    turns_over t = decided_after d _ 7 z (rw (sym k ∙ t))
+  module _ {u : A} (z : r ≡ Ok u) where
+    module _ {o : Bool} (k : o ≡ config_over limits c) where
+      pub turns_over : o ≡ true → Turns (Err Refused.Limits)
+      turns_over t = decided_after d _ _ z (rw (sym k ∙ t))
 
-    module _ {s : Bool} (f : o ≡ false) (h : s ≡ ltb scratch (size_answer index.capacity)) where
-      pub turns_short : s ≡ true → Turns 8
-      turns_short t = decided_after d _ 8 z (rw (sym k ∙ f, sym h ∙ t))
+      module _ {s : Bool} (f : o ≡ false) (h : s ≡ ltb scratch (size_answer index.capacity)) where
+        pub turns_short : s ≡ true → Turns (Err Refused.Scratch)
+        turns_short t = decided_after d _ _ z (rw (sym k ∙ f, sym h ∙ t))
 
-      module _ (t : s ≡ false) where
-        pub turns_empty : index.live ≡ 0 → Turns 12
-        turns_empty e = decided_after d _ 12 z (rw (sym k ∙ f, sym h ∙ t, eq-eqb index.live 0 e))
+        module _ (t : s ≡ false) where
+          pub turns_empty : index.live ≡ 0 → Turns (Err Refused.NoneLive)
+          turns_empty e = decided_after d _ _ z (rw (sym k ∙ f, sym h ∙ t, eq-eqb index.live 0 e))
 
-        module _ (n : index.live ≡ 0 → ⊥) where
-          pub turns_one : index.live ≡ 1 → Turns 13
-          turns_one e = decided_after d _ 13 z (rw (sym k ∙ f, sym h ∙ t, ne_eqb index.live 0 n, eq-eqb index.live 1 e))
+          module _ (n : index.live ≡ 0 → ⊥) where
+            pub turns_one : index.live ≡ 1 → Turns (Err Refused.NoLandmark)
+            turns_one e = decided_after d _ _ z (rw (sym k ∙ f, sym h ∙ t, ne_eqb index.live 0 n, eq-eqb index.live 1 e))
 
-          pub turns_none : (index.live ≡ 1 → ⊥) → Turns 0
-          turns_none m = decided_after d _ 0 z (rw (sym k ∙ f, sym h ∙ t, ne_eqb index.live 0 n, ne_eqb index.live 1 m))
+            pub turns_none : {v : A} → (index.live ≡ 1 → ⊥) → Turns (Ok v)
+            turns_none m = decided_after d _ _ z (rw (sym k ∙ f, sym h ∙ t, ne_eqb index.live 0 n, ne_eqb index.live 1 m))
 
 -- ---- the live count decides 12 and 13
 
@@ -131,7 +135,7 @@ fault_free c {s} {n} o e h =
 
 -- ---- enabling
 
-module _ (index : Index) (s : Slices) (c : Config) (scratch : List ℕ) {r : ℕ} (d : Decided index (lengths_of s) (labels_of s) false (enable_tests index c (length scratch)) r) where
+module _ (index : Index) (s : Slices) (c : Config) (scratch : List ℕ) {A : Type 0} {r : Result A Refusal} (d : Decided index (lengths_of s) (labels_of s) false (enable_tests index c (length scratch)) r) where
   abbrev before : State Store
   before = state_of index s
 
@@ -144,9 +148,6 @@ module _ (index : Index) (s : Slices) (c : Config) (scratch : List ℕ) {r : ℕ
   abbrev short : Bool
   short = ltb (length scratch) (size_answer index.capacity)
 
-  numbered : All Numbered (enable_tests index c (length scratch))
-  numbered = (omega arith, (omega arith, (omega arith, (omega arith, tt))))
-
   same_tests : first_of (tests limits call.lent (shown stored before) (enable c)) ≡ first_of (index_tests limits (lengths_of s) (shown stored before) false (enable_tests index c (length scratch)))
   unfolding tests shown stored store_ops store_view state_of
   same_tests =
@@ -157,18 +158,18 @@ module _ (index : Index) (s : Slices) (c : Config) (scratch : List ℕ) {r : ℕ
       ((7, over) ∷ (8, short) ∷ (12, eqb live 0) ∷ (13, eqb (length (new_pool v c)) 0) ∷ [])
       (λ e h. own_same v c index.live over short e h))
 
-  pub enables_back : (r ≡ 0 → ⊥) → Enables index s c scratch s scratch (not_enabled r)
+  pub enables_back : {x : Refusal} → r ≡ Err x → Enables index s c scratch s scratch (Err x)
   unfolding refused_as enabled_as enabled_index written state_of call_of slices_of
-  enables_back n =
-      record { meets = record { does = sym (step_back before call r (same_tests ∙ turned_back index s numbered d n)); writes = refl; keeps = λ m e. refl } }
+  enables_back {x} n =
+      record { meets = record { does = sym (step_back before call (number_of x) (same_tests ∙ turned_back index s d n)); writes = refl; keeps = λ m e. refl } }
 
-  module _ (z : r ≡ 0) where
+  module _ {u : A} (z : r ≡ Ok u) where
     abbrev able : Passed index s
-    able = passed index s numbered d z
+    able = passed index s d z
 
     own : (over ≡ false) × (short ≡ false) × (eqb index.live 0 ≡ false)
     own =
-        let e = first_none 7 over ((8, short) ∷ (12, eqb index.live 0) ∷ (13, eqb index.live 1) ∷ []) (own_none index s numbered d z) in
+        let e = first_none 7 over ((8, short) ∷ (12, eqb index.live 0) ∷ (13, eqb index.live 1) ∷ []) (own_none index s d z) in
         let f = first_none 8 short ((12, eqb index.live 0) ∷ (13, eqb index.live 1) ∷ []) e.1 in
         (e.0, f.0, (first_none 12 (eqb index.live 0) ((13, eqb index.live 1) ∷ []) f.1).0)
 
@@ -226,21 +227,21 @@ module _ (index : Index) (s : Slices) (c : Config) (scratch : List ℕ) {r : ℕ
             unfolding guard_of
             status_ready l = (rw ie (fault_free c own.0 m g.few), l ∙ able.pool_long)
 
-            module _ {u : Status} (f : Stood (guard_of i.guard) s.marks pool' u) where
-              performed : (state_of i (with_pool s pool'), standing (status_of u)) ≡ perform stored before (enable c)
+            module _ {now : Status} (f : Stood (guard_of i.guard) s.marks pool' now) where
+              performed : (state_of i (with_pool s pool'), standing (status_of now)) ≡ perform stored before (enable c)
               unfolding perform with_guard stored store_ops store_view state_of guard_of pool_of normalized
               performed = rw (f.does (store_view before.graph) refl, ie, front, words_are, many, m.count_is, m.multiplier_is, m.sample_is, m.beam_is)
 
               not_refused : (k : ℕ) → refusal stored before call ≡ some k → ⊥
               unfolding refusal
-              not_refused k h = let j = sym (same_tests ∙ let_through index s numbered d z) ∙ h in let x : ◌≡◌ {A = ℕ} 0 1 = cc in omega arith
+              not_refused k h = let j = sym (same_tests ∙ let_through index s d z) ∙ h in let x : ◌≡◌ {A = ℕ} 0 1 = cc in omega arith
 
-              pub enables_on : {scratch' : List ℕ} → Enables index s c scratch (with_pool s pool') scratch' (EnabledWith i u)
+              pub enables_on : {scratch' : List ℕ} → Enables index s c scratch (with_pool s pool') scratch' (Ok (record { index = i; status = now }))
               unfolding enabled_as enabled_index written state_of call_of slices_of run_refusal
               enables_on =
                   record {
                     meets = record {
-                      does = performed ∙ sym (step_on before call (same_tests ∙ let_through index s numbered d z));
+                      does = performed ∙ sym (step_on before call (same_tests ∙ let_through index s d z));
                       writes = refl;
                       keeps = λ k h. absurd (not_refused k h);
                     };

@@ -1,11 +1,11 @@
 -- A guarded delete: what the code decides, reports and writes is what the definitions say. Assumes nothing.
-use Prim.Native.Nat.{ℕ, ◌+◌, ◌-◌, ◌*◌, ◌≤◌, ◌<◌, min}
+use Prim.Native.Nat.{ℕ, ◌+◌, ◌-◌, ◌*◌, ◌≤◌, min}
 use mathlib.Core.Bool.{Bool, true, false, ◌&&◌, ◌||◌}
 use mathlib.Core.Path.{◌≡◌, refl, sym, ap, ◌∙◌, subst}
 use mathlib.Core.List.{List, [], ◌∷◌, map}
 use mathlib.Core.Option.{Option, none, some}
 use native.Mathlib.Omega.{arith}
-use borrow.Author.Tests.{lt-ltb, le-ltb, ltb-false}
+use borrow.Author.Tests.{ltb-false}
 use lib.Dec.{ltb, leb}
 use lib.ListN.{length, take, replicate, length-replicate}
 use lib.Seq.{length-take-le}
@@ -33,27 +33,21 @@ use Rattle.index.specs.Index.{state_of}
 use Rattle.index.specs.Inner.Deciding.{labels_of, Passed}
 use Rattle.index.proofs.Decide.{shared_none, passed_none, passed_marks, step_back, step_on}
 use Rattle.numbers.specs.Inner.Listed.{Struck}
-use Rattle.updating.specs.Inner.Emptying.{slot_delete, with_entry, are_numbers, Translated}
+use Rattle.updating.specs.Inner.Emptying.{slot_delete, fewer, are_numbers, Translated}
 use Rattle.updating.specs.declared.Naming.{Naming}
 use Rattle.updating.specs.Delete.{deleting}
 use Rattle.updating.proofs.Named.{as_they_are, as_slots, from_first}
 use Rattle.updating.proofs.Empties.{delete_able, strike_able, state_left}
-use Rattle.guarding.specs.declared.Assessed.{Assessed}
-use Rattle.guarding.specs.declared.Assessed.TheVariants.{Refused as not_assessed, Assessed as AssessedSo}
 use Rattle.guarding.specs.declared.Guarded.{Guarded}
-use Rattle.guarding.specs.declared.Guarded.TheVariants.{Refused, Applied, Deferred}
+use Rattle.guarding.specs.declared.Guarded.TheVariants.{Applied, Deferred}
+use Rattle.index.specs.declared.Refusal.{Refusal}
+use Rattle.index.specs.Refusal.{number_of}
+use Rattle.std.specs.Prelude.{Result, Ok, Err}
+use Rattle.updating.specs.declared.Changed.{Changed}
 use Rattle.guarding.specs.Guarded.{guarded_outputs, guarded_as, index_kept, Guards}
-use Rattle.guarding.specs.Inner.Testing.{Testable, refusal_of, Tested}
+use Rattle.guarding.specs.Inner.Testing.{Testable, Tested}
 use Rattle.guarding.proofs.Shared.{numbers_are}
 use Rattle.guarding.proofs.Tested.{number_given, none_given, able, lists_right, own}
-
--- ---- row 3
-
-pub outputs_first : {room ids : ℕ} (checked lost : ℕ) → room < ids → true ≡ (ltb room ids || ltb (min checked lost) limits.landmarks)
-outputs_first {room} {ids} checked lost h = rw (lt-ltb room ids h)
-
-pub outputs_second : {room ids : ℕ} (checked lost : ℕ) {q : Bool} → ids ≤ room → q ≡ ltb (min checked lost) limits.landmarks → q ≡ (ltb room ids || ltb (min checked lost) limits.landmarks)
-outputs_second {room} {ids} checked lost h e = rw (le-ltb room ids h) e
 
 -- ---- a guarded delete of slots
 
@@ -76,64 +70,63 @@ module _ (index : Index) (s : Slices) (ids : List ℕ) (beam degree room : ℕ) 
   abbrev report : Guard.Report
   report = report_of (shown stored (state_of index s)) ids
 
-  module _ {checked' lost' scratch₁ : List ℕ} {r : Assessed} (t : Tested index s wrong over ids checked lost scratch checked' lost' scratch₁ r) where
+  module _ {checked' lost' scratch₁ : List ℕ} {r : Result Report Refusal} (t : Tested index s wrong over ids checked lost scratch checked' lost' scratch₁ r) where
     -- for a list of that room, by the tests as the definitions have them
-    with_list : {q : Assessed} → r ≡ q → (before : List Stats) → length before ≡ room
+    with_list : {q : Result Report Refusal} → r ≡ q → (before : List Stats) → length before ≡ room
         → Tested index s (ltb (length before) (length ids) || ltb (min (length checked) (length lost)) limits.landmarks) (delete_over limits a) ids checked lost scratch checked' lost' scratch₁ q
     with_list e before l =
-        subst (λ (x : Assessed). Tested index s (ltb (length before) (length ids) || ltb (min (length checked) (length lost)) limits.landmarks) (delete_over limits a) ids checked lost scratch checked' lost' scratch₁ x) e
+        subst (λ (x : Result Report Refusal). Tested index s (ltb (length before) (length ids) || ltb (min (length checked) (length lost)) limits.landmarks) (delete_over limits a) ids checked lost scratch checked' lost' scratch₁ x) e
         (subst (λ (x : Bool). Tested index s (ltb (length before) (length ids) || ltb (min (length checked) (length lost)) limits.landmarks) x ids checked lost scratch checked' lost' scratch₁ r) o
         (subst (λ (x : Bool). Tested index s x over ids checked lost scratch checked' lost' scratch₁ r)
         (w ∙ ap (λ (k : ℕ). ltb k (length ids) || ltb (min (length checked) (length lost)) limits.landmarks) (sym l)) t))
 
-    pub guards_back : {n : ℕ} → r ≡ not_assessed n → Guards index s a room checked lost scratch s checked' lost' scratch₁ (Refused n)
-    unfolding tests refused_as guarded_as index_kept written state_of stored store_ops store_view shown room_of call_of slices_of refusal_of slots_of
-    guards_back {n} e =
-        let k = t.back n e in
+    pub guards_back : {x : Refusal} → r ≡ Err x → Guards index s a room checked lost scratch s checked' lost' scratch₁ (Err x)
+    unfolding tests refused_as guarded_as index_kept written state_of stored store_ops store_view shown room_of call_of slices_of slots_of
+    guards_back {x} e =
+        let k = t.back x e in
         record {
           report = no_landmarks false 0;
           stats = [];
-          numbers_applied = λ i m v h. absurd (let z : ◌≡◌ {A = ℕ} 0 1 = cc in omega arith);
-          numbers_deferred = λ v h. absurd (let z : ◌≡◌ {A = ℕ} 0 1 = cc in omega arith);
-          words = λ i m v h. absurd (let z : ◌≡◌ {A = ℕ} 0 1 = cc in omega arith);
-          there = λ i m v h. absurd (let z : ◌≡◌ {A = ℕ} 0 1 = cc in omega arith);
-          fits = λ i m v h. absurd (let z : ◌≡◌ {A = ℕ} 0 1 = cc in omega arith);
+          numbers_applied = λ c w h. cc;
+          numbers_deferred = λ w h. cc;
+          words = λ c w h. cc;
+          there = λ c w h. cc;
+          fits = λ c w h. cc;
           meets = λ before l. record {
-            does = sym (step_back (state_of index s) (call before) n (number_given index s _ _ scratch (with_list e before l).decided k.0));
-            writes = λ i. guarded_outputs before (k.1 i) (k.2 i);
-            keeps = λ m h. k.3;
+            does = sym (step_back (state_of index s) (call before) (number_of x) (number_given index s _ _ scratch (with_list e before l).decided refl));
+            writes = λ i. guarded_outputs before (k.0 i) (k.1 i);
+            keeps = λ m h. k.2;
           };
         }
 
-    module _ {v : Report} (e : r ≡ AssessedSo v) where
+    module _ {v : Report} (e : r ≡ Ok v) where
       reports : Reports report checked checked' lost lost' v
       reports = t.on v e
 
       -- the list does not matter: one of that room
       on_list : (before : List Stats) → length before ≡ room → step stored (state_of index s) (call before) ≡ perform stored (state_of index s) (guarded_delete a)
-      unfolding tests state_of stored store_ops store_view shown room_of refusal_of
+      unfolding tests state_of stored store_ops store_view shown room_of
       on_list before l = step_on (state_of index s) (call before) (none_given index s _ _ scratch (with_list e before l).decided refl)
 
       not_refused : (before : List Stats) → length before ≡ room → (m : ℕ) → refusal stored (state_of index s) (call before) ≡ some m → ⊥
-      unfolding refusal tests state_of stored store_ops store_view shown room_of refusal_of
+      unfolding refusal tests state_of stored store_ops store_view shown room_of
       not_refused before l m h = let g = sym (none_given index s _ _ scratch (with_list e before l).decided refl) ∙ h in let x : ◌≡◌ {A = ℕ} 0 1 = cc in omega arith
 
       pub passes : Passed index s
-      unfolding refusal_of
-      passes = able index s wrong over scratch (subst (λ (x : Assessed). Tested index s wrong over ids checked lost scratch checked' lost' scratch₁ x) e t).decided refl
+      passes = able index s wrong over scratch (subst (λ (x : Result Report Refusal). Tested index s wrong over ids checked lost scratch checked' lost' scratch₁ x) e t).decided refl
 
-      pub guards_deferred : v.admitted ≡ false → Guards index s a room checked lost scratch s checked' lost' scratch₁ (Deferred v)
+      pub guards_deferred : v.admitted ≡ false → Guards index s a room checked lost scratch s checked' lost' scratch₁ (Ok (Deferred v))
       unfolding perform guarded guarded_as index_kept written call_of slices_of run_refusal state_of slots_of
       guards_deferred f =
           let g = reports in
           record {
             report = report;
             stats = [];
-            numbers_applied = λ i m x h. absurd (let z : ◌≡◌ {A = ℕ} 0 1 = cc in omega arith);
+            numbers_applied = λ c w h. cc;
             numbers_deferred = λ x h. let i : v ≡ x = cc in sym i ∙ numbers_are g;
-            words = λ i m x h. absurd (let z : ◌≡◌ {A = ℕ} 0 1 = cc in omega arith);
-            there = λ i m x h. absurd (let z : ◌≡◌ {A = ℕ} 0 1 = cc in omega arith);
-            fits = λ i m x h. absurd (let z : ◌≡◌ {A = ℕ} 0 1 = cc in omega arith);
+            words = λ c w h. cc;
+            there = λ c w h. cc;
+            fits = λ c w h. cc;
             meets = λ before l. record {
               does = sym (on_list before l ∙ ap (guarded stored (state_of index s) a report) (sym g.admits ∙ f));
               writes = λ i. guarded_outputs before (g.checked_list i) (g.lost_list i);
@@ -144,9 +137,8 @@ module _ (index : Index) (s : Slices) (ids : List ℕ) (beam degree room : ℕ) 
       pub guards_able : length scratch₁ ≡ length scratch
           → Deletable (arrays index.dim index.degree s.vectors s.targets s.edges s.versions s.marks) index.entry beam degree ids scratch₁
           × (length s.numbers ≡ length s.marks) × (index.live ≤ length s.summary)
-      unfolding refusal_of
       guards_able k =
-          let d = (subst (λ (x : Assessed). Tested index s wrong over ids checked lost scratch checked' lost' scratch₁ x) e t).decided in
+          let d = (subst (λ (x : Result Report Refusal). Tested index s wrong over ids checked lost scratch checked' lost' scratch₁ x) e t).decided in
           let p = own index s wrong over scratch d refl in
           let f = strike_able passes ids beam degree in
           (delete_able passes ids beam degree scratch₁ (sym o ∙ p.0) (rw k p.1), f.0, f.1)
@@ -157,29 +149,28 @@ module _ (index : Index) (s : Slices) (ids : List ℕ) (beam degree room : ℕ) 
           × Struck marks' s.numbers s.summary index.live numbers' summary')
           (lm : length marks' ≡ length s.marks) where
         enough : n ≤ room
-        unfolding refusal_of
         enough =
-            let d = (subst (λ (x : Assessed). Tested index s wrong over ids checked lost scratch checked' lost' scratch₁ x) e t).decided in
+            let d = (subst (λ (x : Result Report Refusal). Tested index s wrong over ids checked lost scratch checked' lost' scratch₁ x) e t).decided in
             let k = (or_neither (ltb room (length ids)) _ (sym w ∙ lists_right index s wrong over scratch d refl)).0 in
             omega (arith, b.0.few, ltb-false room (length ids) k)
 
         inside : length scratch₁ ≡ length scratch → length scratch' ≡ length scratch₁ → stats_at index.capacity + 4 * n ≤ length scratch'
         inside k l = let d = (guards_able k).0 in omega (arith, rw (passed_marks passes) at d.enough, b.0.few, d.ids_most, l)
 
-        pub guards_applied : {i : Index} → length scratch₁ ≡ length scratch → length scratch' ≡ length scratch₁ → v.admitted ≡ true → i ≡ with_entry index entry' (index.live - n)
-            → Guards index s a room checked lost scratch (slices s.vectors targets' edges' versions' marks' s.pool numbers' summary') checked' lost' scratch' (Applied i n v)
+        pub guards_applied : {c : Changed} → length scratch₁ ≡ length scratch → length scratch' ≡ length scratch₁ → v.admitted ≡ true → c ≡ fewer index entry' n
+            → Guards index s a room checked lost scratch (slices s.vectors targets' edges' versions' marks' s.pool numbers' summary') checked' lost' scratch' (Ok (Applied c v))
         unfolding perform guarded guarded_as index_kept written call_of slices_of run_refusal state_of stored slots_of
-        guards_applied k ls f c =
+        guards_applied {c} k ls f e =
             let g = reports in
-            let u = state_left passes ids beam degree b.0 b.1 lm c in
+            let u = state_left passes ids beam degree b.0 b.1 lm (ap (λ x. x.index) e) in
             record {
               report = report;
               stats = map (stats_of scratch' (stats_at index.capacity)) (range 0 n);
-              numbers_applied = λ i m x h. let j : v ≡ x = cc in sym j ∙ numbers_are g;
-              numbers_deferred = λ x h. absurd (let z : ◌≡◌ {A = ℕ} 0 1 = cc in omega arith);
-              words = λ i m x h. let j : n ≡ m = cc in ap (λ (y : ℕ). map (stats_of scratch' (stats_at index.capacity)) (range 0 y)) j;
-              there = λ i m x h. let j : n ≡ m = cc in omega (arith, j, inside k ls);
-              fits = λ i m x h. let j : n ≡ m = cc in omega (arith, j, enough);
+              numbers_applied = λ d x h. let j : v ≡ x = cc in sym j ∙ numbers_are g;
+              numbers_deferred = λ w h. cc;
+              words = λ d x h. ap (λ (y : ℕ). map (stats_of scratch' (stats_at index.capacity)) (range 0 y)) (many d x h);
+              there = λ d x h. omega (arith, many d x h, inside k ls);
+              fits = λ d x h. omega (arith, many d x h, enough);
               meets = λ before l. record {
                 does =
                     ap (λ (y : State Store × List Stats). (y.0, applied y.1 report)) u
@@ -188,6 +179,9 @@ module _ (index : Index) (s : Slices) (ids : List ℕ) (beam degree room : ℕ) 
                 keeps = λ m h. absurd (not_refused before l m h);
               };
             }
+          where
+            many : (d : Changed) (x : Report) → ◌≡◌ {A = Result Guarded Refusal} (Ok (Applied c v)) (Ok (Applied d x)) → n ≡ d.count
+            many d x h = let j : c ≡ d = cc in sym (ap (λ y. y.count) e) ∙ ap (λ y. y.count) j
 
 -- ---- by other names
 
@@ -202,7 +196,7 @@ accepted w lent a e =
     ((first_none 7 (delete_over limits a) after (index_finds lent.slices (shown stored w) wrong rest e).own).0, shared_none lent.slices (shown stored w) wrong rest e)
 
 -- a guarded delete by one list of names is that by another that names the same slots
-renamed : {index : Index} {s : Slices} {a b : Delete} {room : ℕ} {checked lost scratch : List ℕ} {s' : Slices} {checked' lost' scratch' : List ℕ} {r : Guarded}
+renamed : {index : Index} {s : Slices} {a b : Delete} {room : ℕ} {checked lost scratch : List ℕ} {s' : Slices} {checked' lost' scratch' : List ℕ} {r : Result Guarded Refusal}
     → length b.names ≡ length a.names → b.repair_beam ≡ a.repair_beam → b.repair_degree ≡ a.repair_degree
     → (delete_over limits a ≡ false → first_of (index_tests limits (lengths_of s) (shown stored (state_of index s)) false []) ≡ none → named (state_of index s) b ≡ named (state_of index s) a)
     → Guards index s b room checked lost scratch s' checked' lost' scratch' r → Guards index s a room checked lost scratch s' checked' lost' scratch' r
@@ -225,7 +219,7 @@ renamed {index} {s} {a} {b} long beam degree same d = record {
       };
 }
 
-module _ (naming : Naming) (index : Index) (s : Slices) (names : List ℕ) {beam degree room : ℕ} {checked lost scratch : List ℕ} {s' : Slices} {checked' lost' scratch' : List ℕ} {r : Guarded} {q : Bool}
+module _ (naming : Naming) (index : Index) (s : Slices) (names : List ℕ) {beam degree room : ℕ} {checked lost scratch : List ℕ} {s' : Slices} {checked' lost' scratch' : List ℕ} {r : Result Guarded Refusal} {q : Bool}
     (e : q ≡ (are_numbers naming && leb (length names) limits.ids)) where
   pub guards_slots : q ≡ false → Guards index s (slot_delete names beam degree) room checked lost scratch s' checked' lost' scratch' r
       → Guards index s (deleting names naming beam degree) room checked lost scratch s' checked' lost' scratch' r
@@ -242,8 +236,8 @@ module _ (naming : Naming) (index : Index) (s : Slices) (names : List ℕ) {beam
 
 -- ---- the new index's alpha: the one that was accepted
 
-module _ {index : Index} {s : Slices} {a : Delete} {room : ℕ} {checked lost scratch : List ℕ} {s' : Slices} {checked' lost' scratch' : List ℕ} {i : Index} {n : ℕ} {v : Report}
-    (c : Guards index s a room checked lost scratch s' checked' lost' scratch' (Applied i n v)) where
+module _ {index : Index} {s : Slices} {a : Delete} {room : ℕ} {checked lost scratch : List ℕ} {s' : Slices} {checked' lost' scratch' : List ℕ} {new : Changed} {v : Report}
+    (c : Guards index s a room checked lost scratch s' checked' lost' scratch' (Ok (Applied new v))) where
   abbrev on : State Store
   on = state_of index s
 
@@ -255,10 +249,10 @@ module _ {index : Index} {s : Slices} {a : Delete} {room : ℕ} {checked lost sc
   asked = record { lent = lent_of s (guarded_outputs any_list checked lost) scratch; operation = guarded_delete a }
 
   abbrev Same : Type 0
-  Same = (i.alpha ≡ index.alpha) × (alpha_ok index.alpha ≡ true)
+  Same = (new.index.alpha ≡ index.alpha) × (alpha_ok index.alpha ≡ true)
 
   -- what is done is a delete, since it was applied
-  when : Passed index s → (r : Guard.Report) (q : Bool) → (state_of i s', applied c.stats c.report) ≡ guarded stored on a r q → Same
+  when : Passed index s → (r : Guard.Report) (q : Bool) → (state_of new.index s', applied c.stats c.report) ≡ guarded stored on a r q → Same
   unfolding guarded deletion with_graph state_of stored store_ops store_view
   when p r true e =
       (ap (λ x. x.0.graph.alpha) e ∙ ap (λ z. z.alpha) (sizes_after_delete store_ops MarksFit store_marking on.graph (passed_marks p) a.repair_beam a.repair_degree (named on a)), p.alpha_right)
@@ -273,6 +267,6 @@ module _ {index : Index} {s : Slices} {a : Delete} {room : ℕ} {checked lost sc
           let b : applied c.stats c.report ≡ refused_as m (guarded_delete a) = ap (λ x. x.1) ((c.meets any_list (length-replicate room _)).does ∙ step_back on asked m e) in
           absurd (let z : ◌≡◌ {A = ℕ} 0 1 = cc in omega arith)
       go none e =
-          let p = passed_none index s _ _ (omega arith, (omega arith, (omega arith, tt))) e in
+          let p = passed_none index s _ _ e in
           let r = report_of (shown stored on) (named on a) in
           when p r r.admitted ((c.meets any_list (length-replicate room _)).does ∙ step_on on asked e)

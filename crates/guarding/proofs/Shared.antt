@@ -22,8 +22,7 @@ use Rattle.calls.specs.Step.{report_by, report_of}
 use Rattle.calls.proofs.Tests.{or_neither}
 use Rattle.index.specs.declared.Index.{Index}
 use Rattle.index.specs.declared.Settings.{Settings}
-use Rattle.index.specs.declared.Guard.{Guard}
-use Rattle.index.specs.declared.Guard.TheVariants.{On}
+use Rattle.std.specs.Prelude.{Option, Some}
 use Rattle.index.specs.Index.{guard_of, state_of}
 use Rattle.index.specs.Inner.Deciding.{Passed}
 use Rattle.index.proofs.Decide.{passed_rows, passed_marks, passed_bytes}
@@ -61,7 +60,7 @@ sound s e =
       pool_most = ltb-false 1024 s.pool a.1;
     }
 
-pub sound_on : (g : Guard) {s : Settings} → g ≡ On s → guard_fault limits (guard_of g) ≡ false → Sound s
+pub sound_on : (g : Option Settings) {s : Settings} → g ≡ Some s → guard_fault limits (guard_of g) ≡ false → Sound s
 unfolding guard_of
 sound_on g {s} e f = sound s (rw e at f)
 
@@ -80,7 +79,7 @@ module _ {index : Index} {s : Slices} (able : Passed index s) where
 
   -- ---- the report of a guard that is on
 
-  module _ {t : Settings} (e : index.guard ≡ On t) (ids : List ℕ) where
+  module _ {t : Settings} (e : index.guard ≡ Some t) (ids : List ℕ) where
     pub assessable : (checked lost scratch : List ℕ) → length ids ≤ 256 → 64 ≤ min (length checked) (length lost)
         → ltb (length scratch) (size_answer index.capacity) ≡ false
         → Assessable (arrays index.dim index.degree s.vectors s.targets s.edges s.versions s.marks) t.count t.sample t.beam s.pool t.pool ids checked lost scratch

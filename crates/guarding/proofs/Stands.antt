@@ -12,8 +12,9 @@ use Rattle.slots.specs.Store.{Store, is_valid, store_view, store_ops}
 use Rattle.guard.specs.Guard.{pool_of, guard_status}
 use Rattle.index.specs.declared.Index.{Index}
 use Rattle.index.specs.declared.Settings.{Settings}
-use Rattle.index.specs.declared.Guard.{Guard}
-use Rattle.index.specs.declared.Guard.TheVariants.{Off, On}
+use Rattle.std.specs.Prelude.{Option, Some, None, Result, Ok, Err}
+use Rattle.index.specs.declared.Refusal.{Refusal}
+use Rattle.index.specs.Refusal.{number_of}
 use Rattle.calls.specs.Calls.{Call, status, standing, refused_as}
 use Rattle.calls.specs.Outputs.{no_outputs, written}
 use Rattle.calls.specs.Refusals.{guard_fault, tests}
@@ -24,19 +25,18 @@ use Rattle.index.specs.Index.{guard_of, state_of}
 use Rattle.index.specs.Inner.Deciding.{labels_of, Decided}
 use Rattle.index.proofs.Decide.{turned_back, let_through, passed, step_back, step_on}
 use Rattle.guarding.specs.declared.Status.{Status}
-use Rattle.guarding.specs.declared.Standing.TheVariants.{Refused as no_status, Standing as StandsSo}
 use Rattle.guarding.specs.Guarding.{standing_as, Stands}
 use Rattle.guarding.specs.Inner.Testing.{Stood}
 use Rattle.guarding.proofs.Shared.{sound_on}
 
 -- ---- the status of a guard
 
-pub stood_off : (g : Guard) (marks pool : List ℕ) → g ≡ Off
+pub stood_off : (g : Option Settings) (marks pool : List ℕ) → g ≡ None
     → Stood (guard_of g) marks pool (record { enabled = false; pool = 0; live = 0; count = 0; beam = 0 })
 unfolding guard_of guard_status
 stood_off g marks pool e = rw e (record { does = λ v h. refl })
 
-module _ (g : Guard) (marks pool : List ℕ) {s : Settings} (e : g ≡ On s) (f : guard_fault limits (guard_of g) ≡ false) (l : length pool ≡ limits.pool) where
+module _ (g : Option Settings) (marks pool : List ℕ) {s : Settings} (e : g ≡ Some s) (f : guard_fault limits (guard_of g) ≡ false) (l : length pool ≡ limits.pool) where
   pub pool_inside : (s.pool ≤ length pool) × (s.pool ≤ 1024)
   unfolding limits
   pool_inside = let h = (sound_on g e f).pool_most in (omega (arith, h), h)
@@ -50,28 +50,28 @@ module _ (g : Guard) (marks pool : List ℕ) {s : Settings} (e : g ≡ On s) (f 
 
 -- ---- the call
 
-module _ (index : Index) (s : Slices) {r : ℕ} (d : Decided index (lengths_of s) (labels_of s) false [] r) where
+module _ (index : Index) (s : Slices) {A : Type 0} {r : Result A Refusal} (d : Decided index (lengths_of s) (labels_of s) false [] r) where
   abbrev now : State Store
   now = state_of index s
 
   abbrev call : Call
   call = record { lent = lent_of s no_outputs []; operation = status }
 
-  pub stands_back : (r ≡ 0 → ⊥) → Stands index s (no_status r)
+  pub stands_back : {x : Refusal} → r ≡ Err x → Stands index s (Err x)
   unfolding tests refused_as standing_as written state_of call_of slices_of
-  stands_back n =
-      record { meets = record { does = sym (step_back now call r (turned_back index s tt d n)); writes = refl; keeps = λ m e. refl } }
+  stands_back {x} n =
+      record { meets = record { does = sym (step_back now call (number_of x) (turned_back index s d n)); writes = refl; keeps = λ m e. refl } }
 
-  module _ (z : r ≡ 0) where
+  module _ {u : A} (z : r ≡ Ok u) where
     pub stands_ready : (guard_fault limits (guard_of index.guard) ≡ false) × (length s.pool ≡ limits.pool)
-    stands_ready = let p = passed index s tt d z in (p.guard_right, p.pool_long)
+    stands_ready = let p = passed index s d z in (p.guard_right, p.pool_long)
 
-    pub stands_on : {t : Status} → Stood (guard_of index.guard) s.marks s.pool t → Stands index s (StandsSo t)
+    pub stands_on : {t : Status} → Stood (guard_of index.guard) s.marks s.pool t → Stands index s (Ok t)
     unfolding tests perform standing_as written stored store_ops store_view shown state_of call_of slices_of
     stands_on {t} f =
         record {
           meets = record {
-            does = ap (λ x. (now, standing x)) (f.does (store_view now.graph) refl) ∙ sym (step_on now call (let_through index s tt d z));
+            does = ap (λ x. (now, standing x)) (f.does (store_view now.graph) refl) ∙ sym (step_on now call (let_through index s d z));
             writes = refl;
             keeps = λ m e. refl;
           };

@@ -1,5 +1,5 @@
 -- What the guard's calls give. What is left has a prime. Assumes nothing.
-use Rattle.std.specs.Prelude.{ℕ, List, [], ◌≡◌, length}
+use Rattle.std.specs.Prelude.{ℕ, List, [], ◌≡◌, length, Result, Ok, Err}
 use Rattle.slots.specs.Sizes.{Slices}
 use Rattle.slots.specs.Store.{or_blank}
 use Rattle.guard.specs.Guard.{Config}
@@ -8,11 +8,8 @@ use Rattle.admission.specs.declared.report.Report.{Report}
 use Rattle.index.specs.declared.Index.{Index}
 use Rattle.guarding.specs.declared.Status.{Status}
 use Rattle.guarding.specs.declared.Enabled.{Enabled}
-use Rattle.guarding.specs.declared.Enabled.TheVariants.{Refused as not_enabled, Enabled as EnabledWith}
-use Rattle.guarding.specs.declared.Standing.{Standing}
-use Rattle.guarding.specs.declared.Standing.TheVariants.{Refused as no_status, Standing as StandsSo}
-use Rattle.guarding.specs.declared.Assessed.{Assessed}
-use Rattle.guarding.specs.declared.Assessed.TheVariants.{Refused as not_assessed, Assessed as AssessedSo}
+use Rattle.index.specs.declared.Refusal.{Refusal}
+use Rattle.index.specs.Refusal.{number_of}
 use Rattle.calls.specs.Calls.{Assess, enable, status, assess, Answer, refused, standing, assessed}
 use Rattle.calls.specs.Outputs.{Outputs, no_outputs}
 use Rattle.calls.specs.Runs.{Run, Meets}
@@ -25,26 +22,26 @@ abbrev pub status_of : Status → Guards.Status
 status_of s =
     record { enabled = s.enabled; pool_size = s.pool; live_landmarks = s.live; landmark_count = s.count; beam = s.beam }
 
-unfoldable pub standing_as : Standing → Answer
-standing_as (no_status n) = refused n
-standing_as (StandsSo s) = standing (status_of s)
+unfoldable pub standing_as : Result Status Refusal → Answer
+standing_as (Err e) = refused (number_of e)
+standing_as (Ok s) = standing (status_of s)
 
 -- what `guard_status` promises
-pub record Stands (index : Index) (s : Slices) (r : Standing) : Type 0 where
+pub record Stands (index : Index) (s : Slices) (r : Result Status Refusal) : Type 0 where
   pub meets : Meets (reading index s status (standing_as r))
 
 -- ---- enabling
 
-unfoldable pub enabled_as : Enabled → Answer
-enabled_as (not_enabled n) = refused n
-enabled_as (EnabledWith i s) = standing (status_of s)
+unfoldable pub enabled_as : Result Enabled Refusal → Answer
+enabled_as (Err e) = refused (number_of e)
+enabled_as (Ok n) = standing (status_of n.status)
 
 -- the index that the app has then
-unfoldable pub enabled_index : Index → Enabled → Index
-enabled_index index (not_enabled n) = index
-enabled_index index (EnabledWith i s) = i
+unfoldable pub enabled_index : Index → Result Enabled Refusal → Index
+enabled_index index (Err e) = index
+enabled_index index (Ok n) = n.index
 
-abbrev pub enable_run : Index → Slices → Config → List ℕ → Slices → List ℕ → Enabled → Run
+abbrev pub enable_run : Index → Slices → Config → List ℕ → Slices → List ℕ → Result Enabled Refusal → Run
 enable_run index s c scratch s' scratch' r =
     record {
       operation = enable c;
@@ -58,7 +55,7 @@ enable_run index s c scratch s' scratch' r =
     }
 
 -- what `enable_guard` promises
-pub record Enables (index : Index) (s : Slices) (c : Config) (scratch : List ℕ) (s' : Slices) (scratch' : List ℕ) (r : Enabled) : Type 0 where
+pub record Enables (index : Index) (s : Slices) (c : Config) (scratch : List ℕ) (s' : Slices) (scratch' : List ℕ) (r : Result Enabled Refusal) : Type 0 where
   pub meets : Meets (enable_run index s c scratch s' scratch' r)
 
 -- ---- assessing
@@ -84,12 +81,12 @@ numbers_of r =
       supplemental = r.supplemental;
     }
 
-unfoldable pub assessed_as : Assessed → Guards.Report → Answer
-assessed_as (not_assessed n) report = refused n
-assessed_as (AssessedSo r) report = assessed report
+unfoldable pub assessed_as : Result Report Refusal → Guards.Report → Answer
+assessed_as (Err e) report = refused (number_of e)
+assessed_as (Ok r) report = assessed report
 
 -- what `assess_delete` promises; the code answers the report's numbers, and writes its lists
-pub record Assesses (index : Index) (s : Slices) (a : Assess) (outputs : Outputs) (scratch : List ℕ) (outputs' : Outputs) (scratch' : List ℕ) (r : Assessed) : Type 0 where
+pub record Assesses (index : Index) (s : Slices) (a : Assess) (outputs : Outputs) (scratch : List ℕ) (outputs' : Outputs) (scratch' : List ℕ) (r : Result Report Refusal) : Type 0 where
   pub report : Guards.Report
-  pub numbers : (n : Report) → r ≡ AssessedSo n → n ≡ numbers_of report
+  pub numbers : (n : Report) → r ≡ Ok n → n ≡ numbers_of report
   pub meets : Meets (looking index s (assess a) outputs scratch outputs' scratch' (assessed_as r report))

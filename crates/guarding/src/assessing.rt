@@ -1,19 +1,16 @@
 // Assessing a delete.
-ghost use Rattle.std.specs.Prelude.{◌≡◌, min, ltb, length, take};
+ghost use Rattle.std.specs.Prelude.{IfOk, Some, ◌≡◌, min, ltb, length, take};
 ghost use Rattle.slots.specs.Sizes.{limits, slices};
 ghost use Rattle.slots.specs.Store.{arrays};
 ghost use Rattle.admission.specs.Inner.Reports.{Assessable, Assessed as Reported};
-ghost use Rattle.calls.specs.Refusals.{is_off};
-ghost use Rattle.index.specs.Index.{guard_of, lengths_in};
+ghost use Rattle.index.specs.Index.{lengths_in};
 ghost use Rattle.index.specs.Inner.Deciding.{labels, Decided};
 ghost use Rattle.guarding.specs.Guarding.{assessing, report_outputs, Assesses};
 ghost use Rattle.guarding.specs.Inner.Testing.{report_tests, Testable, Tested};
 
-use super::Assessed;
 use admission::{Report, assess_delete_admission};
-use index::refusals::{index_refusal, scratch_short};
-use index::{Guard, Index, Lengths, Settings};
-use slots::marks::wide;
+use index::refusals::{check_index, scratch_short};
+use index::{Index, Lengths, Refusal, Settings};
 use slots::{Graph, Rows, limits};
 use vectors::Space;
 
@@ -21,24 +18,11 @@ use vectors::Space;
 pub fn lists_short(checked: usize, lost: usize) -> bool
     ensures { result ≡ ltb (min checked lost) limits.landmarks }
 {
-    if checked < wide(limits::LANDMARKS) {
-        return true;
-    }
-    lost < wide(limits::LANDMARKS)
+    checked.min(lost) < limits::LANDMARKS as usize
 }
 
-// Row 11: the guard is off.
-fn guard_off(guard: Guard) -> bool
-    ensures { result ≡ is_off (guard_of guard) }
-{
-    let Guard::On(_) = guard else {
-        return true;
-    };
-    false
-}
-
-// The first of rows 1, 2, 3, 6, 7, 8 and 11 that turns a call for a report back, else 0; `wrong` is the call's own part of 3, `over` is 7.
-fn report_refusal(
+// The settings of the guard, or the first of rows 1, 2, 3, 6, 7, 8 and 11 that turns a call for a report back; `wrong` is the call's own part of 3, `over` is 7.
+fn check_report(
     index: Index,
     lent: Lengths,
     marks: &[u8],
@@ -47,25 +31,18 @@ fn report_refusal(
     wrong: bool,
     over: bool,
     scratch: usize,
-) -> u32
+) -> Result<Settings, Refusal>
     requires { (lent.marks ≡ length marks.now) × (lent.numbers ≡ length numbers.now) × (lent.summary ≡ length summary.now) }
-    ensures { Decided index (lengths_in lent) (labels marks.now numbers.now summary.now) wrong (report_tests index over scratch) result }
+    ensures { Decided index (lengths_in lent) (labels marks.now numbers.now summary.now) wrong (report_tests index over scratch) result × IfOk result (λ s. index.guard ≡ Some s) }
 {
-    let r = index_refusal(index, lent, marks, numbers, summary, wrong);
-    if r != 0 {
-        return r;
-    }
+    check_index(index, lent, marks, numbers, summary, wrong)?;
     if over {
-        return 7;
+        return Err(Refusal::Limits);
     }
     if scratch_short(index.capacity, scratch) {
-        return 8;
+        return Err(Refusal::Scratch);
     }
-    let guard = index.guard;
-    if guard_off(guard) {
-        return 11;
-    }
-    0
+    index.guard.ok_or(Refusal::GuardOff)
 }
 
 // The report, by the settings of a guard that is on.
@@ -113,7 +90,7 @@ fn assess_with(
     )
 }
 
-// The report on deleting `ids`, or the number of the first test that holds; the calls that give a report find `wrong` and `over`.
+// The report on deleting `ids`, or the first test that holds; the calls that give a report find `wrong` and `over`.
 pub fn tested_report(
     index: Index,
     vectors: &[u8],
@@ -130,7 +107,7 @@ pub fn tested_report(
     checked: &mut [u32],
     lost: &mut [u32],
     scratch: &mut [u32],
-) -> Assessed
+) -> Result<Report, Refusal>
     requires { Testable wrong over ids.now checked.old lost.old }
     ensures { Tested index (slices vectors.now targets.now edges.now versions.now marks.now pool.now numbers.now summary.now) wrong over ids.now
         checked.old lost.old scratch.old checked.new lost.new scratch.new result }
@@ -145,7 +122,7 @@ pub fn tested_report(
         numbers: numbers.len(),
         summary: summary.len(),
     };
-    let r = report_refusal(
+    let settings = check_report(
         index,
         lent,
         marks,
@@ -154,15 +131,8 @@ pub fn tested_report(
         wrong,
         over,
         scratch.len(),
-    );
-    if r != 0 {
-        return Assessed::Refused(r);
-    }
-    let guard = index.guard;
-    let Guard::On(settings) = guard else {
-        return Assessed::Refused(11);
-    };
-    Assessed::Assessed(assess_with(
+    )?;
+    Ok(assess_with(
         index, settings, vectors, targets, edges, versions, marks, pool, ids, checked, lost,
         scratch,
     ))
@@ -183,12 +153,12 @@ pub fn assess_delete(
     checked: &mut [u32],
     lost: &mut [u32],
     scratch: &mut [u32],
-) -> Assessed
+) -> Result<Report, Refusal>
     ensures { Assesses index (slices vectors.now targets.now edges.now versions.now marks.now pool.now numbers.now summary.now) (assessing ids.now)
         (report_outputs checked.old lost.old) scratch.old (report_outputs checked.new lost.new) scratch.new result }
 {
     let wrong = lists_short(checked.len(), lost.len());
-    let over = wide(limits::IDS) < ids.len();
+    let over = (limits::IDS as usize) < ids.len();
     tested_report(
         index, vectors, targets, edges, versions, marks, pool, numbers, summary, ids, wrong, over,
         checked, lost, scratch,

@@ -5,19 +5,16 @@ ghost use Rattle.updating.specs.declared.Naming.TheVariants.{Slots};
 ghost use Rattle.updating.specs.Delete.{deleting};
 ghost use Rattle.guarding.specs.Guarded.{Guards};
 
+use super::Guarded;
 use super::assessing::{lists_short, tested_report};
-use super::{Assessed, Guarded};
-use index::{Index, Lengths};
+use index::{Index, Lengths, Refusal};
 use updating::{Naming, by_numbers, delete_ids, delete_over, translate, with_fewer};
 
 // Row 3, of the list for stats, of which there are at most as many as ids, and of the two for landmarks.
 fn outputs_short(room: usize, ids: usize, checked: usize, lost: usize) -> bool
     ensures { result ≡ (ltb room ids || ltb (min checked lost) limits.landmarks) }
 {
-    if room < ids {
-        return true;
-    }
-    lists_short(checked, lost)
+    room < ids || lists_short(checked, lost)
 }
 
 // Deletes the live ones of the slots `ids` if the report on that admits it.
@@ -38,20 +35,16 @@ fn guarded_slots(
     checked: &mut [u32],
     lost: &mut [u32],
     scratch: &mut [u32],
-) -> Guarded
+) -> Result<Guarded, Refusal>
     ensures { Guards index (slices vectors.now targets.old edges.old versions.old marks.old pool.now numbers.old summary.old) (deleting ids.now Slots repair_beam repair_degree) room checked.old lost.old scratch.old
         (slices vectors.now targets.new edges.new versions.new marks.new pool.now numbers.new summary.new) checked.new lost.new scratch.new result }
 {
     let wrong = outputs_short(room, ids.len(), checked.len(), lost.len());
     let over = delete_over(repair_beam, repair_degree, ids.len());
-    let answer = tested_report(
+    let report = tested_report(
         index, vectors, targets, edges, versions, marks, pool, numbers, summary, ids, wrong, over,
         checked, lost, scratch,
-    );
-    let report = match answer {
-        Assessed::Refused(n) => return Guarded::Refused(n),
-        Assessed::Assessed(report) => report,
-    };
+    )?;
     if report.admitted {
         let d = delete_ids(
             index,
@@ -67,10 +60,9 @@ fn guarded_slots(
             repair_degree,
             scratch,
         );
-        let n = d.count as u32;
-        return Guarded::Applied(with_fewer(index, d.entry, n), n, report);
+        return Ok(Guarded::Applied(with_fewer(index, d), report));
     }
-    Guarded::Deferred(report)
+    Ok(Guarded::Deferred(report))
 }
 
 // The same by slots or by numbers; `slots` has room for those that the numbers name. More than 256 numbers are passed on as they are: 7 or an earlier row turns
@@ -94,7 +86,7 @@ fn guarded_named(
     lost: &mut [u32],
     scratch: &mut [u32],
     slots: &mut [u32],
-) -> Guarded
+) -> Result<Guarded, Refusal>
     requires { length slots.old ≡ limits.ids }
     ensures { Guards index (slices vectors.now targets.old edges.old versions.old marks.old pool.now numbers.old summary.old) (deleting names.now naming repair_beam repair_degree) room checked.old lost.old scratch.old
         (slices vectors.now targets.new edges.new versions.new marks.new pool.now numbers.new summary.new) checked.new lost.new scratch.new result }
@@ -171,7 +163,7 @@ pub fn guarded_delete(
     checked: &mut [u32],
     lost: &mut [u32],
     scratch: &mut [u32],
-) -> Guarded
+) -> Result<Guarded, Refusal>
     ensures { Guards index (slices vectors.now targets.old edges.old versions.old marks.old pool.now numbers.old summary.old) (deleting names.now naming repair_beam repair_degree) room checked.old lost.old scratch.old
         (slices vectors.now targets.new edges.new versions.new marks.new pool.now numbers.new summary.new) checked.new lost.new scratch.new result }
 {

@@ -11,32 +11,25 @@ ghost use Rattle.guarding.specs.Inner.Testing.{enable_tests, Normal, guarded_ind
 use super::Enabled;
 use super::statuses::status_of;
 use admission::{landmark_pool, residual_entry};
-use index::refusals::{config_over, index_refusal, scratch_short};
-use index::{Guard, Index, Lengths, Settings};
+use index::refusals::{check_index, config_over, scratch_short};
+use index::{Index, Lengths, Refusal, Settings};
 use vectors::Space;
 
-// A setting of 0 acts, and is stored, as 1.
-fn at_least_one(n: u32) -> u32
-    ensures { result ≡ max 1 n }
-{
-    if n == 0 { 1 } else { n }
-}
-
-// The settings as they act, without a pool yet.
+// The settings as they act, a 0 as 1, without a pool yet.
 fn normalized(count: u32, multiplier: u32, sample: u32, beam: u32) -> Settings
     ensures { Normal (config count multiplier sample beam) result }
 {
     Settings {
-        count: at_least_one(count),
-        multiplier: at_least_one(multiplier),
-        sample: at_least_one(sample),
-        beam: at_least_one(beam),
+        count: count.max(1),
+        multiplier: multiplier.max(1),
+        sample: sample.max(1),
+        beam: beam.max(1),
         pool: 0,
     }
 }
 
-// The first of rows 1, 2, 3, 6, 7, 8, 12 and 13 that turns enabling back, else 0; the live count decides 12 and 13.
-fn enable_refusal(
+// Whether one of rows 1, 2, 3, 6, 7, 8, 12 and 13 turns enabling back: the first; the live count decides 12 and 13.
+fn check_enable(
     index: Index,
     lent: Lengths,
     marks: &[u8],
@@ -47,27 +40,24 @@ fn enable_refusal(
     sample: u32,
     beam: u32,
     scratch: usize,
-) -> u32
+) -> Result<(), Refusal>
     requires { (lent.marks ≡ length marks.now) × (lent.numbers ≡ length numbers.now) × (lent.summary ≡ length summary.now) }
     ensures { Decided index (lengths_in lent) (labels marks.now numbers.now summary.now) false (enable_tests index (config count multiplier sample beam) scratch) result }
 {
-    let r = index_refusal(index, lent, marks, numbers, summary, false);
-    if r != 0 {
-        return r;
-    }
+    check_index(index, lent, marks, numbers, summary, false)?;
     if config_over(count, multiplier, sample, beam) {
-        return 7;
+        return Err(Refusal::Limits);
     }
     if scratch_short(index.capacity, scratch) {
-        return 8;
+        return Err(Refusal::Scratch);
     }
     if index.live == 0 {
-        return 12;
+        return Err(Refusal::NoneLive);
     }
     if index.live == 1 {
-        return 13;
+        return Err(Refusal::NoLandmark);
     }
-    0
+    Ok(())
 }
 
 // The landmark pool, written to the front of its slice. Returns its length.
@@ -104,19 +94,11 @@ fn with_guard(index: Index, settings: Settings, n: u32) -> Index
     ensures { result ≡ guarded_index index settings n }
 {
     Index {
-        dim: index.dim,
-        capacity: index.capacity,
-        degree: index.degree,
-        alpha: index.alpha,
-        entry: index.entry,
-        live: index.live,
-        guard: Guard::On(Settings {
-            count: settings.count,
-            multiplier: settings.multiplier,
-            sample: settings.sample,
-            beam: settings.beam,
+        guard: Some(Settings {
             pool: n,
+            ..settings
         }),
+        ..index
     }
 }
 
@@ -136,7 +118,7 @@ pub fn enable_guard(
     sample: u32,
     beam: u32,
     scratch: &mut [u32],
-) -> Enabled
+) -> Result<Enabled, Refusal>
     ensures { Enables index (slices vectors.now targets.now edges.now versions.now marks.now pool.old numbers.now summary.now) (config count multiplier sample beam) scratch.old
         (slices vectors.now targets.now edges.now versions.now marks.now pool.new numbers.now summary.now) scratch.new result }
 {
@@ -150,7 +132,7 @@ pub fn enable_guard(
         numbers: numbers.len(),
         summary: summary.len(),
     };
-    let r = enable_refusal(
+    check_enable(
         index,
         lent,
         marks,
@@ -161,15 +143,11 @@ pub fn enable_guard(
         sample,
         beam,
         scratch.len(),
-    );
-    if r != 0 {
-        return Enabled::Refused(r);
-    }
+    )?;
     let settings = normalized(count, multiplier, sample, beam);
     let start = residual_entry(marks, &[], index.entry);
     let n = choose_pool(index, settings, vectors, marks, start, pool, scratch);
     let new = with_guard(index, settings, n as u32);
-    let guard = new.guard;
-    let status = status_of(guard, marks, pool);
-    Enabled::Enabled(new, status)
+    let status = status_of(new.guard, marks, pool);
+    Ok(Enabled { index: new, status })
 }

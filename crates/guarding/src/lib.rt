@@ -12,6 +12,7 @@ pub use deleting::guarded_delete;
 pub use enabling::enable_guard;
 use index::Index;
 pub use statuses::guard_status;
+use updating::Changed;
 
 // The status of a guard; all 0 where it is off.
 #[derive(Clone, Copy)]
@@ -23,32 +24,16 @@ pub struct Status {
     pub beam: u32,
 }
 
-// An index whose guard is on, with the guard's status, or the number of a refusal.
+// An index whose guard is on, with the guard's status.
 #[derive(Clone, Copy)]
-pub enum Enabled {
-    Refused(u32),
-    Enabled(Index, Status),
+pub struct Enabled {
+    pub index: Index,
+    pub status: Status,
 }
 
-// The guard's status, or the number of a refusal.
-#[derive(Clone, Copy)]
-pub enum Standing {
-    Refused(u32),
-    Standing(Status),
-}
-
-// The report on a delete, or the number of a refusal.
-#[derive(Clone, Copy)]
-pub enum Assessed {
-    Refused(u32),
-    Assessed(Report),
-}
-
-// A guarded delete: the index without the slots that are emptied, how many they are, and the report that admits it; the report that does not; or the
-// number of a refusal.
+// A guarded delete: what it leaves, and the report that admits it; or the report that does not.
 #[derive(Clone, Copy)]
 pub enum Guarded {
-    Refused(u32),
-    Applied(Index, u32, Report),
+    Applied(Changed, Report),
     Deferred(Report),
 }

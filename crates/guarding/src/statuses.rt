@@ -6,17 +6,17 @@ ghost use Rattle.index.specs.Index.{guard_of};
 ghost use Rattle.guarding.specs.Guarding.{Stands};
 ghost use Rattle.guarding.specs.Inner.Testing.{Stood};
 
-use super::{Standing, Status};
+use super::Status;
 use admission::live_landmarks;
-use index::refusals::index_refusal;
-use index::{Guard, Index, Lengths};
+use index::refusals::check_index;
+use index::{Index, Lengths, Refusal, Settings};
 
 // The status of a guard without a fault.
-pub fn status_of(guard: Guard, marks: &[u8], pool: &[u32]) -> Status
+pub fn status_of(guard: Option<Settings>, marks: &[u8], pool: &[u32]) -> Status
     requires { (guard_fault limits (guard_of guard) ≡ false) × (length pool.now ≡ limits.pool) }
     ensures { Stood (guard_of guard) marks.now pool.now result }
 {
-    let Guard::On(s) = guard else {
+    let Some(s) = guard else {
         return Status {
             enabled: false,
             pool: 0,
@@ -46,7 +46,7 @@ pub fn guard_status(
     pool: &[u32],
     numbers: &[u32],
     summary: &[u32],
-) -> Standing
+) -> Result<Status, Refusal>
     ensures { Stands index (slices vectors.now targets.now edges.now versions.now marks.now pool.now numbers.now summary.now) result }
 {
     let lent = Lengths {
@@ -59,10 +59,6 @@ pub fn guard_status(
         numbers: numbers.len(),
         summary: summary.len(),
     };
-    let r = index_refusal(index, lent, marks, numbers, summary, false);
-    if r != 0 {
-        return Standing::Refused(r);
-    }
-    let guard = index.guard;
-    Standing::Standing(status_of(guard, marks, pool))
+    check_index(index, lent, marks, numbers, summary, false)?;
+    Ok(status_of(index.guard, marks, pool))
 }

@@ -1,73 +1,30 @@
 // Lines `assess`.
-use super::reports::same_report;
-use guarding::Assessed;
-use index::Index;
-use lines::prepare::{Lent, part};
-use text::{Number, ends, first};
+use super::reports::expect_report;
+use admission::Report;
+use index::Refusal;
+use lines::prepare::{State, part, part_mut};
+use text::{Differs, Numbers};
 
-// Whether a report was given as stored.
-fn same_assessed(
-    line: &[u8],
-    refusal: Number,
-    assessed: Assessed,
+// Passes the answer to an assessment.
+fn expect_assessed(
+    line: &mut Numbers<'_>,
+    assessed: Result<Report, Refusal>,
     checked: &[u32],
     lost: &[u32],
-) -> bool {
+) -> Result<(), Differs> {
     match assessed {
-        Assessed::Refused(r) => r == refusal.value && ends(line, refusal),
-        Assessed::Assessed(report) => {
-            let last = same_report(line, refusal, report, checked, lost);
-            refusal.value == 0 && ends(line, last)
+        Err(r) => line.expect(r as u32),
+        Ok(report) => {
+            line.expect(0)?;
+            expect_report(line, report, checked, lost)
         }
     }
 }
 
-// Assesses a delete with so much of two lists, and compares.
-fn assess_with(
-    line: &[u8],
-    end: usize,
-    index: Index,
-    lent: Lent,
-    ids: &[u32],
-    vectors: &[u8],
-    targets: &[u32],
-    edges: &[u16],
-    versions: &[u16],
-    marks: &[u8],
-    pool: &[u32],
-    numbers: &[u32],
-    summary: &[u32],
-    checked: &mut [u32],
-    lost: &mut [u32],
-    scratch: &mut [u32],
-) -> bool {
-    let refusal = first(line, end);
-    let c = part(lent, 8, checked.len());
-    let l = part(lent, 9, lost.len());
-    let assessed = guarding::assess_delete(
-        index,
-        vectors,
-        targets,
-        edges,
-        versions,
-        marks,
-        pool,
-        numbers,
-        summary,
-        ids,
-        &mut checked[..c],
-        &mut lost[..l],
-        scratch,
-    );
-    same_assessed(line, refusal, assessed, checked, lost)
-}
-
 // Performs a line `assess`.
 pub fn assess(
-    line: &[u8],
-    end: usize,
-    index: Index,
-    lent: Lent,
+    line: &mut Numbers<'_>,
+    state: State,
     ids: &[u32],
     vectors: &[u8],
     targets: &[u32],
@@ -78,25 +35,24 @@ pub fn assess(
     numbers: &[u32],
     summary: &[u32],
     scratch: &mut [u32],
-) -> bool {
+) -> Result<(), Differs> {
     let mut checked = [0u32; 1024];
     let mut lost = [0u32; 1024];
-    assess_with(
-        line,
-        end,
-        index,
-        lent,
-        ids,
-        vectors,
-        targets,
-        edges,
-        versions,
-        marks,
-        pool,
-        numbers,
-        summary,
-        &mut checked,
-        &mut lost,
-        scratch,
-    )
+    let lent = state.lent;
+    let assessed = guarding::assess_delete(
+        state.index,
+        part(vectors, lent.vectors),
+        part(targets, lent.targets),
+        part(edges, lent.edges),
+        part(versions, lent.versions),
+        part(marks, lent.marks),
+        part(pool, lent.pool),
+        part(numbers, lent.numbers),
+        part(summary, lent.summary),
+        part(ids, lent.rows),
+        part_mut(&mut checked, lent.slots),
+        part_mut(&mut lost, lent.dists),
+        part_mut(scratch, lent.words),
+    );
+    expect_assessed(line, assessed, &checked, &lost)
 }

@@ -1,36 +1,33 @@
 // Lines `enable`.
-use super::statuses::same_status;
+use super::statuses::expect_status;
 use guarding::Enabled;
-use lines::kinds::ENABLE;
-use lines::prepare::{Step, part, wide};
-use lines::words::Word;
-use text::{Number, after, ends, first, same_words};
+use index::Refusal;
+use lines::prepare::{State, part, part_mut};
+use text::{Differs, Numbers};
 
-// The step after enabling: the index with its guard on, or the former one where it was refused.
-fn after_enabling(
-    line: &[u8],
-    refusal: Number,
-    step: Step,
-    enabled: Enabled,
+// Passes the answer to enabling, which leaves the index with its guard on, or the former one where it is refused.
+fn expect_enabled(
+    line: &mut Numbers<'_>,
+    state: &mut State,
+    enabled: Result<Enabled, Refusal>,
     pool: &[u32],
-) -> Step {
-    let mut new = step;
+) -> Result<(), Differs> {
     match enabled {
-        Enabled::Refused(r) => new.good = r == refusal.value && ends(line, refusal),
-        Enabled::Enabled(index, s) => {
-            let last = same_status(line, refusal, s);
-            new.index = index;
-            new.good = refusal.value == 0 && same_words(line, last, wide(s.pool), pool);
+        Err(r) => line.expect(r as u32),
+        Ok(enabled) => {
+            let s = enabled.status;
+            state.index = enabled.index;
+            line.expect(0)?;
+            expect_status(line, s)?;
+            line.expect_first(s.pool as usize, pool)
         }
     }
-    new
 }
 
 // Performs a line `enable`.
 pub fn enable(
-    line: &[u8],
-    word: Word,
-    step: Step,
+    line: &mut Numbers<'_>,
+    state: &mut State,
     vectors: &[u8],
     targets: &[u32],
     edges: &[u16],
@@ -40,40 +37,27 @@ pub fn enable(
     numbers: &[u32],
     summary: &[u32],
     scratch: &mut [u32],
-) -> Step {
-    if word.kind != ENABLE {
-        return step;
-    }
-    let count = first(line, word.end);
-    let multiplier = after(line, count);
-    let sample = after(line, multiplier);
-    let beam = after(line, sample);
-    let refusal = after(line, beam);
-    let lent = step.lent;
-    let v = part(lent, 0, vectors.len());
-    let t = part(lent, 1, targets.len());
-    let e = part(lent, 2, edges.len());
-    let n = part(lent, 3, versions.len());
-    let m = part(lent, 4, marks.len());
-    let p = part(lent, 5, pool.len());
-    let f = part(lent, 6, numbers.len());
-    let s = part(lent, 7, summary.len());
-    let w = part(lent, 11, scratch.len());
+) -> Result<(), Differs> {
+    let count = line.argument();
+    let multiplier = line.argument();
+    let sample = line.argument();
+    let beam = line.argument();
+    let lent = state.lent;
     let enabled = guarding::enable_guard(
-        step.index,
-        &vectors[..v],
-        &targets[..t],
-        &edges[..e],
-        &versions[..n],
-        &marks[..m],
-        &mut pool[..p],
-        &numbers[..f],
-        &summary[..s],
-        count.value,
-        multiplier.value,
-        sample.value,
-        beam.value,
-        &mut scratch[..w],
+        state.index,
+        part(vectors, lent.vectors),
+        part(targets, lent.targets),
+        part(edges, lent.edges),
+        part(versions, lent.versions),
+        part(marks, lent.marks),
+        part_mut(pool, lent.pool),
+        part(numbers, lent.numbers),
+        part(summary, lent.summary),
+        count,
+        multiplier,
+        sample,
+        beam,
+        part_mut(scratch, lent.words),
     );
-    after_enabling(line, refusal, step, enabled, pool)
+    expect_enabled(line, state, enabled, pool)
 }

@@ -4,21 +4,23 @@
 mod assessing;
 mod deleting;
 mod enabling;
-mod looking;
 mod reports;
 mod statuses;
 
+use assessing::assess;
 use deleting::delete;
 use enabling::enable;
-use lines::prepare::Step;
-use lines::words::Word;
-use looking::look;
+use lines::prepare::State;
+use lines::words::Guarding;
+use statuses::status;
+use text::{Differs, Numbers};
 
-// Performs a line of the guard: each function passes on a step whose line is not its own.
+// Performs a line of the guard.
+// The slices go one by one: tried as a struct of arrays, of which the borrow check covers no part that is lent to a call.
 pub fn perform(
-    line: &[u8],
-    word: Word,
-    step: Step,
+    what: Guarding,
+    line: &mut Numbers<'_>,
+    state: &mut State,
     names: &[u32],
     vectors: &[u8],
     targets: &mut [u32],
@@ -29,16 +31,22 @@ pub fn perform(
     numbers: &mut [u32],
     summary: &mut [u32],
     scratch: &mut [u32],
-) -> Step {
-    let mut new = enable(
-        line, word, step, vectors, targets, edges, versions, marks, pool, numbers, summary, scratch,
-    );
-    new = delete(
-        line, word, new, names, vectors, targets, edges, versions, marks, pool, numbers, summary,
-        scratch,
-    );
-    look(
-        line, word, new, names, vectors, targets, edges, versions, marks, pool, numbers, summary,
-        scratch,
-    )
+) -> Result<(), Differs> {
+    match what {
+        Guarding::Enable => enable(
+            line, state, vectors, targets, edges, versions, marks, pool, numbers, summary, scratch,
+        )?,
+        Guarding::Status => status(
+            line, *state, vectors, targets, edges, versions, marks, pool, numbers, summary,
+        )?,
+        Guarding::Assess => assess(
+            line, *state, names, vectors, targets, edges, versions, marks, pool, numbers, summary,
+            scratch,
+        )?,
+        Guarding::Guarded => delete(
+            line, state, names, vectors, targets, edges, versions, marks, pool, numbers, summary,
+            scratch,
+        )?,
+    }
+    line.end()
 }

@@ -1,28 +1,17 @@
 // Lines `status`, and the numbers of a status.
-use guarding::{Standing, Status};
-use index::Index;
-use text::{Number, ends, first, same_part};
+use guarding::Status;
+use lines::prepare::{State, part};
+use text::{Differs, Numbers};
 
-// The last number of a status, good where a line has the status after `before`.
-pub fn same_status(line: &[u8], before: Number, s: Status) -> Number {
-    let enabled = if s.enabled { 1u32 } else { 0u32 };
-    let numbers = [enabled, s.pool, s.live, s.count, s.beam];
-    same_part(line, before, 5, &numbers)
-}
-
-// Whether a status was given as stored.
-fn same_standing(line: &[u8], refusal: Number, standing: Standing) -> bool {
-    match standing {
-        Standing::Refused(r) => r == refusal.value && ends(line, refusal),
-        Standing::Standing(s) => refusal.value == 0 && ends(line, same_status(line, refusal, s)),
-    }
+// Passes the five numbers of a status.
+pub fn expect_status(line: &mut Numbers<'_>, s: Status) -> Result<(), Differs> {
+    line.expect_all(&[u32::from(s.enabled), s.pool, s.live, s.count, s.beam])
 }
 
 // Performs a line `status`.
 pub fn status(
-    line: &[u8],
-    end: usize,
-    index: Index,
+    line: &mut Numbers<'_>,
+    state: State,
     vectors: &[u8],
     targets: &[u32],
     edges: &[u16],
@@ -31,10 +20,24 @@ pub fn status(
     pool: &[u32],
     numbers: &[u32],
     summary: &[u32],
-) -> bool {
-    let refusal = first(line, end);
+) -> Result<(), Differs> {
+    let lent = state.lent;
     let standing = guarding::guard_status(
-        index, vectors, targets, edges, versions, marks, pool, numbers, summary,
+        state.index,
+        part(vectors, lent.vectors),
+        part(targets, lent.targets),
+        part(edges, lent.edges),
+        part(versions, lent.versions),
+        part(marks, lent.marks),
+        part(pool, lent.pool),
+        part(numbers, lent.numbers),
+        part(summary, lent.summary),
     );
-    same_standing(line, refusal, standing)
+    match standing {
+        Err(r) => line.expect(r as u32),
+        Ok(s) => {
+            line.expect(0)?;
+            expect_status(line, s)
+        }
+    }
 }

@@ -1,22 +1,20 @@
 -- The tests that calls share: what the code finds is what the table says, and what follows. Assumes nothing.
-use Prim.Native.Nat.{ℕ, ◌*◌, ◌^◌, ◌≤◌, ◌<◌}
+use Prim.Native.Nat.{ℕ, ◌≤◌, ◌<◌}
 use mathlib.Core.Bool.{Bool, true, false, not, ◌&&◌, ◌||◌}
-use mathlib.Core.Path.{◌≡◌, refl, sym, ap, ◌∙◌, subst, subst⁻¹}
+use mathlib.Core.Path.{◌≡◌, refl, sym, ap, ◌∙◌, subst}
 use mathlib.Core.List.{List, [], ◌∷◌}
 use mathlib.Core.Option.{Option, none, some}
-use native.Mathlib.Nat.{le_of_lt, lt_of_le_of_lt, mul-le-mul_left, mul-lt-mul_of_pos_right}
 use native.Mathlib.Omega.{arith}
 use borrow.Author.Tests.{leb-true, ltb-true, ltb-false, eqb-true, not-true, not-false, lt-leb, le-leb}
-use lib.Pow.{pow_pos, pow-add}
 use lib.Ieee.{Float}
 use lib.ListN.{length, replicate, length-replicate}
 use lib.Dec.{eqb, ltb, leb}
 use Rattle.lists.proofs.Bools.{and_both}
 use Rattle.vectors.specs.Distance.{f32}
-use Rattle.lists.specs.Lists.{All, filter, range}
+use Rattle.lists.specs.Lists.{filter, range}
 use Rattle.lists.proofs.Filter.{filter_length}
 use Rattle.lists.proofs.Ranges.{length_range}
-use Rattle.slots.specs.Sizes.{Sizes, Slices, slices, Lengths, lengths_of, limits, within, sizes_ok, alpha_ok, lengths_ok}
+use Rattle.slots.specs.Sizes.{Sizes, Slices, slices, Lengths, lengths_of, limits, within, sizes_ok, alpha_ok, exact, lengths_ok}
 use Rattle.slots.specs.Scratch.{size_answer}
 use Rattle.vectors.specs.Vector.{Bytes}
 use Rattle.slots.specs.View.{View, live_slots}
@@ -28,9 +26,12 @@ use Rattle.numbers.specs.Inner.Listed.{Listed}
 use Rattle.numbers.proofs.Exact.{labelled_exact}
 use Rattle.numbers.proofs.Listing.{labelled_listed}
 use Rattle.index.specs.declared.Index.{Index}
-use Rattle.index.specs.declared.ScratchWords.TheVariants.{Refused, Words}
+use Rattle.std.specs.Prelude.{Result, Ok, Err}
+use Rattle.index.specs.declared.Refusal.{Refusal}
+use Rattle.index.specs.declared.Refusal.TheVariants as Refused
+use Rattle.index.specs.Refusal.{number_of, turned_back as back}
 use Rattle.calls.specs.Calls.{Call, refused_as}
-use Rattle.calls.specs.Refusals.{Test, first_of, or_zero, index_tests, tests, guard_fault}
+use Rattle.calls.specs.Refusals.{Test, first_of, index_tests, tests, guard_fault}
 use Rattle.calls.specs.State.{State, stored, shown}
 use Rattle.calls.specs.Step.{perform, refusal, settle, step}
 use Rattle.index.specs.Index.{words_for, sizes, sizes_of, guard_of, state_of}
@@ -45,11 +46,6 @@ ltb_leb a b = go (ltb a b) refl
     go : (q : Bool) → ltb a b ≡ q → ltb a b ≡ not (leb b a)
     go true e = e ∙ sym (ap not (lt-leb b a (ltb-true a b e)))
     go false e = e ∙ sym (ap not (le-leb b a (ltb-false a b e)))
-
--- the product of two numbers of 32 bits has 64
-pub product_fits : {a b : ℕ} → a < 2 ^ 32 → b < 2 ^ 32 → a * b < 2 ^ 64
-product_fits {a} {b} ha hb =
-    subst⁻¹ (λ (n : ℕ). a * b < n) (pow-add 2 32 32) (lt_of_le_of_lt (mul-le-mul_left a (le_of_lt hb)) (mul-lt-mul_of_pos_right ha (pow_pos 32)))
 
 -- ---- sizes
 
@@ -79,18 +75,38 @@ pub words_bound : (z : Sizes) → sizes_ok limits z ≡ true → (0 < size_answe
 unfolding size_answer
 words_bound z e = let r = ranges z e in (omega arith, omega arith)
 
--- what `sizes_bad` finds: the size answer is given, or 1
+-- what `sizes_bad` finds: the size answer is given, or the refusal
 module _ (dim capacity degree : ℕ) {r : Bool} (e : (alpha : Float) → r ≡ not (sizes_ok limits (sizes dim capacity degree alpha))) where
-  pub words_refused : r ≡ true → (alpha : Float) → Refused 1 ≡ words_for (sizes dim capacity degree alpha)
+  pub words_refused : r ≡ true → (alpha : Float) → Err Refused.Sizes ≡ words_for (sizes dim capacity degree alpha)
   unfolding words_for
   words_refused t alpha = rw (not-true (sizes_ok limits (sizes dim capacity degree alpha)) (sym (e alpha) ∙ t))
 
-  pub words_given : r ≡ false → (alpha : Float) → Words (size_answer capacity) ≡ words_for (sizes dim capacity degree alpha)
+  pub words_given : r ≡ false → (alpha : Float) → Ok (size_answer capacity) ≡ words_for (sizes dim capacity degree alpha)
   unfolding words_for
   words_given t alpha = rw (not-false (sizes_ok limits (sizes dim capacity degree alpha)) (sym (e alpha) ∙ t))
 
   pub sized : r ≡ false → Ranges (sizes dim capacity degree (f32 1))
   sized t = ranges (sizes dim capacity degree (f32 1)) (not-false _ (sym (e (f32 1)) ∙ t))
+
+-- ---- lengths
+
+-- eight tests, however they are joined
+joined : (a b c d e f g h : Bool) → a && (b && (c && (d && (e && (f && (g && h)))))) ≡ a && b && c && d && e && f && g && h
+joined false b c d e f g h = refl
+joined true false c d e f g h = refl
+joined true true false d e f g h = refl
+joined true true true false e f g h = refl
+joined true true true true false f g h = refl
+joined true true true true true false g h = refl
+joined true true true true true true g h = refl
+
+-- lengths that are compared with the only ones that pass
+pub lengths_compared : (z : Sizes) (n m : Lengths) → m ≡ exact limits z
+    → eqb n.vectors m.vectors && (eqb n.targets m.targets && (eqb n.edges m.edges && (eqb n.versions m.versions && (eqb n.marks m.marks && (eqb n.pool m.pool && (eqb n.numbers m.numbers && eqb n.summary m.summary)))))) ≡ lengths_ok limits z n
+unfolding lengths_ok
+lengths_compared z n m e =
+    joined (eqb n.vectors m.vectors) (eqb n.targets m.targets) (eqb n.edges m.edges) (eqb n.versions m.versions) (eqb n.marks m.marks) (eqb n.pool m.pool) (eqb n.numbers m.numbers)
+    (eqb n.summary m.summary) ∙ ap (λ (k : Lengths). eqb n.vectors k.vectors && eqb n.targets k.targets && eqb n.edges k.edges && eqb n.versions k.versions && eqb n.marks k.marks && eqb n.pool k.pool && eqb n.numbers k.numbers && eqb n.summary k.summary) e
 
 -- ---- the shared tests, one after the other
 
@@ -112,15 +128,15 @@ bad₆ index l n =
 abbrev four : Bool → Bool → Bool → Bool → List Test → List Test
 four q₁ q₂ q₃ q₆ rest = (1, q₁) ∷ (2, q₂) ∷ (3, q₃) ∷ (6, q₆) ∷ rest
 
-abbrev decides : Index → Lengths → Labels → Bool → List Test → ℕ
-decides index lent looked wrong rest = or_zero (first_of (four (bad₁ index) (bad₂ index) (bad₃ index lent || wrong) (bad₆ index looked index.capacity) rest))
+abbrev decides : Index → Lengths → Labels → Bool → List Test → Option ℕ
+decides index lent looked wrong rest = first_of (four (bad₁ index) (bad₂ index) (bad₃ index lent || wrong) (bad₆ index looked index.capacity) rest)
 
 -- these decide: the lengths lent are those of slices with these contents
-decided : (index : Index) (lent : Lengths) (looked : Labels) {wrong : Bool} {rest : List Test} {r : ℕ} → (lent.marks ≡ length looked.marks → r ≡ decides index lent looked wrong rest)
-    → Decided index lent looked wrong rest r
+decided : (index : Index) (lent : Lengths) (looked : Labels) {wrong : Bool} {rest : List Test} {A : Type 0} {r : Result A Refusal}
+    → (lent.marks ≡ length looked.marks → back r ≡ decides index lent looked wrong rest) → Decided index lent looked wrong rest r
 unfolding index_tests shown stored store_ops store_view state_of
-decided index lent looked {wrong} {rest} {r} f =
-    record { does = λ s e h. subst (λ l. r ≡ decides index lent l wrong rest) (sym h) (f (sym (ap (λ n. n.marks) e) ∙ ap (λ l. length l.marks) h)) }
+decided index lent looked {wrong} {rest} {A} {r} f =
+    record { does = λ s e h. subst (λ l. back r ≡ decides index lent l wrong rest) (sym h) (f (sym (ap (λ n. n.marks) e) ∙ ap (λ l. length l.marks) h)) }
 
 -- where the lengths are right, there are as many marks as slots
 marked : (index : Index) (lent : Lengths) (looked : Labels) {r₆ : Bool} → bad₃ index lent ≡ false → r₆ ≡ bad₆ index looked (length looked.marks) → lent.marks ≡ length looked.marks
@@ -129,29 +145,29 @@ marked index lent looked h sound k =
     let m : lent.marks ≡ index.capacity = ap (λ l. l.marks) (passed_lengths (sizes_of index) lent (not-false (lengths_ok limits (sizes_of index) lent) h)) in
     rw (sym k ∙ m) at sound
 
-module _ {index : Index} {lent : Lengths} {looked : Labels} {wrong r₁ : Bool}
+module _ {index : Index} {lent : Lengths} {looked : Labels} {wrong r₁ : Bool} {A : Type 0}
     (sized : (alpha : Float) → r₁ ≡ not (sizes_ok limits (sizes index.dim index.capacity index.degree alpha))) where
-  pub decided_sizes : r₁ ≡ true → Decided index lent looked wrong [] 1
+  pub decided_sizes : r₁ ≡ true → Decided index lent looked wrong [] {A = A} (Err Refused.Sizes)
   decided_sizes t₁ = decided index lent looked (λ k. rw (sym (sized index.alpha) ∙ t₁))
 
   module _ {r₂ : Bool} (t₁ : r₁ ≡ false) (grown : r₂ ≡ not (alpha_ok index.alpha)) where
-    pub decided_alpha : r₂ ≡ true → Decided index lent looked wrong [] 2
+    pub decided_alpha : r₂ ≡ true → Decided index lent looked wrong [] {A = A} (Err Refused.Alpha)
     decided_alpha t₂ = decided index lent looked (λ k. rw (sym (sized index.alpha) ∙ t₁, sym grown ∙ t₂))
 
     module _ {r₃ : Bool} (t₂ : r₂ ≡ false) (long : (alpha : Float) → r₃ ≡ not (lengths_ok limits (sizes index.dim index.capacity index.degree alpha) lent)) where
-      pub decided_lengths : r₃ ≡ true → Decided index lent looked wrong [] 3
+      pub decided_lengths : r₃ ≡ true → Decided index lent looked wrong [] {A = A} (Err Refused.Lengths)
       decided_lengths t₃ = decided index lent looked (λ k. rw (sym (sized index.alpha) ∙ t₁, sym grown ∙ t₂, sym (long index.alpha) ∙ t₃))
 
       module _ (t₃ : r₃ ≡ false) where
-        pub decided_wrong : wrong ≡ true → Decided index lent looked wrong [] 3
+        pub decided_wrong : wrong ≡ true → Decided index lent looked wrong [] {A = A} (Err Refused.Lengths)
         decided_wrong t = decided index lent looked (λ k. rw (sym (sized index.alpha) ∙ t₁, sym grown ∙ t₂, sym (long index.alpha) ∙ t₃, t))
 
         module _ {r₆ : Bool} (t : wrong ≡ false) (sound : r₆ ≡ bad₆ index looked (length looked.marks)) where
-          pub decided_index : r₆ ≡ true → Decided index lent looked wrong [] 6
+          pub decided_index : r₆ ≡ true → Decided index lent looked wrong [] {A = A} (Err Refused.Index)
           decided_index t₆ =
               decided index lent looked (λ k. rw (sym (sized index.alpha) ∙ t₁, sym grown ∙ t₂, sym (long index.alpha) ∙ t₃, t, sym (marked index lent looked (sym (long index.alpha) ∙ t₃) sound k) ∙ t₆))
 
-          pub decided_none : r₆ ≡ false → Decided index lent looked wrong [] 0
+          pub decided_none : {a : A} → r₆ ≡ false → Decided index lent looked wrong [] (Ok a)
           decided_none t₆ =
               decided index lent looked (λ k. rw (sym (sized index.alpha) ∙ t₁, sym grown ∙ t₂, sym (long index.alpha) ∙ t₃, t, sym (marked index lent looked (sym (long index.alpha) ∙ t₃) sound k) ∙ t₆))
 
@@ -168,19 +184,7 @@ lent_alike dim capacity degree lent long t h =
 pub live_few : (marks : List ℕ) {live : ℕ} → live ≡ length (filter (is_valid marks) (range 0 (length marks))) → live ≤ length marks
 live_few marks e = omega (arith, filter_length (is_valid marks) (range 0 (length marks)), length_range 0 (length marks))
 
--- ---- what the number says
-
-pub first_number : (o : Option ℕ) (r : ℕ) → r ≡ or_zero o → (r ≡ 0 → ⊥) → o ≡ some r
-first_number none r e n = absurd (n e)
-first_number (some k) r e n = ap some (sym e)
-
-abbrev pub Numbered : Test → Type 0
-Numbered t = 0 < t.0
-
-no_number : (ts : List Test) → All Numbered ts → or_zero (first_of ts) ≡ 0 → first_of ts ≡ none
-no_number [] p e = refl
-no_number ((n, true) ∷ ts) p e = absurd (omega (arith, e, p.0))
-no_number ((n, false) ∷ ts) p e = no_number ts p.1 e
+-- ---- what the answer says
 
 -- none of the four holds
 record Four (q₁ q₂ q₃ q₆ : Bool) : Type 0 where
@@ -189,34 +193,36 @@ record Four (q₁ q₂ q₃ q₆ : Bool) : Type 0 where
   pub three : q₃ ≡ false
   pub six : q₆ ≡ false
 
-none_of : (q₁ q₂ q₃ q₆ : Bool) (rest : List Test) → All Numbered rest → or_zero (first_of (four q₁ q₂ q₃ q₆ rest)) ≡ 0 → Four q₁ q₂ q₃ q₆
-none_of true q₂ q₃ q₆ rest p e = absurd (omega (arith, e))
-none_of false true q₃ q₆ rest p e = absurd (omega (arith, e))
-none_of false false true q₆ rest p e = absurd (omega (arith, e))
-none_of false false false true rest p e = absurd (omega (arith, e))
-none_of false false false false rest p e = record { one = refl; two = refl; three = refl; six = refl }
+none_of : (q₁ q₂ q₃ q₆ : Bool) (rest : List Test) → none ≡ first_of (four q₁ q₂ q₃ q₆ rest) → Four q₁ q₂ q₃ q₆ × (none ≡ first_of rest)
+none_of true q₂ q₃ q₆ rest e = cc
+none_of false true q₃ q₆ rest e = cc
+none_of false false true q₆ rest e = cc
+none_of false false false true rest e = cc
+none_of false false false false rest e = (record { one = refl; two = refl; three = refl; six = refl }, e)
 
--- a call's own tests come after the shared ones: where one of those holds they do not count, and where none does they decide
-first_four : (q₁ q₂ q₃ q₆ : Bool) (rest : List Test) (r : ℕ) → r ≡ or_zero (first_of (four q₁ q₂ q₃ q₆ [])) → (r ≡ 0 → ⊥) → r ≡ or_zero (first_of (four q₁ q₂ q₃ q₆ rest))
-first_four true q₂ q₃ q₆ rest r e n = e
-first_four false true q₃ q₆ rest r e n = e
-first_four false false true q₆ rest r e n = e
-first_four false false false true rest r e n = e
-first_four false false false false rest r e n = absurd (n e)
+-- a call's own tests come after the shared ones: where one of those holds they do not count
+first_four : (q₁ q₂ q₃ q₆ : Bool) (rest : List Test) {n : ℕ} → some n ≡ first_of (four q₁ q₂ q₃ q₆ []) → some n ≡ first_of (four q₁ q₂ q₃ q₆ rest)
+first_four true q₂ q₃ q₆ rest e = e
+first_four false true q₃ q₆ rest e = e
+first_four false false true q₆ rest e = e
+first_four false false false true rest e = e
+first_four false false false false rest e = cc
 
-after_four : (q₁ q₂ q₃ q₆ : Bool) (rest : List Test) (r : ℕ) → 0 ≡ or_zero (first_of (four q₁ q₂ q₃ q₆ [])) → r ≡ or_zero (first_of rest) → r ≡ or_zero (first_of (four q₁ q₂ q₃ q₆ rest))
-after_four q₁ q₂ q₃ q₆ rest r e h = let f = none_of q₁ q₂ q₃ q₆ [] tt (sym e) in rw (f.one, f.two, f.three, f.six) h
-
-module _ {index : Index} {lent : Lengths} {looked : Labels} {wrong : Bool} {r₁ : ℕ} (d : Decided index lent looked wrong [] r₁) where
-  pub decided_before : (rest : List Test) → (r₁ ≡ 0 → ⊥) → Decided index lent looked wrong rest r₁
+module _ {index : Index} {lent : Lengths} {looked : Labels} {wrong : Bool} {A : Type 0} {r₁ : Result A Refusal} (d : Decided index lent looked wrong [] r₁) where
+  pub decided_before : {B : Type 0} (rest : List Test) {e : Refusal} → r₁ ≡ Err e → Decided index lent looked wrong rest {A = B} (Err e)
   unfolding index_tests shown stored store_ops store_view state_of
-  decided_before rest n =
-      record { does = λ s e h. first_four (bad₁ index) (bad₂ index) (bad₃ index lent || wrong) (bad₆ index (labels_of s) index.capacity) rest r₁ (d.does s e h) n }
+  decided_before rest z =
+      record { does = λ s e h. first_four (bad₁ index) (bad₂ index) (bad₃ index lent || wrong) (bad₆ index (labels_of s) index.capacity) rest (ap back (sym z) ∙ d.does s e h) }
 
-  pub decided_after : (rest : List Test) (r : ℕ) → r₁ ≡ 0 → r ≡ or_zero (first_of rest) → Decided index lent looked wrong rest r
+  -- and where none of those does they decide
+  pub decided_after : {B : Type 0} (rest : List Test) (r : Result B Refusal) {a : A} → r₁ ≡ Ok a → back r ≡ first_of rest → Decided index lent looked wrong rest r
   unfolding index_tests shown stored store_ops store_view state_of
   decided_after rest r z k =
-      record { does = λ s e h. after_four (bad₁ index) (bad₂ index) (bad₃ index lent || wrong) (bad₆ index (labels_of s) index.capacity) rest r (sym z ∙ d.does s e h) k }
+      record {
+        does = λ s e h.
+            let f = (none_of (bad₁ index) (bad₂ index) (bad₃ index lent || wrong) (bad₆ index (labels_of s) index.capacity) [] (ap back (sym z) ∙ d.does s e h)).0 in
+            rw (f.one, f.two, f.three, f.six) k;
+      }
 
 -- an index of which none of the four holds: all that a call may rest on
 four_passed : (index : Index) (s : Slices) (wrong : Bool) → Four (bad₁ index) (bad₂ index) (bad₃ index (lengths_of s) || wrong) (bad₆ index (labels_of s) index.capacity) → Passed index s
@@ -269,54 +275,47 @@ shared_none lent w wrong rest e =
     || not (labels_ok v.live v.sizes.capacity w.live w.numbers w.summary)) e
   where
     go : (q₁ q₂ q₃ x q₆ : Bool) → first_of (four q₁ q₂ (q₃ || x) q₆ rest) ≡ none → first_of (four q₁ q₂ (q₃ || false) q₆ []) ≡ none
-    go true q₂ q₃ x q₆ h = absurd (let z : ◌≡◌ {A = ℕ} 0 1 = cc in omega arith)
-    go false true q₃ x q₆ h = absurd (let z : ◌≡◌ {A = ℕ} 0 1 = cc in omega arith)
-    go false false true x q₆ h = absurd (let z : ◌≡◌ {A = ℕ} 0 1 = cc in omega arith)
-    go false false false true q₆ h = absurd (let z : ◌≡◌ {A = ℕ} 0 1 = cc in omega arith)
-    go false false false false true h = absurd (let z : ◌≡◌ {A = ℕ} 0 1 = cc in omega arith)
+    go true q₂ q₃ x q₆ h = cc
+    go false true q₃ x q₆ h = cc
+    go false false true x q₆ h = cc
+    go false false false true q₆ h = cc
+    go false false false false true h = cc
     go false false false false false h = refl
 
 -- so of an index of which no test of a call holds
-pub passed_none : (index : Index) (s : Slices) (wrong : Bool) (rest : List Test) → All Numbered rest
+pub passed_none : (index : Index) (s : Slices) (wrong : Bool) (rest : List Test)
     → first_of (index_tests limits (lengths_of s) (shown stored (state_of index s)) wrong rest) ≡ none → Passed index s
 unfolding index_tests shown stored store_ops store_view state_of
-passed_none index s wrong rest p h = four_passed index s wrong (none_of _ _ _ _ rest p (ap or_zero h))
+passed_none index s wrong rest h = four_passed index s wrong (none_of _ _ _ _ rest (sym h)).0
 
-module _ (index : Index) (s : Slices) {wrong : Bool} {rest : List Test} {r : ℕ} (p : All Numbered rest) (d : Decided index (lengths_of s) (labels_of s) wrong rest r) where
-  abbrev shared : List Test
-  shared = four (bad₁ index) (bad₂ index) (bad₃ index (lengths_of s) || wrong) (bad₆ index (labels_of s) index.capacity) rest
+module _ (index : Index) (s : Slices) {wrong : Bool} {rest : List Test} {A : Type 0} {r : Result A Refusal} (d : Decided index (lengths_of s) (labels_of s) wrong rest r) where
+  -- the number of an error is the number given
+  pub turned_back : {e : Refusal} → r ≡ Err e → first_of (index_tests limits (lengths_of s) (shown stored (state_of index s)) wrong rest) ≡ some (number_of e)
+  turned_back z = sym (d.does s refl refl) ∙ ap back z
 
-  found : r ≡ or_zero (first_of shared)
-  unfolding index_tests shown stored store_ops store_view state_of
-  found = d.does s refl refl
+  module _ {a : A} (z : r ≡ Ok a) where
+    -- where there is none, no test holds
+    pub let_through : first_of (index_tests limits (lengths_of s) (shown stored (state_of index s)) wrong rest) ≡ none
+    let_through = sym (d.does s refl refl) ∙ ap back z
 
-  none_found : r ≡ 0 → Four (bad₁ index) (bad₂ index) (bad₃ index (lengths_of s) || wrong) (bad₆ index (labels_of s) index.capacity)
-  none_found z = none_of _ _ _ _ rest p (sym found ∙ z)
+    none_found : Four (bad₁ index) (bad₂ index) (bad₃ index (lengths_of s) || wrong) (bad₆ index (labels_of s) index.capacity) × (none ≡ first_of rest)
+    unfolding index_tests shown stored store_ops store_view state_of
+    none_found = none_of _ _ _ _ rest (sym let_through)
 
-  -- a number that is not 0 is the number given
-  pub turned_back : (r ≡ 0 → ⊥) → first_of (index_tests limits (lengths_of s) (shown stored (state_of index s)) wrong rest) ≡ some r
-  unfolding index_tests shown stored store_ops store_view state_of
-  turned_back n = first_number _ r found n
+    -- nor does a test of the call's own hold
+    pub own_none : first_of rest ≡ none
+    own_none = sym none_found.1
 
-  -- 0 is none
-  pub let_through : r ≡ 0 → first_of (index_tests limits (lengths_of s) (shown stored (state_of index s)) wrong rest) ≡ none
-  unfolding index_tests shown stored store_ops store_view state_of
-  let_through z = no_number shared (omega arith, (omega arith, (omega arith, (omega arith, p)))) (sym found ∙ z)
+    pub not_wrong : wrong ≡ false
+    not_wrong = (or_neither (bad₃ index (lengths_of s)) wrong none_found.0.three).1
 
-  -- nor does a test of the call's own hold
-  pub own_none : r ≡ 0 → first_of rest ≡ none
-  own_none z = let f = none_found z in no_number rest p (rw (f.one, f.two, f.three, f.six) at (sym found ∙ z))
-
-  pub not_wrong : r ≡ 0 → wrong ≡ false
-  not_wrong z = (or_neither (bad₃ index (lengths_of s)) wrong (none_found z).three).1
-
-  -- and says all that a call may rest on
-  pub passed : r ≡ 0 → Passed index s
-  passed z = four_passed index s wrong (none_found z)
+    -- and says all that a call may rest on
+    pub passed : Passed index s
+    passed = four_passed index s wrong none_found.0
 
 -- before a call's own tests: the slices that were looked at pass, whatever the other slices hold
 module _ (index : Index) {lent : Lengths} {looked : Labels} {wrong : Bool} (long : lent.marks ≡ length looked.marks) (so_many : lent.numbers ≡ length looked.numbers)
-    (as_many : lent.summary ≡ length looked.summary) (d : Decided index lent looked wrong [] 0) where
+    (as_many : lent.summary ≡ length looked.summary) {A : Type 0} {r : Result A Refusal} {a : A} (d : Decided index lent looked wrong [] r) (z : r ≡ Ok a) where
   abbrev some_slices : Slices
   some_slices =
       slices (replicate lent.vectors 0) (replicate lent.targets 0) (replicate lent.edges 0) (replicate lent.versions 0) looked.marks (replicate lent.pool 0)
@@ -338,7 +337,7 @@ module _ (index : Index) {lent : Lengths} {looked : Labels} {wrong : Bool} (long
   }
 
   pub decided_passed : Passed index some_slices
-  decided_passed = passed index some_slices tt (subst (λ n. Decided index n looked wrong [] 0) so_long d) refl
+  decided_passed = passed index some_slices (subst (λ n. Decided index n looked wrong [] r) so_long d) z
 
   -- the numbers can be looked up
   pub decided_listed : Listed looked.numbers looked.summary index.live
@@ -346,7 +345,7 @@ module _ (index : Index) {lent : Lengths} {looked : Labels} {wrong : Bool} (long
   decided_listed = let p = decided_passed in labelled_listed p.labelled p.live_right p.numbers_long p.capacity_high
 
   pub decided_not_wrong : wrong ≡ false
-  decided_not_wrong = not_wrong index some_slices tt (subst (λ n. Decided index n looked wrong [] 0) so_long d) refl
+  decided_not_wrong = not_wrong index some_slices (subst (λ n. Decided index n looked wrong [] r) so_long d) z
 
   pub decided_live : index.live ≡ length (filter (is_valid looked.marks) (range 0 index.capacity))
   unfolding store_view state_of

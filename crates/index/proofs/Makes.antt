@@ -1,16 +1,15 @@
 -- Making an index: what the code finds is what the table says, and what it leaves is what making makes. Assumes nothing.
-use Prim.Native.Nat.{ℕ, ◌+◌, ◌-◌, ◌*◌, ◌≤◌, ◌<◌}
+use Prim.Native.Nat.{ℕ, ◌-◌, ◌*◌, ◌≤◌}
 use mathlib.Core.Bool.{Bool, true, false, not, ◌&&◌, ◌||◌}
 use mathlib.Core.Path.{◌≡◌, refl, sym, ap, ◌∙◌, subst}
 use mathlib.Core.List.{List, [], ◌∷◌, ◌++◌}
-use mathlib.Core.Option.{some}
-use native.Mathlib.Numerals.{add-one}
+use mathlib.Core.Option.{none}
 use native.Mathlib.Omega.{arith}
-use borrow.Author.Tests.{eq-eqb, ne_eqb, lt-ltb, le-ltb, eqb-true, not-true, not-false}
+use borrow.Author.Tests.{eqb-true, not-true, not-false}
 use lib.Ieee.{Float}
-use lib.ListN.{length, drop, get_or, replicate, drop_of_length-le, length-append, length-replicate}
-use lib.Seq.{drop-cons}
-use lib.Dec.{eqb, ltb}
+use lib.ListN.{length, replicate, length-append, length-replicate}
+use lib.Dec.{eqb, ltb, leb}
+use Rattle.std.specs.List.{list_any}
 use Rattle.lists.proofs.Bools.{and_both}
 use Rattle.slots.specs.View.{View}
 use Rattle.slots.specs.Store.{blank, store_view, store_ops}
@@ -21,87 +20,64 @@ use Rattle.numbers.proofs.Kept.{made_distinct}
 use Rattle.slots.specs.Inner.Making.{Room, New}
 use Rattle.slots.proofs.New.{Accepted, agree_new}
 use Rattle.index.specs.declared.Index.{Index}
-use Rattle.index.specs.declared.Guard.TheVariants.{Off}
-use Rattle.index.specs.declared.Created.{Created}
-use Rattle.index.specs.declared.Created.TheVariants.{Refused, Done}
+use Rattle.std.specs.Prelude.{None, Result, Ok, Err}
+use Rattle.index.specs.declared.Refusal.{Refusal}
+use Rattle.index.specs.declared.Refusal.TheVariants as Refused
+use Rattle.index.specs.Refusal.{turned_back}
 use Rattle.slots.specs.Sizes.{Slices, Lengths, lengths_of, limits, sizes_ok, alpha_ok, lengths_ok}
 use Rattle.calls.specs.Calls.{Making}
-use Rattle.calls.specs.Refusals.{first_of, or_zero, names_given, entry_given, making_tests}
+use Rattle.calls.specs.Refusals.{first_of, names_given, entry_given, making_tests}
 use Rattle.calls.specs.State.{stored, plain, made}
 use Rattle.index.specs.Index.{sizes, guard_of, state_of}
-use Rattle.index.specs.Create.{making, Creates}
-use Rattle.index.specs.Inner.Making.{fresh_index, making_of, NumberRoom, NewNumbers}
+use Rattle.index.specs.Create.{Creates}
+use Rattle.index.specs.Inner.Making.{making_of, NumberRoom, NewNumbers}
 use Rattle.index.specs.Inner.Deciding.{Judged}
-use Rattle.index.proofs.Decide.{first_number, sized as sized_ranges}
-use Rattle.calls.proofs.Tests.{none_judged, lengths_made, capacity_within, numbers_given, accepted}
+use Rattle.index.proofs.Decide.{ltb_leb, sized as sized_ranges}
+use Rattle.calls.proofs.Tests.{lengths_made, capacity_within, numbers_given, accepted}
 use Rattle.calls.proofs.Count.{stored_given}
 
--- ---- row 5, one word a turn
+-- ---- row 5: a word that is neither blank nor a given slot
 
--- what is left of the words decides
-pub record Naming (count : ℕ) (rows : List ℕ) (i : ℕ) : Type 0 where
-  pub left : names_given count (drop i rows) ≡ names_given count rows
-
-pub naming_none : (count : ℕ) (rows : List ℕ) → Naming count rows 0
-naming_none count rows = record { left = refl }
-
-module _ {count : ℕ} {rows : List ℕ} {i : ℕ} (h : i < length rows) (k : Naming count rows i) where
-  step : ((eqb (get_or rows i 0) blank || ltb (get_or rows i 0) count) && names_given count (drop (i + 1) rows)) ≡ names_given count rows
-  step = (let e : drop i rows ≡ get_or rows i 0 ∷ drop (i + 1) rows = rw (add-one i) (drop-cons rows i 0 h) in ap (names_given count) (sym e)) ∙ k.left
-
-  pub naming_blank : get_or rows i 0 ≡ blank → Naming count rows (i + 1)
-  naming_blank e = record { left = rw (eq-eqb (get_or rows i 0) blank e) at step }
-
-  pub naming_given : (get_or rows i 0 ≡ blank → ⊥) → get_or rows i 0 < count → Naming count rows (i + 1)
-  naming_given n l = record { left = rw (ne_eqb (get_or rows i 0) blank n, lt-ltb (get_or rows i 0) count l) at step }
-
-  pub naming_bad : (get_or rows i 0 ≡ blank → ⊥) → count ≤ get_or rows i 0 → true ≡ not (names_given count rows)
-  naming_bad n l = ap not (rw (ne_eqb (get_or rows i 0) blank n, le-ltb (get_or rows i 0) count l) at step)
-
-pub naming_done : {count : ℕ} {rows : List ℕ} {i : ℕ} → length rows ≤ i → Naming count rows i → false ≡ not (names_given count rows)
-naming_done {count} {rows} {i} h k = ap not (rw (drop_of_length-le rows h) at k.left)
-
--- ---- the entry
-
-pub entry_taken : {entry count : ℕ} → entry < count → false ≡ not (entry_given count entry)
-entry_taken {entry} {count} h = rw (lt-ltb entry count h)
-
-pub entry_none : {entry count : ℕ} → count ≤ entry → count ≡ 0 → not (eqb entry 0) ≡ not (entry_given count entry)
-entry_none {entry} {count} h z = rw (le-ltb entry count h, eq-eqb count 0 z)
-
-pub entry_left : {entry count : ℕ} → count ≤ entry → (count ≡ 0 → ⊥) → true ≡ not (entry_given count entry)
-entry_left {entry} {count} h z = rw (le-ltb entry count h, ne_eqb count 0 z)
+pub named_any : (count : ℕ) (rows : List ℕ) → list_any (λ t. not (eqb t blank) && leb count t) rows ≡ not (names_given count rows)
+named_any count [] = refl
+named_any count (t ∷ ts) = rw (ltb_leb t count) (go (eqb t blank) (leb count t) (named_any count ts))
+  where
+    go : (b l : Bool) → list_any (λ t. not (eqb t blank) && leb count t) ts ≡ not (names_given count ts)
+        → (not b && l) || list_any (λ t. not (eqb t blank) && leb count t) ts ≡ not ((b || not l) && names_given count ts)
+    go true l e = e
+    go false true e = refl
+    go false false e = e
 
 -- ---- the tests, one after the other
 
-module _ {m : Making} {lent : Lengths} {r₁ : Bool}
+module _ {m : Making} {lent : Lengths} {r₁ : Bool} {A : Type 0}
     (sized : (alpha : Float) → r₁ ≡ not (sizes_ok limits (sizes m.sizes.dim m.sizes.capacity m.sizes.degree alpha))) where
-  pub judged_sizes : r₁ ≡ true → Judged m lent 1
+  pub judged_sizes : r₁ ≡ true → Judged m lent {A = A} (Err Refused.Sizes)
   unfolding making_tests
   judged_sizes t₁ = record { does = rw (sym (sized m.sizes.alpha) ∙ t₁) }
 
   module _ {r₂ : Bool} (t₁ : r₁ ≡ false) (grown : r₂ ≡ not (alpha_ok m.sizes.alpha)) where
-    pub judged_alpha : r₂ ≡ true → Judged m lent 2
+    pub judged_alpha : r₂ ≡ true → Judged m lent {A = A} (Err Refused.Alpha)
     unfolding making_tests
     judged_alpha t₂ = record { does = rw (sym (sized m.sizes.alpha) ∙ t₁, sym grown ∙ t₂) }
 
     module _ {r₃ : Bool} (t₂ : r₂ ≡ false)
         (long : (alpha : Float) → r₃ ≡ not (lengths_ok limits (sizes m.sizes.dim m.sizes.capacity m.sizes.degree alpha) lent)) where
-      pub judged_lengths : r₃ ≡ true → Judged m lent 3
+      pub judged_lengths : r₃ ≡ true → Judged m lent {A = A} (Err Refused.Lengths)
       unfolding making_tests
       judged_lengths t₃ =
           let q = lengths_ok limits m.sizes lent in
           record { does = rw (sym (sized m.sizes.alpha) ∙ t₁, sym grown ∙ t₂, not-true q (sym (long m.sizes.alpha) ∙ t₃)) }
 
       module _ {r₄ : Bool} (t₃ : r₃ ≡ false) (given : r₄ ≡ not (eqb (length m.bytes) (m.count * m.sizes.dim) && eqb (length m.rows) (m.count * m.sizes.degree) && eqb (length m.numbers) m.count)) where
-        pub judged_given : r₄ ≡ true → Judged m lent 3
+        pub judged_given : r₄ ≡ true → Judged m lent {A = A} (Err Refused.Lengths)
         unfolding making_tests
         judged_given t₄ =
             let q = lengths_ok limits m.sizes lent in
             record { does = rw (sym (sized m.sizes.alpha) ∙ t₁, sym grown ∙ t₂, not-false q (sym (long m.sizes.alpha) ∙ t₃), sym given ∙ t₄) }
 
-        pub judged_rest : {r : ℕ} → r₄ ≡ false
-            → r ≡ or_zero (first_of ((4, ltb m.sizes.capacity m.count) ∷ (5, not (names_given m.count m.rows && entry_given m.count m.entry)) ∷ (15, taken [] m.numbers) ∷ []))
+        pub judged_rest : {r : Result A Refusal} → r₄ ≡ false
+            → turned_back r ≡ first_of ((4, ltb m.sizes.capacity m.count) ∷ (5, not (names_given m.count m.rows && entry_given m.count m.entry)) ∷ (15, taken [] m.numbers) ∷ [])
             → Judged m lent r
         unfolding making_tests
         judged_rest t₄ e =
@@ -140,7 +116,7 @@ module _ {given numbers summary : List ℕ} (k : NumberRoom given numbers summar
   }
 
 -- what is written, with the new index by value, is what making makes
-made_new : {index : Index} {bytes rows given : List ℕ} {s : Slices} → index.guard ≡ Off
+made_new : {index : Index} {bytes rows given : List ℕ} {s : Slices} → index.guard ≡ None
     → Accepted (sizes index.dim index.capacity index.degree index.alpha) index.live bytes rows index.entry
     → New index.dim index.capacity index.degree index.live bytes rows s.vectors s.targets s.edges s.versions s.marks s.pool
     → length given ≡ index.live → NewNumbers given index.capacity s.numbers s.summary
@@ -164,21 +140,17 @@ made_new {index} {bytes} {rows} {given} {s} g ok w many k =
       summary = summary i;
     }
 
--- ---- what the number says
+-- ---- what the answer says
 
-module _ {m : Making} (s : Slices) {r : ℕ} (j : Judged m (lengths_of s) r) where
-  -- a making that is turned back
-  pub creates_back : (r ≡ 0 → ⊥) → Creates m s s (Refused r)
-  creates_back n = record {
-    back = λ k e. record { number = first_number _ r j.does n ∙ ap some (let q : r ≡ k = cc in q); kept = refl };
-    done = λ i e. absurd (let z : ◌≡◌ {A = ℕ} 0 1 = cc in omega arith);
-  }
+module _ {m : Making} (s : Slices) {A : Type 0} {r : Result A Refusal} (j : Judged m (lengths_of s) r) where
+  judged_none : {a : A} → r ≡ Ok a → first_of (making_tests limits (lengths_of s) m) ≡ none
+  judged_none z = sym j.does ∙ ap turned_back z
 
   -- one that is not has the room for what it writes
-  pub creates_room : r ≡ 0
+  pub creates_room : {a : A} → r ≡ Ok a
       → Room m.sizes.dim m.sizes.capacity m.sizes.degree m.count m.bytes m.rows s.vectors s.targets s.edges s.versions s.marks s.pool
   creates_room z =
-      let h = none_judged _ m (sym j.does ∙ z) in
+      let h = judged_none z in
       let ok = accepted _ m h in
       let l = lengths_made _ m h in
       record {
@@ -194,10 +166,10 @@ module _ {m : Making} (s : Slices) {r : ℕ} (j : Judged m (lengths_of s) r) whe
       }
 
   -- nor a number given twice
-  pub creates_number_room : r ≡ 0 → NumberRoom m.numbers s.numbers s.summary
+  pub creates_number_room : {a : A} → r ≡ Ok a → NumberRoom m.numbers s.numbers s.summary
   unfolding limits
   creates_number_room z =
-      let h = none_judged _ m (sym j.does ∙ z) in
+      let h = judged_none z in
       let ok = accepted _ m h in
       let l = lengths_made _ m h in
       let given = numbers_given _ m h in
@@ -210,26 +182,17 @@ module _ {m : Making} (s : Slices) {r : ℕ} (j : Judged m (lengths_of s) r) whe
       }
 
 -- and what it writes is the new index
-pub creates_done : {index : Index} {bytes rows given : List ℕ} (before after : Slices) {r : ℕ}
-    → Judged (making_of index bytes rows given) (lengths_of before) r → r ≡ 0 → index.guard ≡ Off
+pub creates_done : {index : Index} {bytes rows given : List ℕ} (before after : Slices) {A : Type 0} {r : Result A Refusal} {a : A}
+    → Judged (making_of index bytes rows given) (lengths_of before) r → r ≡ Ok a → index.guard ≡ None
     → New index.dim index.capacity index.degree index.live bytes rows after.vectors after.targets after.edges after.versions after.marks after.pool
     → NewNumbers given (length before.numbers) after.numbers after.summary
-    → Creates (making_of index bytes rows given) before after (Done index)
+    → Creates (making_of index bytes rows given) before after (Ok index)
 creates_done {index} {bytes} {rows} {given} before after j z g w k =
     let m = making_of index bytes rows given in
-    let h = none_judged _ m (sym j.does ∙ z) in
+    let h = judged_none before j z in
     let n = ap (λ x. x.numbers) (lengths_made _ m h) in
     let new = made_new g (accepted _ m h) w (numbers_given _ m h).0 (subst (λ n. NewNumbers given n after.numbers after.summary) n k) in
     record {
-      back = λ n q. absurd (let z : ◌≡◌ {A = ℕ} 0 1 = cc in omega arith);
+      back = λ n q. cc;
       done = λ i q. let k : i ≡ index = cc in record { accepted = h; new = ap (λ k. state_of k after) k ∙ new };
     }
-
--- the new index by value
-module _ {dim capacity degree : ℕ} {alpha : Float} {entry count : ℕ} {index : Index} (e : index ≡ fresh_index dim capacity degree alpha entry count) where
-  pub fresh_off : index.guard ≡ Off
-  fresh_off = ap (λ i. i.guard) e
-
-  pub creates_fresh : {bytes rows given : List ℕ} {before after : Slices} {v : Created}
-      → Creates (making_of index bytes rows given) before after v → Creates (making dim capacity degree alpha entry count bytes rows given) before after v
-  creates_fresh {bytes} {rows} {given} {before} {after} {v} c = subst (λ i. Creates (making_of i bytes rows given) before after v) e c

@@ -1,11 +1,11 @@
 -- What a call of `create` leaves and answers. Assumes nothing.
-use Rattle.std.specs.Prelude.{ℕ, List, [], ◌≡◌, Float}
+use Rattle.std.specs.Prelude.{ℕ, List, [], ◌≡◌, Float, Result, Ok, Err}
 use Rattle.std.proofs.Math.Option.{none, some}
 use Rattle.slots.specs.Sizes.{Slices, lengths_of, limits}
 use Rattle.slots.specs.Store.{Store}
 use Rattle.index.specs.declared.Index.{Index}
-use Rattle.index.specs.declared.Created.{Created}
-use Rattle.index.specs.declared.Created.TheVariants.{Refused, Done}
+use Rattle.index.specs.declared.Refusal.{Refusal}
+use Rattle.index.specs.Refusal.{number_of}
 use Rattle.calls.specs.Calls.{Making, Answer, create, refused, created}
 use Rattle.calls.specs.Refusals.{first_of, making_tests}
 use Rattle.calls.specs.State.{State, state, stored, made}
@@ -31,23 +31,23 @@ module _ (m : Making) (before after : Slices) where
     pub new : state_of i after ≡ made stored m
 
   -- what `create` promises: that this is what `step` gives, whatever index the app had before, is `create_meets`
-  pub record Creates (r : Created) : Type 0 where
-    pub back : (n : ℕ) → r ≡ Refused n → TurnedBack n
-    pub done : (i : Index) → r ≡ Done i → CarriedOut i
+  pub record Creates (r : Result Index Refusal) : Type 0 where
+    pub back : (e : Refusal) → r ≡ Err e → TurnedBack (number_of e)
+    pub done : (i : Index) → r ≡ Ok i → CarriedOut i
 
 -- ---- a run of `create`, whatever index the app had before
 
-unfoldable pub created_as : Created → Answer
-created_as (Refused n) = refused n
-created_as (Done i) = created
+unfoldable pub created_as : Result Index Refusal → Answer
+created_as (Err e) = refused (number_of e)
+created_as (Ok i) = created
 
 -- the index that the app has: the one that it had, or the new one
-unfoldable pub left_by : Created → State Store → Slices → State Store
-left_by (Refused n) w s = state (value_of w) s
-left_by (Done i) w s = state_of i s
+unfoldable pub left_by : Result Index Refusal → State Store → Slices → State Store
+left_by (Err e) w s = state (value_of w) s
+left_by (Ok i) w s = state_of i s
 
 -- `create` takes neither outputs nor scratch
-abbrev pub create_run : Making → State Store → Slices → Slices → Created → Run
+abbrev pub create_run : Making → State Store → Slices → Slices → Result Index Refusal → Run
 create_run m w before after r =
     record {
       operation = create m;

@@ -1,5 +1,5 @@
 -- The index by value with its eight lent slices, as the definitions' state; the size answer. Assumes nothing.
-use Rattle.std.specs.Prelude.{ℕ, cond, Float}
+use Rattle.std.specs.Prelude.{ℕ, cond, Float, Option, Some, None, Result, Ok, Err}
 use Rattle.slots.specs.Sizes.{Sizes, Slices, limits, sizes_ok}
 use Rattle.slots.specs.Sizes as Sizes
 use Rattle.slots.specs.Scratch.{size_answer}
@@ -8,15 +8,13 @@ use Rattle.guard.specs.Guard.{config, off, on}
 use Rattle.guard.specs.Guard as Guards
 use Rattle.index.specs.declared.Index.{Index}
 use Rattle.index.specs.declared.Lengths.{Lengths}
-use Rattle.index.specs.declared.ScratchWords.{ScratchWords}
-use Rattle.index.specs.declared.ScratchWords.TheVariants.{Refused, Words}
-use Rattle.index.specs.declared.Guard.{Guard}
-use Rattle.index.specs.declared.Guard.TheVariants.{Off, On}
+use Rattle.index.specs.declared.Settings.{Settings}
+use Rattle.index.specs.declared.Refusal.{Refusal}
 use Rattle.calls.specs.State.{State, Value, state}
 
 -- the size answer; 1 outside the ranges
-unfoldable pub words_for : Sizes → ScratchWords
-words_for z = cond (sizes_ok limits z) (Words (size_answer z.capacity)) (Refused 1)
+unfoldable pub words_for : Sizes → Result ℕ Refusal
+words_for z = cond (sizes_ok limits z) (Ok (size_answer z.capacity)) (Err Refusal.Sizes)
 
 -- sizes, one by one
 abbrev pub sizes : ℕ → ℕ → ℕ → Float → Sizes
@@ -39,9 +37,9 @@ lengths_in l =
       summary = l.summary;
     }
 
-unfoldable pub guard_of : Guard → Guards.Guard
-guard_of Off = off
-guard_of (On s) = on (config s.count s.multiplier s.sample s.beam) s.pool
+unfoldable pub guard_of : Option Settings → Guards.Guard
+guard_of None = off
+guard_of (Some s) = on (config s.count s.multiplier s.sample s.beam) s.pool
 
 -- the index in the definitions' terms
 abbrev pub index_value : Index → Value

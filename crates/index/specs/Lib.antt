@@ -1,3 +1,4 @@
+pub mod Refusal
 pub mod Index
 pub mod Run
 pub mod Create

@@ -17,13 +17,7 @@ pub struct Settings {
     pub pool: u32,
 }
 
-#[derive(Clone, Copy)]
-pub enum Guard {
-    Off,
-    On(Settings),
-}
-
-// An index without its eight slices.
+// An index without its eight slices; its guard is off where it has no settings.
 #[derive(Clone, Copy)]
 pub struct Index {
     pub dim: u32,
@@ -32,11 +26,11 @@ pub struct Index {
     pub alpha: f32,
     pub entry: u32,
     pub live: u32,
-    pub guard: Guard,
+    pub guard: Option<Settings>,
 }
 
 // The lengths of the eight slices.
-#[derive(Clone, Copy)]
+#[derive(Clone, Copy, PartialEq)]
 pub struct Lengths {
     pub vectors: usize,
     pub targets: usize,
@@ -48,16 +42,30 @@ pub struct Lengths {
     pub summary: usize,
 }
 
-// The size answer, or the number of a refusal.
-#[derive(Clone, Copy)]
-pub enum ScratchWords {
-    Refused(u32),
-    Words(u32),
-}
-
-// A new index, or the number of a refusal.
-#[derive(Clone, Copy)]
-pub enum Created {
-    Refused(u32),
-    Done(Index),
+// Why a call is turned back: the rows of document 01's table, by their numbers, and document 02's 15.
+#[derive(Clone, Copy, PartialEq, Eq, Debug)]
+pub enum Refusal {
+    // dim, capacity or degree
+    Sizes = 1,
+    Alpha = 2,
+    // of the slices lent, the query, the lists for answers
+    Lengths = 3,
+    // more vectors given than slots
+    Count = 4,
+    // a row or the entry names no slot given
+    Names = 5,
+    // live count, entry, guard, figure numbers do not fit the slices
+    Index = 6,
+    // beams, degrees, lists of names, settings
+    Limits = 7,
+    Scratch = 8,
+    // no whole vectors
+    Bytes = 9,
+    // fewer slots are free than vectors given
+    Full = 10,
+    GuardOff = 11,
+    NoneLive = 12,
+    NoLandmark = 13,
+    // a figure number is 0, taken, or twice in the list
+    Numbers = 15,
 }

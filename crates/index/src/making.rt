@@ -1,19 +1,18 @@
 // Making an index.
-ghost use Rattle.std.specs.Prelude.{not, ◌&&◌, ◌∷◌, [], ◌≡◌, ◌*◌, ◌≤◌, eqb, ltb, length};
+ghost use Rattle.std.specs.Prelude.{None, not, ◌&&◌, ◌∷◌, [], ◌≡◌, ◌*◌, ◌≤◌, eqb, ltb, length};
 ghost use Rattle.slots.specs.Sizes.{slices};
 ghost use Rattle.slots.specs.Inner.Making.{Room, New};
 ghost use Rattle.numbers.specs.Numbers.{taken};
-ghost use Rattle.index.specs.declared.Guard.TheVariants.{Off};
-ghost use Rattle.calls.specs.Refusals.{first_of, or_zero, names_given, entry_given};
+ghost use Rattle.calls.specs.Refusals.{first_of, names_given, entry_given};
 ghost use Rattle.index.specs.Index.{lengths_in};
 ghost use Rattle.index.specs.Create.{making, Creates};
 ghost use Rattle.index.specs.Inner.Making.{fresh_index, making_of, NumberRoom, NewNumbers};
 ghost use Rattle.index.specs.Inner.Deciding.{Judged};
+ghost use Rattle.index.specs.Refusal.{turned_back};
 
 use super::refusals::{alpha_bad, lengths_bad, product, sizes_bad};
-use super::{Created, Guard, Index, Lengths};
+use super::{Index, Lengths, Refusal};
 use numbers::{repeated, summarize};
-use slots::marks::wide;
 use slots::parts::lay;
 use slots::rows::BLANK;
 
@@ -21,78 +20,68 @@ use slots::rows::BLANK;
 fn names_bad(rows: &[u32], count: u32) -> bool
     ensures { result ≡ not (names_given count rows.now) }
 {
-    let mut i: usize = 0;
-    while i < rows.len() {
-        let t = rows[i];
-        if t != BLANK {
-            if count <= t {
-                return true;
-            }
-        }
-        i += 1;
-    }
-    false
+    rows.iter().any(|&t| t != BLANK && count <= t)
 }
 
 // Row 5, of the entry: it is no given slot, or not 0 where none is given.
 fn entry_bad(entry: u32, count: u32) -> bool
     ensures { result ≡ not (entry_given count entry) }
 {
-    if entry < count {
-        return false;
-    }
-    if count == 0 {
-        return entry != 0;
-    }
-    true
+    count <= entry && !(count == 0 && entry == 0)
 }
 
 // Row 3, of the given vectors, rows and numbers: one of them has another length.
 fn given_bad(dim: u32, degree: u32, count: u32, bytes: usize, rows: usize, numbers: usize) -> bool
     ensures { result ≡ not (eqb bytes (count * dim) && eqb rows (count * degree) && eqb numbers count) }
 {
-    if bytes != product(count, dim) {
-        return true;
-    }
-    if rows != product(count, degree) {
-        return true;
-    }
-    numbers != wide(count)
+    bytes != product(count, dim) || rows != product(count, degree) || numbers != count as usize
 }
 
-// The first of rows 4, 5 and 15 that turns a making back, else 0.
-fn given_refusal(capacity: u32, entry: u32, count: u32, rows: &[u32], numbers: &[u32]) -> u32
+// Turns a making back by the first of rows 4, 5 and 15 that holds.
+fn check_given(
+    capacity: u32,
+    entry: u32,
+    count: u32,
+    rows: &[u32],
+    numbers: &[u32],
+) -> Result<(), Refusal>
     requires { (capacity ≤ 65536) × (length numbers.now ≡ count) }
-    ensures { result ≡ or_zero (first_of ((4, ltb capacity count) ∷ (5, not (names_given count rows.now && entry_given count entry)) ∷ (15, taken [] numbers.now) ∷ [])) }
+    ensures { turned_back result ≡ first_of ((4, ltb capacity count) ∷ (5, not (names_given count rows.now && entry_given count entry)) ∷ (15, taken [] numbers.now) ∷ []) }
 {
     if capacity < count {
-        return 4;
+        return Err(Refusal::Count);
     }
     if names_bad(rows, count) {
-        return 5;
+        return Err(Refusal::Names);
     }
     if entry_bad(entry, count) {
-        return 5;
+        return Err(Refusal::Names);
     }
     // 0 counts too
     if repeated(numbers) {
-        return 15;
+        return Err(Refusal::Numbers);
     }
-    0
+    Ok(())
 }
 
-// The first of rows 1 to 5 and 15 that turns a making back, else 0.
-fn making_refusal(index: Index, bytes: &[u8], rows: &[u32], given: &[u32], lent: Lengths) -> u32
+// Turns a making back by the first of rows 1 to 5 and 15 that holds.
+fn check_making(
+    index: Index,
+    bytes: &[u8],
+    rows: &[u32],
+    given: &[u32],
+    lent: Lengths,
+) -> Result<(), Refusal>
     ensures { Judged (making_of index bytes.now rows.now given.now) (lengths_in lent) result }
 {
     if sizes_bad(index.dim, index.capacity, index.degree) {
-        return 1;
+        return Err(Refusal::Sizes);
     }
     if alpha_bad(index.alpha) {
-        return 2;
+        return Err(Refusal::Alpha);
     }
     if lengths_bad(index.dim, index.capacity, index.degree, lent) {
-        return 3;
+        return Err(Refusal::Lengths);
     }
     if given_bad(
         index.dim,
@@ -102,9 +91,9 @@ fn making_refusal(index: Index, bytes: &[u8], rows: &[u32], given: &[u32], lent:
         rows.len(),
         given.len(),
     ) {
-        return 3;
+        return Err(Refusal::Lengths);
     }
-    given_refusal(index.capacity, index.entry, index.live, rows, given)
+    check_given(index.capacity, index.entry, index.live, rows, given)
 }
 
 // A new index of which the first `count` slots are given.
@@ -118,7 +107,7 @@ fn new_index(dim: u32, capacity: u32, degree: u32, alpha: f32, entry: u32, count
         alpha,
         entry,
         live: count,
-        guard: Guard::Off,
+        guard: None,
     }
 }
 
@@ -169,8 +158,8 @@ fn make(
     pool: &mut [u32],
     numbers: &mut [u32],
     summary: &mut [u32],
-) -> Created
-    requires { index.guard ≡ Off }
+) -> Result<Index, Refusal>
+    requires { index.guard ≡ None }
     ensures { Creates (making_of index bytes.now rows.now given.now) (slices vectors.old targets.old edges.old versions.old marks.old pool.old numbers.old summary.old) (slices vectors.new targets.new edges.new versions.new marks.new pool.new numbers.new summary.new) result }
 {
     let lent = Lengths {
@@ -183,15 +172,13 @@ fn make(
         numbers: numbers.len(),
         summary: summary.len(),
     };
-    let r = making_refusal(index, bytes, rows, given, lent);
-    if r != 0 {
-        return Created::Refused(r);
-    }
+    let checked = check_making(index, bytes, rows, given, lent);
+    checked?;
     write(
         index, bytes, rows, vectors, targets, edges, versions, marks, pool,
     );
     write_labels(given, numbers, summary);
-    Created::Done(index)
+    Ok(index)
 }
 
 // Makes an index of the given vectors, rows and numbers in the eight lent slices, whatever they hold.
@@ -213,7 +200,7 @@ pub fn create(
     pool: &mut [u32],
     numbers: &mut [u32],
     summary: &mut [u32],
-) -> Created
+) -> Result<Index, Refusal>
     ensures { Creates (making dim capacity degree alpha entry count bytes.now rows.now given.now) (slices vectors.old targets.old edges.old versions.old marks.old pool.old numbers.old summary.old) (slices vectors.new targets.new edges.new versions.new marks.new pool.new numbers.new summary.new) result }
 {
     let index = new_index(dim, capacity, degree, alpha, entry, count);

@@ -1,171 +1,157 @@
 // Lines that prepare calls: what is lent and given, and what is altered by hand.
-ghost use Rattle.std.specs.Prelude.{◌≤◌};
+ghost use Rattle.std.specs.Prelude.{◌≡◌, ◌≤◌, length, take, min};
 
-use super::kinds::{GIVE, LEND, NOTE, NUMBERS, ROWS, SET, STORE};
-use super::words::Word;
-use index::{Guard, Index, Settings};
-use text::{Number, after, ends, first};
+use super::words::Preparing;
+use index::{Index, Settings};
+use text::{Differs, Numbers, small};
 
-// How many lengths a line `lend` has; after them come those of the given vectors, rows and numbers.
-pub const LENT: usize = 12;
+// The whole length of each array that is lent, in the order of a line `lend`.
+const MOST: [u32; 12] = [
+    262144, 131072, 131072, 65536, 65536, 1024, 65536, 65536, 1024, 1024, 1024, 235520,
+];
 
-pub const GIVEN: usize = 12;
-
-pub const GIVEN_ROWS: usize = 13;
-
-pub const GIVEN_NUMBERS: usize = 14;
-
-// The whole length of each array that is lent.
-pub fn most(i: usize) -> u32 {
-    match i {
-        0 => 262144,
-        1 => 131072,
-        2 => 131072,
-        3 => 65536,
-        4 => 65536,
-        5 => 1024,
-        6 => 65536,
-        7 => 65536,
-        8 => 1024,
-        9 => 1024,
-        10 => 1024,
-        _ => 235520,
-    }
-}
-
-// A number as a length.
-pub fn wide(n: u32) -> usize {
-    n as usize
-}
-
-// How much of each array is lent to a call.
+// How much of each array is lent to a call, and how much is given.
 #[derive(Clone, Copy)]
 pub struct Lent {
-    pub of: [usize; 15],
+    pub vectors: usize,
+    pub targets: usize,
+    pub edges: usize,
+    pub versions: usize,
+    pub marks: usize,
+    pub pool: usize,
+    pub numbers: usize,
+    pub summary: usize,
+    pub slots: usize,
+    pub dists: usize,
+    pub found: usize,
+    pub words: usize,
+    pub given: usize,
+    pub rows: usize,
+    pub figures: usize,
 }
 
-// An index, what is lent to its calls, and whether the line was performed and its answer agrees.
+// An index, and what is lent to its calls.
 #[derive(Clone, Copy)]
-pub struct Step {
+pub struct State {
     pub index: Index,
     pub lent: Lent,
-    pub good: bool,
 }
 
-// A length that was asked for, or what there is.
-pub fn least(asked: usize, most: usize) -> usize
-    ensures { result ≤ most }
+// What is lent of an array.
+pub fn part<T>(of: &[T], lent: usize) -> &[T]
+    ensures { (result.now ≡ take (min lent (length of.now)) of.now) × (length result.now ≤ length of.now) }
 {
-    if asked < most { asked } else { most }
+    &of[..lent.min(of.len())]
 }
 
-// What is lent of an array of `most`.
-pub fn part(lent: Lent, i: usize, most: usize) -> usize
-    ensures { result ≤ most }
+// The same of one that is written.
+pub fn part_mut<T>(of: &mut [T], lent: usize) -> &mut [T]
+    ensures { (result.now ≡ take (min lent (length of.old)) of.old) × (length result.now ≤ length of.old) }
 {
-    if i < 15 { least(lent.of[i], most) } else { 0 }
+    let n = lent.min(of.len());
+    &mut of[..n]
+}
+
+// Reads lengths. One that asks for too much, or 0 where there is none, stands for those behind it too.
+fn lengths(line: &mut Numbers<'_>, to: &mut [usize; 12]) -> Result<(), Differs> {
+    for (i, most) in MOST.iter().enumerate() {
+        let n = line.number()?;
+        if *most < n {
+            to[i..].fill(n as usize);
+            return Err(Differs::TooMuch);
+        }
+        to[i] = n as usize;
+    }
+    Ok(())
 }
 
 // Performs a line `lend`.
-fn lend(line: &[u8], end: usize, step: Step) -> Step {
-    let mut lent = step.lent;
-    let mut last = Number {
-        value: 0,
-        next: end,
-        good: true,
+fn lend(line: &mut Numbers<'_>, lent: &mut Lent) -> Result<(), Differs> {
+    let mut all = [0usize; 12];
+    let read = lengths(line, &mut all);
+    let [
+        vectors,
+        targets,
+        edges,
+        versions,
+        marks,
+        pool,
+        numbers,
+        summary,
+        slots,
+        dists,
+        found,
+        words,
+    ] = all;
+    let old = *lent;
+    *lent = Lent {
+        vectors,
+        targets,
+        edges,
+        versions,
+        marks,
+        pool,
+        numbers,
+        summary,
+        slots,
+        dists,
+        found,
+        words,
+        ..old
     };
-    let mut i: usize = 0;
-    while i < LENT {
-        last = after(line, last);
-        if most(i) < last.value {
-            last.good = false;
-        }
-        lent.of[i] = wide(last.value);
-        i += 1;
-    }
-    gave(line, step, lent, last)
+    read?;
+    line.end()
 }
 
-// Reads as many bytes as `count` says into the start of `given`.
-pub fn bytes(line: &[u8], count: Number, given: &mut [u8]) -> Number {
-    let mut last = count;
-    let n = wide(count.value);
-    let mut i: usize = 0;
-    while i < n {
-        last = after(line, last);
-        if !last.good {
-            return last;
-        }
-        if !set_byte(given, i, last.value) {
-            last.good = false;
-        }
-        i += 1;
+// Reads n bytes into the start of `to`.
+pub fn bytes(line: &mut Numbers<'_>, n: usize, to: &mut [u8]) -> Result<(), Differs> {
+    for i in 0..n {
+        let byte = small(line.number()?)?;
+        *to.get_mut(i).ok_or(Differs::TooMuch)? = byte;
     }
-    last
+    Ok(())
 }
 
-// Writes a byte; whether it is one and has a place.
-fn set_byte(given: &mut [u8], i: usize, value: u32) -> bool {
-    if 255 < value {
-        return false;
+// Reads n words, each `more` than it is, into the start of `to`.
+fn words(line: &mut Numbers<'_>, n: usize, more: u32, to: &mut [u32]) -> Result<(), Differs> {
+    for i in 0..n {
+        let word = line.number()?.wrapping_sub(more);
+        *to.get_mut(i).ok_or(Differs::TooMuch)? = word;
     }
-    if i < given.len() {
-        given[i] = value as u8;
-        return true;
-    }
-    false
+    Ok(())
 }
 
-// Writes a half word; whether it is one and has a place.
-fn set_half(words: &mut [u16], i: usize, value: u32) -> bool {
-    if 65535 < value {
-        return false;
-    }
-    if i < words.len() {
-        words[i] = value as u16;
-        return true;
-    }
-    false
+// Performs a line `give`.
+fn give(line: &mut Numbers<'_>, count: &mut usize, given: &mut [u8]) -> Result<(), Differs> {
+    let n = line.argument() as usize;
+    *count = n;
+    bytes(line, n, given)?;
+    line.end()
 }
 
-// Writes a word; whether it has a place.
-fn set_word(words: &mut [u32], i: usize, value: u32) -> bool {
-    if i < words.len() {
-        words[i] = value;
-        return true;
-    }
-    false
-}
-
-// Reads as many words as `count` says, each `more` than it is, into the start of `given`.
-fn words(line: &[u8], count: Number, more: u32, given: &mut [u32]) -> Number {
-    let mut last = count;
-    let n = wide(count.value);
-    let mut i: usize = 0;
-    while i < n {
-        last = after(line, last);
-        if !last.good {
-            return last;
-        }
-        let word = std::num::wrapping_sub_u32(last.value, more);
-        if !set_word(given, i, word) {
-            last.good = false;
-        }
-        i += 1;
-    }
-    last
+// Performs a line `rows` or `numbers`, whose words are `more` than they are.
+fn give_words(
+    line: &mut Numbers<'_>,
+    count: &mut usize,
+    more: u32,
+    given: &mut [u32],
+) -> Result<(), Differs> {
+    let n = line.argument() as usize;
+    *count = n;
+    words(line, n, more, given)?;
+    line.end()
 }
 
 // Alpha from its multiple of 2^24.
 pub fn alpha_of(n: u32) -> f32 {
-    if n == 4294967295 {
-        return 0.0 / 0.0;
+    if n == u32::MAX {
+        return f32::NAN;
     }
     std::num::nearest_u32_to_f32(n) / 16777216.0
 }
 
-// Alters one setting of the guard, or the length of its pool.
-fn altered_settings(settings: Settings, field: u32, value: u32) -> Settings {
+// Alters one setting of a guard, or the length of its pool.
+fn altered(settings: Settings, field: u32, value: u32) -> Settings {
     let mut new = settings;
     match field {
         7 => new.count = value,
@@ -177,150 +163,45 @@ fn altered_settings(settings: Settings, field: u32, value: u32) -> Settings {
     new
 }
 
-// Alters the guard: field 6 turns it off, and the others change nothing where it is off.
-fn altered_guard(guard: Guard, field: u32, value: u32) -> Guard {
-    let Guard::On(settings) = guard else {
-        return Guard::Off;
-    };
-    if field == 6 {
-        return Guard::Off;
-    }
-    Guard::On(altered_settings(settings, field, value))
-}
-
-// An index with another guard.
-fn with_guard(index: Index, guard: Guard) -> Index {
-    Index {
-        dim: index.dim,
-        capacity: index.capacity,
-        degree: index.degree,
-        alpha: index.alpha,
-        entry: index.entry,
-        live: index.live,
-        guard,
-    }
-}
-
-// Alters one field of the index.
-fn altered(index: Index, field: u32, value: u32) -> Index {
-    let mut new = index;
+// Performs a line `set`. What alters the guard changes nothing where it is off; a field over 11 alters what 11 does, and the line differs.
+fn set(line: &mut Numbers<'_>, index: &mut Index) -> Result<(), Differs> {
+    let field = line.argument();
+    let value = line.argument();
     match field {
-        0 => new.dim = value,
-        1 => new.capacity = value,
-        2 => new.degree = value,
-        3 => new.alpha = alpha_of(value),
-        4 => new.entry = value,
-        5 => new.live = value,
+        0 => index.dim = value,
+        1 => index.capacity = value,
+        2 => index.degree = value,
+        3 => index.alpha = alpha_of(value),
+        4 => index.entry = value,
+        5 => index.live = value,
+        6 => index.guard = None,
         _ => {
-            let guard = index.guard;
-            return with_guard(index, altered_guard(guard, field, value));
+            if let Some(settings) = index.guard {
+                index.guard = Some(altered(settings, field, value));
+            }
         }
     }
-    new
+    if 11 < field {
+        return Err(Differs::Malformed);
+    }
+    line.end()
 }
 
-// Performs a line `set`.
-fn set(line: &[u8], end: usize, step: Step) -> Step {
-    let field = first(line, end);
-    let value = after(line, field);
-    let lent = step.lent;
-    Step {
-        index: altered(step.index, field.value, value.value),
-        lent,
-        good: ends(line, value) && field.value <= 11,
-    }
-}
-
-// Performs a line `set` or `lend`. A line that is neither, nor a note, has yet to be performed.
-pub fn set_or_lend(line: &[u8], word: Word, step: Step) -> Step {
-    if word.kind == SET {
-        return set(line, word.end, step);
-    }
-    if word.kind == LEND {
-        return lend(line, word.end, step);
-    }
-    let mut new = step;
-    new.good = word.kind == NOTE;
-    new
-}
-
-// The step after a line whose numbers were given.
-fn gave(line: &[u8], step: Step, lent: Lent, last: Number) -> Step {
-    let index = step.index;
-    Step {
-        index,
-        lent,
-        good: ends(line, last),
-    }
-}
-
-// Performs a line `give`, `rows` or `numbers`.
-pub fn give(
-    line: &[u8],
-    word: Word,
-    step: Step,
-    given: &mut [u8],
-    rows: &mut [u32],
-    figures: &mut [u32],
-) -> Step {
-    let mut lent = step.lent;
-    let count = first(line, word.end);
-    if word.kind == GIVE {
-        lent.of[GIVEN] = wide(count.value);
-        return gave(line, step, lent, bytes(line, count, given));
-    }
-    if word.kind == ROWS {
-        lent.of[GIVEN_ROWS] = wide(count.value);
-        return gave(line, step, lent, words(line, count, 1, rows));
-    }
-    if word.kind == NUMBERS {
-        lent.of[GIVEN_NUMBERS] = wide(count.value);
-        return gave(line, step, lent, words(line, count, 0, figures));
-    }
-    step
-}
-
-// What a line `store` alters; array 7 is none.
-#[derive(Clone, Copy)]
-struct Place {
-    array: u32,
-    i: usize,
-    value: u32,
-}
-
-// Whether a place of an array is lent.
-fn is_lent(lent: Lent, array: u32, i: usize) -> bool {
-    match array {
-        0 => i < lent.of[4],
-        1 => i < lent.of[3],
-        2 => i < lent.of[1],
-        3 => i < lent.of[2],
-        4 => i < lent.of[0],
-        5 => i < lent.of[6],
-        6 => i < lent.of[7],
-        _ => false,
-    }
-}
-
-// The place that a line `store` names, or none for any other line.
-fn place_of(line: &[u8], word: Word, lent: Lent) -> Place {
-    let array = first(line, word.end);
-    let place = after(line, array);
-    let value = after(line, place);
-    let i = wide(place.value);
-    let good = word.kind == STORE && ends(line, value) && is_lent(lent, array.value, i);
-    Place {
-        array: if good { array.value } else { 7 },
-        i,
-        value: value.value,
+// Writes a value to a place of an array, if it is lent.
+fn put<T: Copy>(to: &mut [T], lent: usize, place: usize, value: T) -> Result<(), Differs> {
+    match part_mut(to, lent).get_mut(place) {
+        None => Err(Differs::TooMuch),
+        Some(at) => {
+            *at = value;
+            Ok(())
+        }
     }
 }
 
 // Performs a line `store`.
-pub fn store(
-    line: &[u8],
-    word: Word,
-    step: Step,
+fn store(
+    line: &mut Numbers<'_>,
+    lent: Lent,
     vectors: &mut [u8],
     targets: &mut [u32],
     edges: &mut [u16],
@@ -328,19 +209,48 @@ pub fn store(
     marks: &mut [u8],
     numbers: &mut [u32],
     summary: &mut [u32],
-) -> Step {
-    let to = place_of(line, word, step.lent);
-    let array = to.array;
-    let mut new = step;
-    new.good = match array {
-        0 => set_byte(marks, to.i, to.value),
-        1 => set_half(versions, to.i, to.value),
-        2 => set_word(targets, to.i, to.value),
-        3 => set_half(edges, to.i, to.value),
-        4 => set_byte(vectors, to.i, to.value),
-        5 => set_word(numbers, to.i, to.value),
-        6 => set_word(summary, to.i, to.value),
-        _ => step.good,
-    };
-    new
+) -> Result<(), Differs> {
+    let array = line.number()?;
+    let place = line.number()? as usize;
+    let value = line.number()?;
+    line.end()?;
+    match array {
+        0 => put(marks, lent.marks, place, small(value)?),
+        1 => put(versions, lent.versions, place, small(value)?),
+        2 => put(targets, lent.targets, place, value),
+        3 => put(edges, lent.edges, place, small(value)?),
+        4 => put(vectors, lent.vectors, place, small(value)?),
+        5 => put(numbers, lent.numbers, place, value),
+        6 => put(summary, lent.summary, place, value),
+        _ => Err(Differs::Malformed),
+    }
+}
+
+// Performs a line that prepares a call.
+// The slices go one by one: tried as a struct of arrays, of which the borrow check covers no part that is lent to a call.
+pub fn perform(
+    what: Preparing,
+    line: &mut Numbers<'_>,
+    state: &mut State,
+    given: &mut [u8],
+    rows: &mut [u32],
+    figures: &mut [u32],
+    vectors: &mut [u8],
+    targets: &mut [u32],
+    edges: &mut [u16],
+    versions: &mut [u16],
+    marks: &mut [u8],
+    numbers: &mut [u32],
+    summary: &mut [u32],
+) -> Result<(), Differs> {
+    match what {
+        Preparing::Lend => lend(line, &mut state.lent),
+        Preparing::Give => give(line, &mut state.lent.given, given),
+        Preparing::Rows => give_words(line, &mut state.lent.rows, 1, rows),
+        Preparing::Numbers => give_words(line, &mut state.lent.figures, 0, figures),
+        Preparing::Set => set(line, &mut state.index),
+        Preparing::Store => store(
+            line, state.lent, vectors, targets, edges, versions, marks, numbers, summary,
+        ),
+    }
 }

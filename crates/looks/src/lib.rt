@@ -1,16 +1,15 @@
 // The lines of calls that leave an index as it is, each compared with the stored answer.
 #![tactic(auto)]
 
-use index::{Index, ScratchWords};
-use lines::kinds::{READ, SEARCH, VECTOR, WORDS};
-use lines::prepare::{Lent, Step, alpha_of, bytes, least, part, wide};
-use lines::words::Word;
-use reading::{Found, Reading, Value};
-use text::{Number, after, ends, first};
+use index::{Index, Refusal};
+use lines::prepare::{Lent, State, alpha_of, bytes, part, part_mut};
+use lines::words::Looking;
+use reading::{Reading, Value};
+use text::{Differs, Numbers};
 
 // What a number asks for.
-fn reading(what: u32, slot: u32, place: u32) -> Reading {
-    match what {
+fn reading(what: u32, slot: u32, place: u32) -> Result<Reading, Differs> {
+    let reading = match what {
         0 => Reading::Dim,
         1 => Reading::Capacity,
         2 => Reading::Degree,
@@ -20,24 +19,44 @@ fn reading(what: u32, slot: u32, place: u32) -> Reading {
         6 => Reading::Mark(slot),
         7 => Reading::Version(slot),
         8 => Reading::Target(slot, place),
-        _ => Reading::Number(slot),
-    }
+        9 => Reading::Number(slot),
+        _ => return Err(Differs::Malformed),
+    };
+    Ok(reading)
 }
 
-// Whether a reading answered as stored.
-fn same_value(got: Value, refusal: u32, value: u32) -> bool {
-    match got {
-        Value::Refused(r) => r == refusal,
-        Value::Number(n) => refusal == 0 && n == value,
-        Value::Alpha(a) => refusal == 0 && a == alpha_of(value),
-        Value::Version(v) => refusal == 0 && (v as u32) == value,
+// Passes a refusal and the number behind it, which is any.
+fn expect_refusal(line: &mut Numbers<'_>, refusal: u32) -> Result<(), Differs> {
+    line.expect(refusal)?;
+    line.number()?;
+    Ok(())
+}
+
+// Passes a factor, a number that is to be this alpha.
+fn expect_alpha(line: &mut Numbers<'_>, alpha: f32) -> Result<(), Differs> {
+    if alpha == alpha_of(line.number()?) {
+        return Ok(());
+    }
+    Err(Differs::Answer)
+}
+
+// Passes the answer to a reading.
+fn expect_value(line: &mut Numbers<'_>, got: Result<Value, Refusal>) -> Result<(), Differs> {
+    let value = match got {
+        Err(r) => return expect_refusal(line, r as u32),
+        Ok(value) => value,
+    };
+    line.expect(0)?;
+    match value {
+        Value::Number(n) => line.expect(n),
+        Value::Alpha(a) => expect_alpha(line, a),
+        Value::Version(v) => line.expect(u32::from(v)),
     }
 }
 
 // Performs a line `read`.
 fn read(
-    line: &[u8],
-    end: usize,
+    line: &mut Numbers<'_>,
     index: Index,
     vectors: &[u8],
     targets: &[u32],
@@ -47,51 +66,28 @@ fn read(
     pool: &[u32],
     numbers: &[u32],
     summary: &[u32],
-) -> bool {
-    let what = first(line, end);
-    let slot = after(line, what);
-    let place = after(line, slot);
-    let refusal = after(line, place);
-    let value = after(line, refusal);
-    if 9 < what.value {
-        return false;
-    }
+) -> Result<(), Differs> {
+    let what = reading(line.number()?, line.number()?, line.number()?)?;
     let got = reading::read(
-        index,
-        vectors,
-        targets,
-        edges,
-        versions,
-        marks,
-        pool,
-        numbers,
-        summary,
-        reading(what.value, slot.value, place.value),
+        index, vectors, targets, edges, versions, marks, pool, numbers, summary, what,
     );
-    same_value(got, refusal.value, value.value) && ends(line, value)
+    expect_value(line, got)
 }
 
-// Whether the rest of a line has these bytes.
-fn same_bytes(line: &[u8], count: Number, got: &[u8]) -> bool {
-    if wide(count.value) != got.len() {
-        return false;
+// Passes the length of a vector and its bytes.
+fn expect_bytes(line: &mut Numbers<'_>, got: &[u8]) -> Result<(), Differs> {
+    if line.number()? as usize != got.len() {
+        return Err(Differs::Answer);
     }
-    let mut last = count;
-    let mut i: usize = 0;
-    while i < got.len() {
-        last = after(line, last);
-        if (got[i] as u32) != last.value {
-            return false;
-        }
-        i += 1;
+    for byte in got {
+        line.expect(u32::from(*byte))?;
     }
-    ends(line, last)
+    Ok(())
 }
 
 // Performs a line `vector`.
 fn read_vector(
-    line: &[u8],
-    end: usize,
+    line: &mut Numbers<'_>,
     index: Index,
     vectors: &[u8],
     targets: &[u32],
@@ -101,94 +97,67 @@ fn read_vector(
     pool: &[u32],
     numbers: &[u32],
     summary: &[u32],
-) -> bool {
-    let slot = first(line, end);
-    let count = after(line, slot);
+) -> Result<(), Differs> {
+    let slot = line.number()?;
     let got = reading::read_vector(
-        index, vectors, targets, edges, versions, marks, pool, numbers, summary, slot.value,
+        index, vectors, targets, edges, versions, marks, pool, numbers, summary, slot,
     );
-    same_bytes(line, count, got)
+    expect_bytes(line, got)
 }
 
 // Performs a line `words`.
-fn size(line: &[u8], end: usize) -> bool {
-    let dim = first(line, end);
-    let capacity = after(line, dim);
-    let degree = after(line, capacity);
-    let refusal = after(line, degree);
-    let value = after(line, refusal);
-    let good = ends(line, value);
-    match index::scratch_words(dim.value, capacity.value, degree.value) {
-        ScratchWords::Refused(r) => good && r == refusal.value,
-        ScratchWords::Words(n) => good && refusal.value == 0 && n == value.value,
-    }
-}
-
-// Whether a candidate is the stored one.
-fn same_candidate(
-    slots: &[u32; 1024],
-    dists: &[f32; 1024],
-    figures: &[u32; 1024],
-    i: usize,
-    slot: u32,
-    dist: u32,
-    figure: u32,
-) -> bool {
-    if i < 1024 {
-        return slots[i] == slot
-            && dists[i] == std::num::nearest_u32_to_f32(dist)
-            && figures[i] == figure;
-    }
-    false
-}
-
-// Whether the rest of a line has these candidates.
-fn same_candidates(
-    line: &[u8],
-    count: Number,
-    slots: &[u32; 1024],
-    dists: &[f32; 1024],
-    figures: &[u32; 1024],
-) -> bool {
-    let mut last = count;
-    let n = wide(count.value);
-    let mut i: usize = 0;
-    while i < n {
-        let slot = after(line, last);
-        let dist = after(line, slot);
-        last = after(line, dist);
-        if !same_candidate(slots, dists, figures, i, slot.value, dist.value, last.value) {
-            return false;
+fn size(line: &mut Numbers<'_>) -> Result<(), Differs> {
+    let dim = line.number()?;
+    let capacity = line.number()?;
+    let degree = line.number()?;
+    match index::scratch_words(dim, capacity, degree) {
+        Err(refusal) => expect_refusal(line, refusal as u32),
+        Ok(n) => {
+            line.expect(0)?;
+            line.expect(n)
         }
-        i += 1;
     }
-    ends(line, last)
 }
 
-// Whether a search answered as stored.
-fn same_found(
-    line: &[u8],
-    refusal: Number,
-    found: Found,
-    slots: &[u32; 1024],
-    dists: &[f32; 1024],
-    figures: &[u32; 1024],
-) -> bool {
+// Passes the slots, distances and figure numbers of candidates.
+fn expect_candidates(
+    line: &mut Numbers<'_>,
+    slots: &[u32],
+    dists: &[f32],
+    figures: &[u32],
+) -> Result<(), Differs> {
+    for ((slot, dist), figure) in slots.iter().zip(dists).zip(figures) {
+        line.expect(*slot)?;
+        if *dist != std::num::nearest_u32_to_f32(line.number()?) {
+            return Err(Differs::Answer);
+        }
+        line.expect(*figure)?;
+    }
+    Ok(())
+}
+
+// Passes the answer to a search.
+fn expect_found(
+    line: &mut Numbers<'_>,
+    found: Result<u32, Refusal>,
+    slots: &[u32],
+    dists: &[f32],
+    figures: &[u32],
+) -> Result<(), Differs> {
     match found {
-        Found::Refused(r) => r == refusal.value && ends(line, refusal),
-        Found::Found(n) => {
-            let count = after(line, refusal);
-            refusal.value == 0
-                && n == count.value
-                && same_candidates(line, count, slots, dists, figures)
+        Err(r) => line.expect(r as u32),
+        Ok(n) => {
+            line.expect(0)?;
+            line.expect(n)?;
+            let slots = slots.get(..n as usize).ok_or(Differs::Answer)?;
+            expect_candidates(line, slots, dists, figures)
         }
     }
 }
 
 // Performs a line `search`.
 fn search(
-    line: &[u8],
-    end: usize,
+    line: &mut Numbers<'_>,
     index: Index,
     lent: Lent,
     vectors: &[u8],
@@ -200,20 +169,15 @@ fn search(
     numbers: &[u32],
     summary: &[u32],
     scratch: &mut [u32],
-) -> bool {
+) -> Result<(), Differs> {
     let mut query = [0u8; 1024];
     let mut slots = [0u32; 1024];
     let mut dists = [0.0f32; 1024];
     let mut figures = [0u32; 1024];
-    let k = first(line, end);
-    let beam = after(line, k);
-    let count = after(line, beam);
-    let refusal = after(line, bytes(line, count, &mut query));
-    let n = least(wide(count.value), 1024);
-    let s = part(lent, 8, 1024);
-    let d = part(lent, 9, 1024);
-    let f = part(lent, 10, 1024);
-    let w = part(lent, 11, scratch.len());
+    let k = line.argument();
+    let beam = line.argument();
+    let count = line.argument() as usize;
+    let read = bytes(line, count, &mut query);
     let found = reading::search(
         index,
         vectors,
@@ -224,22 +188,24 @@ fn search(
         pool,
         numbers,
         summary,
-        &query[..n],
-        k.value,
-        beam.value,
-        &mut slots[..s],
-        &mut dists[..d],
-        &mut figures[..f],
-        &mut scratch[..w],
+        part(&query, count),
+        k,
+        beam,
+        part_mut(&mut slots, lent.slots),
+        part_mut(&mut dists, lent.dists),
+        part_mut(&mut figures, lent.found),
+        part_mut(scratch, lent.words),
     );
-    same_found(line, refusal, found, &slots, &dists, &figures)
+    read?;
+    expect_found(line, found, &slots, &dists, &figures)
 }
 
-// Performs a line that reads the index.
-fn answer(
-    line: &[u8],
-    word: Word,
-    step: Step,
+// Performs a line that leaves the index as it is.
+// The slices go one by one: tried as a struct of arrays, of which the borrow check covers no part that is lent to a call.
+pub fn perform(
+    what: Looking,
+    line: &mut Numbers<'_>,
+    state: State,
     vectors: &[u8],
     targets: &[u32],
     edges: &[u16],
@@ -249,64 +215,29 @@ fn answer(
     numbers: &[u32],
     summary: &[u32],
     scratch: &mut [u32],
-) -> bool {
-    let end = word.end;
-    let index = step.index;
-    let kind = word.kind;
-    match kind {
-        READ => read(
-            line, end, index, vectors, targets, edges, versions, marks, pool, numbers, summary,
-        ),
-        VECTOR => read_vector(
-            line, end, index, vectors, targets, edges, versions, marks, pool, numbers, summary,
-        ),
-        SEARCH => search(
-            line, end, index, step.lent, vectors, targets, edges, versions, marks, pool, numbers,
-            summary, scratch,
-        ),
-        WORDS => size(line, end),
-        _ => step.good,
+) -> Result<(), Differs> {
+    let lent = state.lent;
+    let index = state.index;
+    let vectors = part(vectors, lent.vectors);
+    let targets = part(targets, lent.targets);
+    let edges = part(edges, lent.edges);
+    let versions = part(versions, lent.versions);
+    let marks = part(marks, lent.marks);
+    let pool = part(pool, lent.pool);
+    let numbers = part(numbers, lent.numbers);
+    let summary = part(summary, lent.summary);
+    match what {
+        Looking::Read => read(
+            line, index, vectors, targets, edges, versions, marks, pool, numbers, summary,
+        )?,
+        Looking::Vector => read_vector(
+            line, index, vectors, targets, edges, versions, marks, pool, numbers, summary,
+        )?,
+        Looking::Search => search(
+            line, index, lent, vectors, targets, edges, versions, marks, pool, numbers, summary,
+            scratch,
+        )?,
+        Looking::Words => size(line)?,
     }
-}
-
-// Performs a line that reads the lent parts of the index; any other was performed before.
-pub fn look(
-    line: &[u8],
-    word: Word,
-    step: Step,
-    vectors: &[u8],
-    targets: &[u32],
-    edges: &[u16],
-    versions: &[u16],
-    marks: &[u8],
-    pool: &[u32],
-    numbers: &[u32],
-    summary: &[u32],
-    scratch: &mut [u32],
-) -> Step {
-    let lent = step.lent;
-    let v = part(lent, 0, vectors.len());
-    let t = part(lent, 1, targets.len());
-    let e = part(lent, 2, edges.len());
-    let n = part(lent, 3, versions.len());
-    let m = part(lent, 4, marks.len());
-    let p = part(lent, 5, pool.len());
-    let f = part(lent, 6, numbers.len());
-    let s = part(lent, 7, summary.len());
-    let mut new = step;
-    new.good = answer(
-        line,
-        word,
-        step,
-        &vectors[..v],
-        &targets[..t],
-        &edges[..e],
-        &versions[..n],
-        &marks[..m],
-        &pool[..p],
-        &numbers[..f],
-        &summary[..s],
-        scratch,
-    );
-    new
+    line.end()
 }

@@ -5,12 +5,12 @@ use mathlib.Core.Path.{◌≡◌, refl, sym, ap, ◌∙◌, subst}
 use mathlib.Core.List.{List, [], ◌∷◌, map}
 use mathlib.Core.Option.{some}
 use native.Mathlib.Omega.{arith}
-use borrow.Author.Tests.{lt-ltb, le-ltb, ltb-true, ltb-false, eqb-true, not-false}
+use borrow.Author.Tests.{ltb-true, ltb-false, eqb-true, not-false}
 use lib.Dec.{eqb, ltb}
 use lib.Ieee.{Float}
 use lib.ListN.{length, take, drop, set, length-set, length-map}
 use lib.Seq.{take_all, take_at}
-use Rattle.lists.specs.Lists.{All, put_front}
+use Rattle.lists.specs.Lists.{put_front}
 use Rattle.lists.proofs.All.{all_take}
 use Rattle.lists.proofs.Front.{front_map}
 use Rattle.slots.specs.Sizes.{Slices, Lengths, lengths_of, limits}
@@ -26,7 +26,10 @@ use Rattle.numbers.specs.Numbers.{number_of}
 use Rattle.walk.specs.Walk.{search_pool}
 use Rattle.walk.specs.Inner.Scratch.{Ready, Pool}
 use Rattle.index.specs.declared.Index.{Index}
-use Rattle.reading.specs.declared.Found.TheVariants.{Refused, Found as Nearest}
+use Rattle.std.specs.Prelude.{Result, Ok, Err}
+use Rattle.index.specs.declared.Refusal.{Refusal}
+use Rattle.index.specs.declared.Refusal.TheVariants as Refused
+use Rattle.index.specs.Refusal.{number_of as row_of}
 use Rattle.calls.specs.Calls.{Search, search, Call, found, refused_as}
 use Rattle.calls.specs.Refusals.{tests}
 use Rattle.calls.specs.Outputs.{distances, room_of, written}
@@ -38,59 +41,28 @@ use Rattle.index.specs.Inner.Deciding.{Labels, labels_of, Decided, Passed}
 use Rattle.reading.specs.Inner.Finding.{search_tests, Fits, Shown}
 use Rattle.reading.specs.Search.{found_as, search_outputs, Searches}
 use Rattle.calls.proofs.Tests.{first_none, or_neither}
-use Rattle.index.proofs.Decide.{Numbered, decided_before, decided_after, turned_back, let_through, own_none, not_wrong, passed, passed_rows, passed_marks, passed_bytes, step_back, step_on}
+use Rattle.index.proofs.Decide.{decided_before, decided_after, turned_back, let_through, own_none, not_wrong, passed, passed_rows, passed_marks, passed_bytes, step_back, step_on}
 
 -- ---- rows 7 and 8
 
-module _ (k beam l m n : ℕ) where
-  -- row 7, of outputs that are l, m and n long
-  abbrev over_any : Bool
-  over_any = ltb limits.beam beam || ltb (min (min l m) n) k
-
-  pub over_beam : 1024 < beam → true ≡ over_any
-  unfolding limits
-  over_beam h = rw (lt-ltb 1024 beam h)
-
-  module _ (b : beam ≤ 1024) where
-    less : min (min l m) n < k → true ≡ over_any
-    unfolding limits
-    less g = rw (le-ltb 1024 beam b, lt-ltb (min (min l m) n) k g)
-
-    pub over_first : l < k → true ≡ over_any
-    over_first h = less (omega arith)
-
-    pub over_second : m < k → true ≡ over_any
-    over_second h = less (omega arith)
-
-    pub over_third : k ≤ l → k ≤ m → ltb n k ≡ over_any
-    unfolding limits
-    over_third h h' = rw (le-ltb 1024 beam b) (go (ltb n k) refl)
-      where
-        go : (q : Bool) → ltb n k ≡ q → ltb n k ≡ ltb (min (min l m) n) k
-        go true e = let g : min (min l m) n < k = omega (arith, ltb-true n k e) in e ∙ sym (lt-ltb (min (min l m) n) k g)
-        go false e = let g : k ≤ min (min l m) n = omega (arith, ltb-false n k e) in e ∙ sym (le-ltb (min (min l m) n) k g)
-
-module _ {index : Index} {lent : Lengths} {looked : Labels} (query k beam slots dists numbers scratch : ℕ) {dim r : ℕ} (e : dim ≡ index.dim)
-    (d : Decided index lent looked (not (eqb query dim)) [] r) where
-  abbrev Turns : ℕ → Type 0
+module _ {index : Index} {lent : Lengths} {looked : Labels} (query k beam slots dists numbers scratch : ℕ) {A : Type 0} {r : Result A Refusal}
+    (d : Decided index lent looked (not (eqb query index.dim)) [] r) where
+  abbrev Turns : Result A Refusal → Type 0
   Turns n = Decided index lent looked (not (eqb query index.dim)) (search_tests index.capacity k beam slots dists numbers scratch) n
 
-  right : Decided index lent looked (not (eqb query index.dim)) [] r
-  right = subst (λ x. Decided index lent looked (not (eqb query x)) [] r) e d
+  pub turns_before : {e : Refusal} → r ≡ Err e → Turns (Err e)
+  turns_before z = decided_before d _ z
 
-  pub turns_before : (r ≡ 0 → ⊥) → Turns r
-  turns_before n = decided_before right _ n
-
-  module _ {q : Bool} (z : r ≡ 0) (o : q ≡ (ltb limits.beam beam || ltb (min (min slots dists) numbers) k)) where
-    pub turns_over : q ≡ true → Turns 7
-    turns_over t = decided_after right _ 7 z (rw (sym o ∙ t))
+  module _ {q : Bool} {a : A} (z : r ≡ Ok a) (o : q ≡ (ltb limits.beam beam || ltb (min (min slots dists) numbers) k)) where
+    pub turns_over : q ≡ true → Turns (Err Refused.Limits)
+    turns_over t = decided_after d _ (Err Refused.Limits) z (rw (sym o ∙ t))
 
     module _ {s : Bool} (f : q ≡ false) (h : s ≡ ltb scratch (size_answer index.capacity)) where
-      pub turns_short : s ≡ true → Turns 8
-      turns_short t = decided_after right _ 8 z (rw (sym o ∙ f, sym h ∙ t))
+      pub turns_short : s ≡ true → Turns (Err Refused.Scratch)
+      turns_short t = decided_after d _ (Err Refused.Scratch) z (rw (sym o ∙ f, sym h ∙ t))
 
-      pub turns_none : s ≡ false → Turns 0
-      turns_none t = decided_after right _ 0 z (rw (sym o ∙ f, sym h ∙ t))
+      pub turns_none : {v : A} → s ≡ false → Turns (Ok v)
+      turns_none {v} t = decided_after d _ (Ok v) z (rw (sym o ∙ f, sym h ∙ t))
 
 -- ---- candidates shown one by one
 
@@ -126,32 +98,26 @@ module _ {w : List ℕ} {n : ℕ} {slots : List ℕ} {dists : List Float} {slots
   pub showing_small : i < n → (cand w (0 + 2 * i)).dist ≤ 16777216
   showing_small h = cands_each (λ c. c.dist ≤ 16777216) w 0 n f.small i h
 
-  pub showing_done : n ≤ i → Shown w n slots dists slots' dists'
-  showing_done h = let e : i ≡ n = omega (arith, s.below) in record { slots_written = rw e at s.slots_so_far; dists_written = rw e at s.dists_so_far }
-
 -- ---- a search
 
-module _ (index : Index) (s : Slices) (a : Search) (slots : List ℕ) (dists : List Float) (numbers scratch : List ℕ) {r : ℕ}
+module _ (index : Index) (s : Slices) (a : Search) (slots : List ℕ) (dists : List Float) (numbers scratch : List ℕ) {A : Type 0} {r : Result A Refusal}
     (d : Decided index (lengths_of s) (labels_of s) (not (eqb (length a.query) index.dim)) (search_tests index.capacity a.k a.beam (length slots) (length dists) (length numbers) (length scratch)) r) where
   abbrev call : Call
   call = record { lent = lent_of s (search_outputs slots dists numbers) scratch; operation = search a }
 
-  numbered : All Numbered (search_tests index.capacity a.k a.beam (length slots) (length dists) (length numbers) (length scratch))
-  numbered = (omega arith, (omega arith, tt))
-
-  pub searches_back : (r ≡ 0 → ⊥) → Searches index s a (search_outputs slots dists numbers) scratch (search_outputs slots dists numbers) scratch (Refused r)
+  pub searches_back : {e : Refusal} → r ≡ Err e → Searches index s a (search_outputs slots dists numbers) scratch (search_outputs slots dists numbers) scratch (Err e)
   unfolding tests refused_as found_as written state_of stored store_ops store_view shown room_of call_of slices_of
-  searches_back n =
+  searches_back {e} z =
       record {
         nearest = [];
         numbers = [];
-        counts = λ m e. absurd (let z : ◌≡◌ {A = ℕ} 0 1 = cc in omega arith);
-        meets = record { does = sym (step_back (state_of index s) call r (turned_back index s numbered d n)); writes = refl; keeps = λ m e. refl };
+        counts = λ m o. cc;
+        meets = record { does = sym (step_back (state_of index s) call (row_of e) (turned_back index s d z)); writes = refl; keeps = λ m e. refl };
       }
 
-  module _ (z : r ≡ 0) where
+  module _ {v : A} (z : r ≡ Ok v) where
     abbrev able : Passed index s
-    able = passed index s numbered d z
+    able = passed index s d z
 
     abbrev over : Bool
     over = ltb limits.beam a.beam || ltb (min (min (length slots) (length dists)) (length numbers)) a.k
@@ -161,7 +127,7 @@ module _ (index : Index) (s : Slices) (a : Search) (slots : List ℕ) (dists : L
 
     -- what the search's own tests leave
     own : (over ≡ false) × (small ≡ false)
-    own = let e = first_none 7 over ((8, small) ∷ []) (own_none index s numbered d z) in (e.0, (first_none 8 small [] e.1).0)
+    own = let e = first_none 7 over ((8, small) ∷ []) (own_none index s d z) in (e.0, (first_none 8 small [] e.1).0)
 
     beam_most : a.beam ≤ 1024
     unfolding limits
@@ -180,7 +146,7 @@ module _ (index : Index) (s : Slices) (a : Search) (slots : List ℕ) (dists : L
     pub search_ready : Ready (arrays index.dim index.degree s.vectors s.targets s.edges s.versions s.marks) a.query index.entry a.beam scratch
     search_ready =
         record {
-          query_long = eqb-true (length a.query) index.dim (not-false _ (not_wrong index s numbered d z));
+          query_long = eqb-true (length a.query) index.dim (not-false _ (not_wrong index s d z));
           start_inside = rw (passed_marks able) able.entry_inside;
           beam_most = beam_most;
           room = words;
@@ -226,7 +192,7 @@ module _ (index : Index) (s : Slices) (a : Search) (slots : List ℕ) (dists : L
 
       not_refused : (m : ℕ) → refusal stored (state_of index s) call ≡ some m → ⊥
       unfolding refusal tests state_of stored store_ops store_view shown room_of
-      not_refused m h = let g = sym (let_through index s numbered d z) ∙ h in let x : ◌≡◌ {A = ℕ} 0 1 = cc in omega arith
+      not_refused m h = let g = sym (let_through index s d z) ∙ h in cc
 
       module _ {slots' : List ℕ} {dists' : List Float} {numbers' : List ℕ} (h : Shown scratch' n slots dists slots' dists')
           (g : numbers' ≡ put_front (map (number_of s.numbers) (take n slots')) numbers) where
@@ -243,7 +209,7 @@ module _ (index : Index) (s : Slices) (a : Search) (slots : List ℕ) (dists : L
         figures_written : numbers' ≡ put_front figures numbers
         figures_written = g ∙ ap (λ l. put_front (map (number_of s.numbers) l) numbers) shown_first
 
-        pub searches_on : Searches index s a (search_outputs slots dists numbers) scratch (search_outputs slots' dists' numbers') scratch' (Nearest n)
+        pub searches_on : Searches index s a (search_outputs slots dists numbers) scratch (search_outputs slots' dists' numbers') scratch' (Ok n)
         unfolding tests perform found_as written state_of stored store_ops store_view shown room_of call_of slices_of run_refusal
         searches_on =
             record {
@@ -251,7 +217,7 @@ module _ (index : Index) (s : Slices) (a : Search) (slots : List ℕ) (dists : L
               numbers = figures;
               counts = λ m o. let q : n ≡ m = cc in sym q ∙ sym (cands_length scratch' 0 n);
               meets = record {
-                does = ap (λ cs. (state_of index s, found cs (map (number_of s.numbers) (ids cs)))) nearest_found ∙ sym (step_on (state_of index s) call (let_through index s numbered d z));
+                does = ap (λ cs. (state_of index s, found cs (map (number_of s.numbers) (ids cs)))) nearest_found ∙ sym (step_on (state_of index s) call (let_through index s d z));
                 writes = λ i. search_outputs (h.slots_written i) (h.dists_written i) (figures_written i);
                 keeps = λ m o. absurd (not_refused m o);
               };

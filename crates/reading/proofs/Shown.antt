@@ -1,24 +1,28 @@
 -- Readings: what the code shows is what the definitions show. Assumes nothing.
-use Prim.Native.Nat.{ℕ, zero, suc, ◌+◌, ◌-◌, ◌*◌, ◌≤◌, ◌<◌}
+use Prim.Native.Nat.{ℕ, zero, suc, ◌+◌, ◌*◌, ◌≤◌, ◌<◌}
 use mathlib.Core.Bool.{Bool, true, false, cond}
 use mathlib.Core.Path.{◌≡◌, refl, sym, ap, ◌∙◌}
-use mathlib.Core.List.{List, [], ◌∷◌}
+use mathlib.Core.List.{List, []}
 use native.Mathlib.Nat.{mul-le-mul_right}
 use native.Mathlib.Omega.{arith}
 use denote.Ref.{Bor}
 use lib.ListN.{length, get_or, drop_of_length-le}
 use lib.Seq.{take-nil}
+use Rattle.std.specs.List.{filter_map, range_with_len, slice_get}
+use Rattle.std.specs.Option.{option_map, unwrap_or}
+use Rattle.std.proofs.lemmas.Option.{unwrap_or-slice_get}
+use Rattle.std.proofs.lemmas.Iterator.Adapters.{option_map_id}
 use Rattle.lists.specs.Lists.{filter, part as part_of}
-use Rattle.slots.specs.Store.{blank, is_valid, current, refs_of, vector_of, store_view, store_ops, arrays}
+use Rattle.slots.specs.Store.{blank, is_valid, current, refs_of, vector_of, store_view, store_ops, Arrays, arrays}
 use Rattle.slots.specs.Inner.Rows.{RowShape, ref_at, live_from, LiveVector}
-use Rattle.std.specs.Prelude.{Option, Some, None}
+use Rattle.std.specs.Prelude.{Option, Some, None, Result, Ok, Err}
 use Rattle.slots.proofs.Places.{live_from_whole, live_from_end, live_from_at, live_from_dead}
 use Rattle.numbers.specs.Numbers.{number_of}
 use Rattle.index.specs.declared.Index.{Index}
 use Rattle.reading.specs.declared.Reading.{Reading}
 use Rattle.reading.specs.declared.Reading.TheVariants.{Dim, Capacity, Degree, Alpha, Entry, Live, Mark, Version, Number as Figure, Target}
 use Rattle.reading.specs.declared.Value.{Value}
-use Rattle.reading.specs.declared.Value.TheVariants.{Refused, Number, Alpha as Factor, Version as Stamp}
+use Rattle.reading.specs.declared.Value.TheVariants.{Number, Alpha as Factor, Version as Stamp}
 use Rattle.slots.specs.Sizes.{Slices, lengths_of}
 use Rattle.calls.specs.Calls.{read_vector, read, Operation, Call, number, version, vector, refused_as}
 use Rattle.calls.specs.Outputs.{no_outputs, written}
@@ -26,6 +30,8 @@ use Rattle.calls.specs.Refusals.{tests}
 use Rattle.calls.specs.State.{stored}
 use Rattle.calls.specs.Step.{reading, perform}
 use Rattle.calls.specs.Runs.{lent_of, slices_of, call_of}
+use Rattle.index.specs.declared.Refusal.{Refusal}
+use Rattle.index.specs.Refusal.{number_of as row_of}
 use Rattle.index.specs.Index.{state_of}
 use Rattle.index.specs.Inner.Deciding.{labels_of, Decided}
 use Rattle.reading.specs.Inner.Answering.{Answers}
@@ -34,51 +40,23 @@ use Rattle.index.proofs.Decide.{turned_back, let_through, step_back, step_on}
 
 -- ---- a target by its place among the live ones
 
-later : (t : ℕ) (l : List ℕ) (n : ℕ) → (n ≡ 0 → ⊥) → get_or (t ∷ l) n blank ≡ get_or l (n - 1) blank
-later t l zero h = absurd (h refl)
-later t l (suc n) h = let e : suc n - 1 ≡ n = omega arith in ap (λ k. get_or l k blank) (sym e)
+-- the live targets from a place on are what is read place by place, without what is dead
+module _ (a : Arrays) (f : RowShape a.degree a.targets a.edges a.versions a.marks) (s : ℕ) (hs : s < length a.marks) where
+  given_from : (n place : ℕ) → place + n ≡ a.degree → filter_map (ref_at a s) (range_with_len place n) ≡ live_from a s place
+  given_from zero place h = sym (live_from_end a s place (omega arith))
+  given_from (suc n) place h = go (ref_at a s place) refl (given_from n (place + 1) (omega arith))
+    where
+      go : (r : Option ℕ) → ref_at a s place ≡ r → filter_map (ref_at a s) (range_with_len (place + 1) n) ≡ live_from a s (place + 1)
+          → filter_map (ref_at a s) (range_with_len place (suc n)) ≡ live_from a s place
+      go None e k = rw (e, k) (sym (live_from_dead a f s place hs (omega arith) {r = ref_at a s place} refl e))
+      go (Some t) e k = rw (e, k) (sym (live_from_at a f s place hs (omega arith) {r = ref_at a s place} refl e))
 
--- the rows, versions and marks alone decide
-alone : (degree : ℕ) (targets edges versions marks : List ℕ) (s dim : ℕ) (vectors : List ℕ)
-    → refs_of (arrays 0 degree [] targets edges versions marks) s ≡ refs_of (arrays dim degree vectors targets edges versions marks) s
-unfolding refs_of
-alone degree targets edges versions marks s dim vectors = refl
-
--- what is looked for stands `left` live ones on from a place
-pub record Finding (degree : ℕ) (targets edges versions marks : List ℕ) (s place left at : ℕ) : Type 0 where
-  pub below : at ≤ degree
-  pub rest : get_or (live_from (arrays 0 degree [] targets edges versions marks) s at) left blank
-      ≡ get_or (filter (is_valid marks) (refs_of (arrays 0 degree [] targets edges versions marks) s)) place blank
-
-pub finding_none : (degree : ℕ) (targets edges versions marks : List ℕ) (s place : ℕ) → Finding degree targets edges versions marks s place place 0
-finding_none degree targets edges versions marks s place =
-    record { below = omega arith; rest = ap (λ l. get_or l place blank) (live_from_whole (arrays 0 degree [] targets edges versions marks) s) }
-
-module _ {degree : ℕ} {targets edges versions marks : List ℕ} {s place left at : ℕ} {r : Option ℕ} (f : RowShape degree targets edges versions marks) (hs : s < length marks) (ha : at < degree)
-    (e : (dim : ℕ) (vectors : List ℕ) → r ≡ ref_at (arrays dim degree vectors targets edges versions marks) s at) (k : Finding degree targets edges versions marks s place left at) where
-  pub finding_dead : r ≡ None → Finding degree targets edges versions marks s place left (at + 1)
-  finding_dead h = record {
-    below = omega arith;
-    rest = ap (λ l. get_or l left blank) (sym (live_from_dead (arrays 0 degree [] targets edges versions marks) f s at hs ha (e 0 []) h)) ∙ k.rest;
-  }
-
-  module _ {t : ℕ} (h : r ≡ Some t) where
-    pub finding_more : (left ≡ 0 → ⊥) → Finding degree targets edges versions marks s place (left - 1) (at + 1)
-    finding_more n = record {
-      below = omega arith;
-      rest = sym (later t (live_from (arrays 0 degree [] targets edges versions marks) s (at + 1)) left n) ∙ ap (λ l. get_or l left blank) (sym (live_from_at (arrays 0 degree [] targets edges versions marks) f s at hs ha (e 0 []) h)) ∙ k.rest;
-    }
-
-    pub finding_here : left ≡ 0 → (dim : ℕ) (vectors : List ℕ) → t ≡ get_or (filter (is_valid marks) (refs_of (arrays dim degree vectors targets edges versions marks) s)) place blank
-    finding_here z dim vectors =
-        (rw (live_from_at (arrays 0 degree [] targets edges versions marks) f s at hs ha (e 0 []) h, z) at k.rest)
-        ∙ ap (λ l. get_or (filter (is_valid marks) l) place blank) (alone degree targets edges versions marks s dim vectors)
-
-pub finding_end : {degree : ℕ} {targets edges versions marks : List ℕ} {s place left at : ℕ} → degree ≤ at → Finding degree targets edges versions marks s place left at
-    → (dim : ℕ) (vectors : List ℕ) → blank ≡ get_or (filter (is_valid marks) (refs_of (arrays dim degree vectors targets edges versions marks) s)) place blank
-finding_end {degree} {targets} {edges} {versions} {marks} {s} {place} {left} {at} h k dim vectors =
-    (rw (live_from_end (arrays 0 degree [] targets edges versions marks) s at h) at k.rest)
-    ∙ ap (λ l. get_or (filter (is_valid marks) l) place blank) (alone degree targets edges versions marks s dim vectors)
+  -- the one at a place among them
+  pub nth_given : (r : Option ℕ) (place : ℕ) {t : ℕ} → t ≡ unwrap_or r blank → option_map (λ y. y) r ≡ slice_get (filter_map (ref_at a s) (range_with_len 0 a.degree)) place
+      → t ≡ get_or (filter (is_valid a.marks) (refs_of a s)) place blank
+  nth_given r place e k =
+      e ∙ ap (λ o. unwrap_or o blank) (sym (option_map_id r) ∙ k) ∙ unwrap_or-slice_get (filter_map (ref_at a s) (range_with_len 0 a.degree)) place blank
+      ∙ ap (λ l. get_or l place blank) (given_from a.degree 0 (omega arith) ∙ live_from_whole a s)
 
 -- a slot outside has no row
 pub no_row : {degree : ℕ} {targets edges versions marks : List ℕ} (s place : ℕ) → RowShape degree targets edges versions marks → length marks ≤ s
@@ -136,42 +114,42 @@ module _ {index : Index} {targets edges versions marks numbers : List ℕ} {q : 
 -- ---- a reading, turned back or not
 
 -- a number read is written nowhere
-only_answered : (r : Value) → no_outputs ≡ written (answer_of r) no_outputs
+only_answered : (r : Result Value Refusal) → no_outputs ≡ written (answer_of r) no_outputs
 unfolding answer_of written
-only_answered (Refused n) = refl
-only_answered (Number n) = refl
-only_answered (Factor a) = refl
-only_answered (Stamp n) = refl
+only_answered (Err e) = refl
+only_answered (Ok (Number n)) = refl
+only_answered (Ok (Factor a)) = refl
+only_answered (Ok (Stamp n)) = refl
 
-module _ (index : Index) (s : Slices) {r : ℕ} (d : Decided index (lengths_of s) (labels_of s) false [] r) where
+module _ (index : Index) (s : Slices) {A : Type 0} {r : Result A Refusal} (d : Decided index (lengths_of s) (labels_of s) false [] r) where
   -- the call on these slices
   abbrev call : Operation → Call
   call o = record { lent = lent_of s no_outputs []; operation = o }
 
-  pub reads_back : {q : Reading} → (r ≡ 0 → ⊥) → Reads index s q (Refused r)
+  pub reads_back : {q : Reading} {e : Refusal} → r ≡ Err e → Reads index s q (Err e)
   unfolding tests answer_of refused_as call_of slices_of state_of written
-  reads_back {q} n =
-      record { meets = record { does = sym (step_back (state_of index s) (call (read (reading_of q))) r (turned_back index s tt d n)); writes = refl; keeps = λ k e. refl } }
+  reads_back {q} {e} z =
+      record { meets = record { does = sym (step_back (state_of index s) (call (read (reading_of q))) (row_of e) (turned_back index s d z)); writes = refl; keeps = λ k e. refl } }
 
-  pub reads_on : {q : Reading} {v : Value} → r ≡ 0 → Answers index s.targets s.edges s.versions s.marks s.numbers q v → Reads index s q v
+  pub reads_on : {q : Reading} {v : Value} {a : A} → r ≡ Ok a → Answers index s.targets s.edges s.versions s.marks s.numbers q v → Reads index s q (Ok v)
   unfolding tests perform call_of slices_of state_of
   reads_on {q} {v} z a =
       record {
         meets = record {
-          does = ap (λ a. (state_of index s, a)) (a.does s.vectors s.pool s.summary) ∙ sym (step_on (state_of index s) (call (read (reading_of q))) (let_through index s tt d z));
-          writes = only_answered v;
+          does = ap (λ a. (state_of index s, a)) (a.does s.vectors s.pool s.summary) ∙ sym (step_on (state_of index s) (call (read (reading_of q))) (let_through index s d z));
+          writes = only_answered (Ok v);
           keeps = λ k e. refl;
         };
       }
 
   module _ {slot : ℕ} {vectors part : Bor (List ℕ)} where
     -- a vector that is not given is the empty part
-    pub vector_back : (r ≡ 0 → ⊥) → part.now ≡ [] → GivesVector index s slot vectors part
+    pub vector_back : {f : Refusal} → r ≡ Err f → part.now ≡ [] → GivesVector index s slot vectors part
     unfolding tests refused_as call_of slices_of state_of written
-    vector_back n e = record {
+    vector_back {f} z e = record {
       reads = record {
         meets = record {
-          does = ap (λ l. (state_of index s, vector l)) e ∙ sym (step_back (state_of index s) (call (read_vector slot)) r (turned_back index s tt d n));
+          does = ap (λ l. (state_of index s, vector l)) e ∙ sym (step_back (state_of index s) (call (read_vector slot)) (row_of f) (turned_back index s d z));
           writes = refl;
           keeps = λ k e. refl;
         };
@@ -179,14 +157,14 @@ module _ (index : Index) (s : Slices) {r : ℕ} (d : Decided index (lengths_of s
       part = λ h. absurd (let z : length part.now ≡ 0 = ap length e in omega arith);
     }
 
-    pub vector_on : r ≡ 0 → vectors.now ≡ s.vectors → LiveVector index.dim vectors s.marks slot part → GivesVector index s slot vectors part
+    pub vector_on : {a : A} → r ≡ Ok a → vectors.now ≡ s.vectors → LiveVector index.dim vectors s.marks slot part → GivesVector index s slot vectors part
     unfolding tests perform stored store_ops store_view state_of vector_of call_of slices_of written
     vector_on z e l = go (is_valid s.marks slot) refl
       where
         answers : part.now ≡ cond (is_valid s.marks slot) (part_of index.dim slot s.vectors) [] → ReadsVector index s slot part.now
         answers a = record {
           meets = record {
-            does = ap (λ l. (state_of index s, vector l)) a ∙ sym (step_on (state_of index s) (call (read_vector slot)) (let_through index s tt d z));
+            does = ap (λ l. (state_of index s, vector l)) a ∙ sym (step_on (state_of index s) (call (read_vector slot)) (let_through index s d z));
             writes = refl;
             keeps = λ k e. refl;
           };

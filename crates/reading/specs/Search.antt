@@ -1,10 +1,10 @@
 -- What a search gives. Assumes nothing.
-use Rattle.std.specs.Prelude.{ℕ, List, [], ◌≡◌, Float, length}
+use Rattle.std.specs.Prelude.{ℕ, List, [], ◌≡◌, Float, length, Result, Ok, Err}
 use Rattle.slots.specs.Sizes.{Slices}
 use Rattle.candidates.specs.Candidates.{Candidate}
 use Rattle.index.specs.declared.Index.{Index}
-use Rattle.reading.specs.declared.Found.{Found}
-use Rattle.reading.specs.declared.Found.TheVariants.{Refused, Found as Nearest}
+use Rattle.index.specs.declared.Refusal.{Refusal}
+use Rattle.index.specs.Refusal.{number_of}
 use Rattle.calls.specs.Calls.{Search, search, Answer, refused, found}
 use Rattle.calls.specs.Outputs.{Outputs}
 use Rattle.calls.specs.Runs.{Meets}
@@ -19,13 +19,13 @@ searching query k beam = record { query = query; k = k; beam = beam }
 abbrev pub search_outputs : List ℕ → List Float → List ℕ → Outputs
 search_outputs slots dists numbers = record { slots = slots; dists = dists; numbers = numbers; stats = []; checked = []; lost = [] }
 
-unfoldable pub found_as : Found → List Candidate → List ℕ → Answer
-found_as (Refused n) cs ns = refused n
-found_as (Nearest n) cs ns = found cs ns
+unfoldable pub found_as : Result ℕ Refusal → List Candidate → List ℕ → Answer
+found_as (Err e) cs ns = refused (number_of e)
+found_as (Ok n) cs ns = found cs ns
 
 -- the outputs and the scratch as they are left have a prime; the code answers only how many are found
-pub record Searches (index : Index) (s : Slices) (a : Search) (outputs : Outputs) (scratch : List ℕ) (outputs' : Outputs) (scratch' : List ℕ) (r : Found) : Type 0 where
+pub record Searches (index : Index) (s : Slices) (a : Search) (outputs : Outputs) (scratch : List ℕ) (outputs' : Outputs) (scratch' : List ℕ) (r : Result ℕ Refusal) : Type 0 where
   pub nearest : List Candidate
   pub numbers : List ℕ
-  pub counts : (n : ℕ) → r ≡ Nearest n → n ≡ length nearest
+  pub counts : (n : ℕ) → r ≡ Ok n → n ≡ length nearest
   pub meets : Meets (looking index s (search a) outputs scratch outputs' scratch' (found_as r nearest numbers))

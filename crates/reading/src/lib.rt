@@ -24,18 +24,10 @@ pub enum Reading {
     Target(u32, u32),
 }
 
-// What was read, or the number of a refusal.
+// What was read.
 #[derive(Clone, Copy)]
 pub enum Value {
-    Refused(u32),
     Number(u32),
     Alpha(f32),
     Version(u16),
-}
-
-// How many were found, or the number of a refusal.
-#[derive(Clone, Copy)]
-pub enum Found {
-    Refused(u32),
-    Found(u32),
 }

@@ -8,8 +8,8 @@ ghost use Rattle.reading.specs.Read.{Reads, GivesVector};
 ghost use Rattle.reading.specs.Inner.Answering.{Answers};
 
 use super::{Reading, Value};
-use index::refusals::index_refusal;
-use index::{Index, Lengths};
+use index::refusals::check_index;
+use index::{Index, Lengths, Refusal};
 use numbers::number_at;
 use slots::Rows;
 use slots::marks::{is_valid, live_vector, node_version};
@@ -20,10 +20,7 @@ use vectors::Space;
 fn mark(marks: &[u8], s: u32) -> u32
     ensures { result ≡ cond (is_valid marks.now s) 1 0 }
 {
-    if is_valid(marks, s as usize) {
-        return 1;
-    }
-    0
+    u32::from(is_valid(marks, s as usize))
 }
 
 // The target with `place` live ones before it in slot `s`'s row; blank past the last.
@@ -49,19 +46,10 @@ fn target(
         versions,
         marks,
     };
-    let mut left = place;
-    let mut at: usize = 0;
-    while at < degree {
-        let found = rows.live_at(s, at);
-        if let Some(t) = found {
-            if left == 0 {
-                return t;
-            }
-            left -= 1;
-        }
-        at += 1;
-    }
-    BLANK
+    (0..degree)
+        .filter_map(|at| rows.live_at(s, at))
+        .nth(place as usize)
+        .unwrap_or(BLANK)
 }
 
 // What is read of an index that no test turns back.
@@ -106,7 +94,7 @@ pub fn read(
     numbers: &[u32],
     summary: &[u32],
     reading: Reading,
-) -> Value
+) -> Result<Value, Refusal>
     ensures { Reads index (slices vectors.now targets.now edges.now versions.now marks.now pool.now numbers.now summary.now) reading result }
 {
     let lent = Lengths {
@@ -119,11 +107,8 @@ pub fn read(
         numbers: numbers.len(),
         summary: summary.len(),
     };
-    let r = index_refusal(index, lent, marks, numbers, summary, false);
-    if r != 0 {
-        return Value::Refused(r);
-    }
-    answer(index, targets, edges, versions, marks, numbers, reading)
+    check_index(index, lent, marks, numbers, summary, false)?;
+    Ok(answer(index, targets, edges, versions, marks, numbers, reading))
 }
 
 // The vector of a slot, as that part of `vectors`; the empty part where the slot is dead or outside, and where the call is turned back.
@@ -151,10 +136,9 @@ pub fn read_vector<'a>(
         numbers: numbers.len(),
         summary: summary.len(),
     };
-    let r = index_refusal(index, lent, marks, numbers, summary, false);
-    if r != 0 {
-        return &vectors[0..0];
-    }
+    let Ok(()) = check_index(index, lent, marks, numbers, summary, false) else {
+        return &vectors[..0];
+    };
     let space = Space {
         dim: index.dim as usize,
         vectors,

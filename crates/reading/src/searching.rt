@@ -10,33 +10,23 @@ ghost use Rattle.index.specs.Inner.Deciding.{labels, Decided};
 ghost use Rattle.reading.specs.Search.{searching, search_outputs, Searches};
 ghost use Rattle.reading.specs.Inner.Finding.{search_tests, Fits, Shown};
 
-use super::Found;
 use candidates::{Candidate, dist_at, id_at};
-use index::refusals::{index_refusal, scratch_short};
-use index::{Index, Lengths};
+use index::refusals::{check_index, scratch_short};
+use index::{Index, Lengths, Refusal};
 use numbers::copy_numbers;
-use slots::marks::wide;
 use slots::{Graph, Rows, limits};
 use vectors::Space;
 
 // Row 7: the beam is over its limit, or more are asked for than an output holds.
+#[tactic(auto, unfolding(slots::specs::Sizes::limits))]
 fn search_over(k: u32, beam: u32, slots: usize, dists: usize, numbers: usize) -> bool
     ensures { result ≡ (ltb limits.beam beam || ltb (min (min slots dists) numbers) k) }
 {
-    if limits::BEAM < beam {
-        return true;
-    }
-    if slots < wide(k) {
-        return true;
-    }
-    if dists < wide(k) {
-        return true;
-    }
-    numbers < wide(k)
+    limits::BEAM < beam || slots.min(dists).min(numbers) < k as usize
 }
 
-// The first of rows 1, 2, 3, 6, 7 and 8 that turns a search back, else 0.
-fn search_refusal(
+// Turns a search back by the first of rows 1, 2, 3, 6, 7 and 8 that holds.
+fn check_search(
     index: Index,
     lent: Lengths,
     marks: &[u8],
@@ -49,33 +39,19 @@ fn search_refusal(
     dists: usize,
     found: usize,
     scratch: usize,
-) -> u32
+) -> Result<(), Refusal>
     requires { (lent.marks ≡ length marks.now) × (lent.numbers ≡ length numbers.now) × (lent.summary ≡ length summary.now) }
     ensures { Decided index (lengths_in lent) (labels marks.now numbers.now summary.now) (not (eqb query index.dim)) (search_tests index.capacity k beam slots dists found scratch) result }
 {
-    let wrong = query != wide(index.dim);
-    let r = index_refusal(index, lent, marks, numbers, summary, wrong);
-    if r != 0 {
-        return r;
-    }
+    let wrong = query != index.dim as usize;
+    check_index(index, lent, marks, numbers, summary, wrong)?;
     if search_over(k, beam, slots, dists, found) {
-        return 7;
+        return Err(Refusal::Limits);
     }
     if scratch_short(index.capacity, scratch) {
-        return 8;
+        return Err(Refusal::Scratch);
     }
-    0
-}
-
-// The lesser of two numbers.
-fn lesser(n: usize, k: u32) -> usize
-    ensures { result ≡ min n k }
-{
-    let most = wide(k);
-    if most < n {
-        return most;
-    }
-    n
+    Ok(())
 }
 
 // Writes the `n` candidates at the front of the words to the outputs.
@@ -83,12 +59,10 @@ fn show(words: &[u32], n: usize, slots: &mut [u32], dists: &mut [f32])
     requires { Fits words.now n slots.old dists.old }
     ensures { Shown words.now n slots.old dists.old slots.new dists.new }
 {
-    let mut i: usize = 0;
-    while i < n {
+    for i in 0..n {
         let c = Candidate::new(dist_at(words, 0, i), id_at(words, 0, i));
         slots[i] = c.id;
         dists[i] = c.dist;
-        i += 1;
     }
 }
 
@@ -142,7 +116,7 @@ pub fn search(
     dists: &mut [f32],
     found_numbers: &mut [u32],
     scratch: &mut [u32],
-) -> Found
+) -> Result<u32, Refusal>
     ensures { Searches index (slices vectors.now targets.now edges.now versions.now marks.now pool.now numbers.now summary.now) (searching query.now k beam)
         (search_outputs slots.old dists.old found_numbers.old) scratch.old (search_outputs slots.new dists.new found_numbers.new) scratch.new result }
 {
@@ -156,7 +130,7 @@ pub fn search(
         numbers: numbers.len(),
         summary: summary.len(),
     };
-    let r = search_refusal(
+    check_search(
         index,
         lent,
         marks,
@@ -169,15 +143,12 @@ pub fn search(
         dists.len(),
         found_numbers.len(),
         scratch.len(),
-    );
-    if r != 0 {
-        return Found::Refused(r);
-    }
+    )?;
     let found = walk_from_entry(
         index, vectors, targets, edges, versions, marks, query, beam, scratch,
     );
-    let n = lesser(found, k);
+    let n = found.min(k as usize);
     show(scratch, n, slots, dists);
     copy_numbers(numbers, slots, n, found_numbers);
-    Found::Found(n as u32)
+    Ok(n as u32)
 }

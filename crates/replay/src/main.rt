@@ -6,234 +6,194 @@
 
 ghost use Rattle.std.specs.Prelude.{◌≤◌, length, IfOk};
 
-use index::{Guard, Index};
-use lines::kinds::{
-    ASSESS, DELETE, DIFFERENCES, ENABLE, GUARDED, INSERT, KINDS, LINES, MAKE, NOTE, READ, SEARCH,
-    STATUS, VECTOR, WORDS,
-};
-use lines::prepare::{Lent, Step};
-use lines::words::Word;
+use index::Index;
+use lines::prepare::{Lent, State};
+use lines::words::{Call, Changing, Guarding, Looking, parted};
 use std::io;
 use std::io::Read;
+use text::Differs;
 
-// How many lines there were of each kind.
+// The calls that are counted, in the order in which they are printed.
+const COUNTED: [(&str, Call); 11] = [
+    ("make", Call::Change(Changing::Make)),
+    ("read", Call::Look(Looking::Read)),
+    ("vector", Call::Look(Looking::Vector)),
+    ("search", Call::Look(Looking::Search)),
+    ("words", Call::Look(Looking::Words)),
+    ("insert", Call::Change(Changing::Insert)),
+    ("delete", Call::Change(Changing::Delete)),
+    ("enable", Call::Guard(Guarding::Enable)),
+    ("status", Call::Guard(Guarding::Status)),
+    ("assess", Call::Guard(Guarding::Assess)),
+    ("guarded", Call::Guard(Guarding::Guarded)),
+];
+
+// How many calls of each kind agreed, how many lines there were, and how many differed.
 #[derive(Clone, Copy)]
 struct Counts {
-    of: [u64; 21],
+    agreed: [u64; 11],
+    lines: u64,
+    differences: u64,
 }
 
-// Prints one count with its name.
-fn print_count(rt: &impl Print, name: &[u8], n: u64) -> io::Result<()> {
-    rt.write_all(name)?;
-    rt.println(n)
-}
-
-// Counts a line that differs: its number is printed, notes not counted, and the line is written to standard error.
-fn differing(
-    rt: &impl Print,
-    errors: &impl Print,
-    counts: Counts,
-    line: &[u8],
-) -> io::Result<Counts> {
-    let mut new = counts;
-    new.of[DIFFERENCES] = std::num::wrapping_add_u64(new.of[DIFFERENCES], 1);
-    print_count(rt, b"differs ", new.of[LINES])?;
-    errors.write_all(line)?;
-    errors.println("")?;
-    Ok(new)
-}
-
-// Counts a line that was performed.
-fn counted(
-    rt: &impl Print,
-    errors: &impl Print,
-    counts: Counts,
-    line: &[u8],
-    kind: usize,
-    good: bool,
-) -> io::Result<Counts> {
-    let mut new = counts;
-    if kind == NOTE {
-        return Ok(new);
-    }
-    new.of[LINES] = std::num::wrapping_add_u64(new.of[LINES], 1);
-    if good {
-        if kind < KINDS {
-            new.of[kind] = std::num::wrapping_add_u64(new.of[kind], 1);
-            return Ok(new);
+impl Counts {
+    // Counts a call that agreed.
+    fn agree(&mut self, call: Call) {
+        for (n, (_, counted)) in self.agreed.iter_mut().zip(&COUNTED) {
+            if *counted == call {
+                *n = n.wrapping_add(1);
+            }
         }
     }
-    differing(rt, errors, new, line)
+
+    // Prints the counts.
+    fn report(&self, rt: &impl Print) -> io::Result<()> {
+        for (n, (name, _)) in self.agreed.iter().zip(&COUNTED) {
+            println!(rt; "{name} {n}")?;
+        }
+        let lines = self.lines;
+        let differences = self.differences;
+        println!(rt; "lines {lines}")?;
+        println!(rt; "differences {differences}")
+    }
 }
 
 // The state before any line: no index is made, and nothing is lent.
-fn nothing() -> Step {
-    let index = Index {
-        dim: 0,
-        capacity: 0,
-        degree: 0,
-        alpha: 0.0,
-        entry: 0,
-        live: 0,
-        guard: Guard::Off,
-    };
-    let lent = Lent { of: [0; 15] };
-    Step {
-        index,
-        lent,
-        good: true,
+fn nothing() -> State {
+    State {
+        index: Index {
+            dim: 0,
+            capacity: 0,
+            degree: 0,
+            alpha: 0.0,
+            entry: 0,
+            live: 0,
+            guard: None,
+        },
+        lent: Lent {
+            vectors: 0,
+            targets: 0,
+            edges: 0,
+            versions: 0,
+            marks: 0,
+            pool: 0,
+            numbers: 0,
+            summary: 0,
+            slots: 0,
+            dists: 0,
+            found: 0,
+            words: 0,
+            given: 0,
+            rows: 0,
+            figures: 0,
+        },
     }
 }
 
-// Performs a line that prepares a call.
-fn prepare(
-    line: &[u8],
-    word: Word,
-    step: Step,
-    given: &mut [u8; 262144],
-    rows: &mut [u32; 131072],
-    figures: &mut [u32; 2048],
-    vectors: &mut [u8; 262144],
-    targets: &mut [u32; 131072],
-    edges: &mut [u16; 131072],
-    versions: &mut [u16; 65536],
-    marks: &mut [u8; 65536],
-    numbers: &mut [u32; 65536],
-    summary: &mut [u32; 65536],
-) -> Step {
-    let mut new = lines::prepare::set_or_lend(line, word, step);
-    new = lines::prepare::give(line, word, new, given, rows, figures);
-    lines::prepare::store(
-        line, word, new, vectors, targets, edges, versions, marks, numbers, summary,
-    )
-}
-
-// Performs a line that makes or changes an index.
-fn change(
-    line: &[u8],
-    word: Word,
-    step: Step,
-    given: &[u8; 262144],
-    rows: &[u32; 131072],
-    figures: &[u32; 2048],
-    vectors: &mut [u8; 262144],
-    targets: &mut [u32; 131072],
-    edges: &mut [u16; 131072],
-    versions: &mut [u16; 65536],
-    marks: &mut [u8; 65536],
-    pool: &mut [u32; 1024],
-    numbers: &mut [u32; 65536],
-    summary: &mut [u32; 65536],
-    scratch: &mut [u32; 235520],
-) -> Step {
-    let mut new = changes::make(
-        line, word, step, given, rows, figures, vectors, targets, edges, versions, marks, pool,
-        numbers, summary,
-    );
-    new = changes::insert(
-        line, word, new, given, figures, vectors, targets, edges, versions, marks, pool, numbers,
-        summary, scratch,
-    );
-    changes::delete(
-        line, word, new, rows, vectors, targets, edges, versions, marks, pool, numbers, summary,
-        scratch,
-    )
-}
-
-// Performs a line: each function passes on a step whose line is not its own.
+// Performs a line, and says what it asks for.
+// The slices go one by one: tried as a struct of arrays, of which the borrow check covers no part that is lent to a call.
 fn perform(
     line: &[u8],
-    word: Word,
-    step: Step,
-    given: &mut [u8; 262144],
-    rows: &mut [u32; 131072],
-    figures: &mut [u32; 2048],
-    vectors: &mut [u8; 262144],
-    targets: &mut [u32; 131072],
-    edges: &mut [u16; 131072],
-    versions: &mut [u16; 65536],
-    marks: &mut [u8; 65536],
-    pool: &mut [u32; 1024],
-    numbers: &mut [u32; 65536],
-    summary: &mut [u32; 65536],
-    scratch: &mut [u32; 235520],
-) -> Step {
-    let mut new = prepare(
-        line, word, step, given, rows, figures, vectors, targets, edges, versions, marks, numbers,
-        summary,
-    );
-    new = change(
-        line, word, new, given, rows, figures, vectors, targets, edges, versions, marks, pool,
-        numbers, summary, scratch,
-    );
-    new = guards::perform(
-        line, word, new, rows, vectors, targets, edges, versions, marks, pool, numbers, summary,
-        scratch,
-    );
-    looks::look(
-        line, word, new, vectors, targets, edges, versions, marks, pool, numbers, summary, scratch,
-    )
+    state: &mut State,
+    given: &mut [u8],
+    rows: &mut [u32],
+    figures: &mut [u32],
+    vectors: &mut [u8],
+    targets: &mut [u32],
+    edges: &mut [u16],
+    versions: &mut [u16],
+    marks: &mut [u8],
+    pool: &mut [u32],
+    numbers: &mut [u32],
+    summary: &mut [u32],
+    scratch: &mut [u32],
+) -> Result<Call, Differs> {
+    let (call, mut rest) = parted(line)?;
+    match call {
+        Call::Prepare(what) => lines::prepare::perform(
+            what, &mut rest, state, given, rows, figures, vectors, targets, edges, versions, marks,
+            numbers, summary,
+        )?,
+        Call::Change(what) => changes::perform(
+            what, &mut rest, state, given, rows, figures, vectors, targets, edges, versions, marks,
+            pool, numbers, summary, scratch,
+        )?,
+        Call::Guard(what) => guards::perform(
+            what, &mut rest, state, rows, vectors, targets, edges, versions, marks, pool, numbers,
+            summary, scratch,
+        )?,
+        Call::Look(what) => looks::perform(
+            what, &mut rest, *state, vectors, targets, edges, versions, marks, pool, numbers,
+            summary, scratch,
+        )?,
+    }
+    Ok(call)
 }
 
-// Performs every line of the first n bytes.
+// Counts a line, which is not a note. Where it differs its number is printed, and the line is written to standard error.
+fn count(
+    rt: &impl Print,
+    errors: &impl Print,
+    counts: &mut Counts,
+    line: &[u8],
+    performed: Result<Call, Differs>,
+) -> io::Result<()> {
+    counts.lines = counts.lines.wrapping_add(1);
+    match performed {
+        Ok(call) => {
+            counts.agree(call);
+            Ok(())
+        }
+        Err(_) => {
+            counts.differences = counts.differences.wrapping_add(1);
+            let number = counts.lines;
+            println!(rt; "differs {number}")?;
+            errors.write_all(line)?;
+            errors.println("")
+        }
+    }
+}
+
+// Performs every line of a list.
 fn replay(
     rt: &impl Print,
     errors: &impl Print,
     list: &[u8],
-    n: usize,
-    given: &mut [u8; 262144],
-    rows: &mut [u32; 131072],
-    figures: &mut [u32; 2048],
-    vectors: &mut [u8; 262144],
-    targets: &mut [u32; 131072],
-    edges: &mut [u16; 131072],
-    versions: &mut [u16; 65536],
-    marks: &mut [u8; 65536],
-    pool: &mut [u32; 1024],
-    numbers: &mut [u32; 65536],
-    summary: &mut [u32; 65536],
-    scratch: &mut [u32; 235520],
-) -> io::Result<Counts>
-    requires { n ≤ length list.now }
-{
-    let mut counts = Counts { of: [0; 21] };
-    let mut step = nothing();
-    let mut at: usize = 0;
-    while at < n {
-        let end = text::line_end(list, at, n);
-        let line = &list[at..end];
-        at = end + 1;
-        let word = lines::words::first_word(line);
-        step = perform(
-            line, word, step, given, rows, figures, vectors, targets, edges, versions, marks, pool,
+    given: &mut [u8],
+    rows: &mut [u32],
+    figures: &mut [u32],
+    vectors: &mut [u8],
+    targets: &mut [u32],
+    edges: &mut [u16],
+    versions: &mut [u16],
+    marks: &mut [u8],
+    pool: &mut [u32],
+    numbers: &mut [u32],
+    summary: &mut [u32],
+    scratch: &mut [u32],
+) -> io::Result<Counts> {
+    let mut counts = Counts {
+        agreed: [0; 11],
+        lines: 0,
+        differences: 0,
+    };
+    let mut state = nothing();
+    for line in list.split_inclusive(|byte| *byte == b'\n') {
+        let line = line.strip_suffix(b"\n").unwrap_or(line);
+        if line.starts_with(b"#") {
+            continue;
+        }
+        let performed = perform(
+            line, &mut state, given, rows, figures, vectors, targets, edges, versions, marks, pool,
             numbers, summary, scratch,
         );
-        counts = counted(rt, errors, counts, line, word.kind, step.good)?;
+        count(rt, errors, &mut counts, line, performed)?;
     }
     Ok(counts)
 }
 
-// Prints the counts.
-fn report(rt: &impl Print, counts: Counts) -> io::Result<()> {
-    print_count(rt, b"make ", counts.of[MAKE])?;
-    print_count(rt, b"read ", counts.of[READ])?;
-    print_count(rt, b"vector ", counts.of[VECTOR])?;
-    print_count(rt, b"search ", counts.of[SEARCH])?;
-    print_count(rt, b"words ", counts.of[WORDS])?;
-    print_count(rt, b"insert ", counts.of[INSERT])?;
-    print_count(rt, b"delete ", counts.of[DELETE])?;
-    print_count(rt, b"enable ", counts.of[ENABLE])?;
-    print_count(rt, b"status ", counts.of[STATUS])?;
-    print_count(rt, b"assess ", counts.of[ASSESS])?;
-    print_count(rt, b"guarded ", counts.of[GUARDED])?;
-    print_count(rt, b"lines ", counts.of[LINES])?;
-    print_count(rt, b"differences ", counts.of[DIFFERENCES])
-}
-
-// Performs a list of n bytes, with memory for its calls.
-fn replay_list(rt: &impl Print, errors: &impl Print, list: &[u8], n: usize) -> io::Result<()>
-    requires { n ≤ length list.now }
-{
+// Performs a list, with memory for its calls.
+fn replay_list(rt: &impl Print, errors: &impl Print, list: &[u8]) -> io::Result<()> {
     let mut given = [0u8; 262144];
     let mut rows = [0u32; 131072];
     let mut figures = [0u32; 2048];
@@ -250,7 +210,6 @@ fn replay_list(rt: &impl Print, errors: &impl Print, list: &[u8], n: usize) -> i
         rt,
         errors,
         list,
-        n,
         &mut given,
         &mut rows,
         &mut figures,
@@ -264,7 +223,7 @@ fn replay_list(rt: &impl Print, errors: &impl Print, list: &[u8], n: usize) -> i
         &mut summary,
         &mut scratch,
     )?;
-    report(rt, counts)
+    counts.report(rt)
 }
 
 // Reads from the input until it ends or the list is full, and returns how many bytes it put at the list's start.
@@ -292,7 +251,7 @@ fn replay_input(
     list: &mut [u8; 524288],
 ) -> io::Result<()> {
     let n = read_full(&mut rt.reader(), list)?;
-    replay_list(rt, errors, list, n)
+    replay_list(rt, errors, &list[..n])
 }
 
 fn main(rt: HostRuntime) -> io::Result<()> {

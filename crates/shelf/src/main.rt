@@ -1,176 +1,49 @@
 // Document 01's small shelf: it is made with the numbers 30, 10 and 20, 6 is inserted with 41 and slot 1 deleted; then it is printed, as read.
 #![tactic(auto)]
 
-use index::{Created, Index};
+use index::{Index, Refusal};
 use reading::{Reading, Value};
 use std::io;
-use updating::{Deleted, Inserted, Naming};
+use updating::Naming;
 
-const BLANK: u32 = 4294967295;
+const BLANK: u32 = u32::MAX;
 
 // What was read as a number; blank where it was turned back.
-fn number(value: Value) -> u32 {
+fn number(value: Result<Value, Refusal>) -> u32 {
     match value {
-        Value::Refused(_) => BLANK,
-        Value::Number(n) => n,
-        Value::Alpha(_) => BLANK,
-        Value::Version(n) => n as u32,
+        Ok(Value::Number(n)) => n,
+        Ok(Value::Version(n)) => u32::from(n),
+        Ok(Value::Alpha(_)) | Err(_) => BLANK,
     }
-}
-
-// Prints a word and what is read.
-fn print_reading(
-    rt: &impl Print,
-    word: &[u8],
-    index: Index,
-    vectors: &[u8],
-    targets: &[u32],
-    edges: &[u16],
-    versions: &[u16],
-    marks: &[u8],
-    pool: &[u32],
-    numbers: &[u32],
-    summary: &[u32],
-    what: Reading,
-) -> io::Result<()> {
-    let value = reading::read(
-        index, vectors, targets, edges, versions, marks, pool, numbers, summary, what,
-    );
-    rt.write_all(word)?;
-    rt.print(number(value))
-}
-
-// Prints the live target at a place of a slot's row, if there is one.
-fn print_target(
-    rt: &impl Print,
-    index: Index,
-    vectors: &[u8],
-    targets: &[u32],
-    edges: &[u16],
-    versions: &[u16],
-    marks: &[u8],
-    pool: &[u32],
-    numbers: &[u32],
-    summary: &[u32],
-    slot: u32,
-    place: u32,
-) -> io::Result<()> {
-    let what = Reading::Target(slot, place);
-    let target = number(reading::read(
-        index, vectors, targets, edges, versions, marks, pool, numbers, summary, what,
-    ));
-    if target != BLANK {
-        print!(rt; " {target}")?;
-    }
-    Ok(())
 }
 
 // Prints a slot: its mark, version and live targets, at most two.
-fn print_slot(
-    rt: &impl Print,
-    index: Index,
-    vectors: &[u8],
-    targets: &[u32],
-    edges: &[u16],
-    versions: &[u16],
-    marks: &[u8],
-    pool: &[u32],
-    numbers: &[u32],
-    summary: &[u32],
-    slot: u32,
-) -> io::Result<()> {
-    rt.print(slot)?;
-    print_reading(
-        rt,
-        b" ",
-        index,
-        vectors,
-        targets,
-        edges,
-        versions,
-        marks,
-        pool,
-        numbers,
-        summary,
-        Reading::Mark(slot),
-    )?;
-    print_reading(
-        rt,
-        b" ",
-        index,
-        vectors,
-        targets,
-        edges,
-        versions,
-        marks,
-        pool,
-        numbers,
-        summary,
-        Reading::Version(slot),
-    )?;
-    print_target(
-        rt, index, vectors, targets, edges, versions, marks, pool, numbers, summary, slot, 0,
-    )?;
-    print_target(
-        rt, index, vectors, targets, edges, versions, marks, pool, numbers, summary, slot, 1,
-    )?;
+fn print_slot<F: Fn(Reading) -> u32>(rt: &impl Print, read: &F, slot: u32) -> io::Result<()>
+    requires { F.IsAlwaysCallable read.now }
+{
+    let mark = read(Reading::Mark(slot));
+    let version = read(Reading::Version(slot));
+    print!(rt; "{slot} {mark} {version}")?;
+    for place in 0..2 {
+        let target = read(Reading::Target(slot, place));
+        if target != BLANK {
+            print!(rt; " {target}")?;
+        }
+    }
     rt.println("")
 }
 
 // Prints the shelf: entry and live count, then each slot.
-fn print_shelf(
-    rt: &impl Print,
-    index: Index,
-    vectors: &[u8],
-    targets: &[u32],
-    edges: &[u16],
-    versions: &[u16],
-    marks: &[u8],
-    pool: &[u32],
-    numbers: &[u32],
-    summary: &[u32],
-) -> io::Result<()> {
-    print_reading(
-        rt,
-        b"entry ",
-        index,
-        vectors,
-        targets,
-        edges,
-        versions,
-        marks,
-        pool,
-        numbers,
-        summary,
-        Reading::Entry,
-    )?;
-    print_reading(
-        rt,
-        b" live ",
-        index,
-        vectors,
-        targets,
-        edges,
-        versions,
-        marks,
-        pool,
-        numbers,
-        summary,
-        Reading::Live,
-    )?;
-    rt.println("")?;
-    print_slot(
-        rt, index, vectors, targets, edges, versions, marks, pool, numbers, summary, 0,
-    )?;
-    print_slot(
-        rt, index, vectors, targets, edges, versions, marks, pool, numbers, summary, 1,
-    )?;
-    print_slot(
-        rt, index, vectors, targets, edges, versions, marks, pool, numbers, summary, 2,
-    )?;
-    print_slot(
-        rt, index, vectors, targets, edges, versions, marks, pool, numbers, summary, 3,
-    )
+fn print_shelf<F: Fn(Reading) -> u32>(rt: &impl Print, read: &F) -> io::Result<()>
+    requires { F.IsAlwaysCallable read.now }
+{
+    let entry = read(Reading::Entry);
+    let live = read(Reading::Live);
+    println!(rt; "entry {entry} live {live}")?;
+    for slot in 0..4 {
+        print_slot(rt, read, slot)?;
+    }
+    Ok(())
 }
 
 // Inserts 6, deletes slot 1 and prints what is left.
@@ -207,11 +80,11 @@ fn change(
         &mut slots,
         &mut scratch,
     );
-    let Inserted::Done(fuller, _) = inserted else {
+    let Ok(fuller) = inserted else {
         return Ok(());
     };
     let deleted = updating::delete(
-        fuller,
+        fuller.index,
         vectors,
         targets,
         edges,
@@ -227,12 +100,15 @@ fn change(
         1,
         &mut scratch,
     );
-    let Deleted::Done(left, _) = deleted else {
+    let Ok(left) = deleted else {
         return Ok(());
     };
-    print_shelf(
-        rt, left, vectors, targets, edges, versions, marks, pool, numbers, summary,
-    )
+    let read = |what: Reading| {
+        number(reading::read(
+            left.index, vectors, targets, edges, versions, marks, pool, numbers, summary, what,
+        ))
+    };
+    print_shelf(rt, &read)
 }
 
 fn main(rt: HostRuntime) -> io::Result<()> {
@@ -266,7 +142,7 @@ fn main(rt: HostRuntime) -> io::Result<()> {
         &mut numbers,
         &mut summary,
     );
-    let Created::Done(shelf) = made else {
+    let Ok(shelf) = made else {
         return Ok(());
     };
     change(

@@ -1,142 +1,105 @@
-// Lines of a text, and the numbers in them, also compared with words.
+// The numbers of a line of text, read from the left and compared with answers.
 #![tactic(auto)]
 
-ghost use Rattle.std.specs.Prelude.{true, false, ◌≡◌, ◌≤◌, ◌<◌, length};
-ghost use Rattle.text.specs.Inner.Text.{Digit, Digits, Follows};
+ghost use Rattle.std.specs.Prelude.{◌≡◌, ◌≢◌, ◌++◌, [], slice_index, None, MatchResult, IfOk, IfSome, IsSomeAnd};
+ghost use Rattle.std.specs.Str.Parse.{IsNumeral, digits_value};
+ghost use Rattle.text.specs.Inner.Text.{Digit, Reads};
 
-// A number that was read, and where it ends; whether it and those before it were there.
-#[derive(Clone, Copy)]
-pub struct Number {
-    pub value: u32,
-    pub next: usize,
-    pub good: bool,
+// How a line differs: it is malformed, it asks for more than there is room for, or its answer is another one.
+#[derive(Clone, Copy, PartialEq, Eq, Debug)]
+pub enum Differs {
+    Malformed,
+    TooMuch,
+    Answer,
 }
 
-// Where the line that begins at `at` ends, in a text of n bytes.
-pub fn line_end(text: &[u8], at: usize, n: usize) -> usize
-    requires { (at ≤ n) × (n ≤ length text.now) }
-    ensures { (at ≤ result) × (result ≤ n) × (result < 18446744073709551615) }
+// The digits at the start of a text, and what follows them.
+fn digits(text: &[u8]) -> (&[u8], &[u8])
+    ensures { (text.now ≡ result.0.now ++ result.1.now) × (slice_index result.0.now 0 ≢ 43) × ¬ Digit (slice_index result.1.now 0) }
 {
-    let mut i = at;
-    while i < n {
-        if text[i] == b'\n' {
-            return i;
+    let end = text.iter().position(|byte| !byte.is_ascii_digit());
+    text.split_at(end.unwrap_or(text.len()))
+}
+
+// The value of digits.
+fn value(digits: &[u8]) -> Option<u32>
+    requires { slice_index digits.now 0 ≢ 43 }
+    ensures { IfSome result (λ n. IsNumeral 10 digits.now × (n ≡ digits_value 10 digits.now)) }
+{
+    std::str::from_utf8(digits).ok()?.parse::<u32>().ok()
+}
+
+// A number as one of a smaller type.
+pub fn small<T: TryFrom<u32>>(n: u32) -> Result<T, Differs>
+where
+    <T as TryFrom<u32>>::Error: Drop,
+{
+    T::try_from(n).map_err(|_| Differs::Malformed)
+}
+
+// What of a line is not read yet; nothing can be read behind a number that is none.
+#[derive(Drop)]
+pub struct Numbers<'a> {
+    pub rest: Option<&'a [u8]>,
+}
+
+impl<'a> Numbers<'a> {
+    // The numbers of a text, each behind a blank.
+    pub fn of(text: &'a [u8]) -> Self
+        ensures { IsSomeAnd result.rest (λ rest. rest.now ≡ text.now) }
+    {
+        Numbers { rest: Some(text) }
+    }
+
+    // The next number.
+    pub fn number(&mut self) -> Result<u32, Differs>
+        ensures { MatchResult result (λ n. Reads self.old.rest self.new.rest n) (λ _. self.new.rest ≡ None) }
+    {
+        let rest = self.rest.take().ok_or(Differs::Malformed)?;
+        let text = rest.strip_prefix(b" ").ok_or(Differs::Malformed)?;
+        let (digits, rest) = digits(text);
+        let value = value(digits).ok_or(Differs::Malformed)?;
+        self.rest = Some(rest);
+        Ok(value)
+    }
+
+    // The next number as what a call is given: 0 where there is none, and nothing can be read behind it.
+    pub fn argument(&mut self) -> u32
+        ensures { IfSome self.new.rest (λ _. Reads self.old.rest self.new.rest result) }
+    {
+        self.number().unwrap_or(0)
+    }
+
+    // Passes the next number, which is to be this answer.
+    pub fn expect(&mut self, answer: u32) -> Result<(), Differs>
+        ensures { IfOk result (λ _. Reads self.old.rest self.new.rest answer) }
+    {
+        if self.number()? == answer {
+            return Ok(());
         }
-        i += 1;
+        Err(Differs::Answer)
     }
-    i
-}
 
-// The value of a digit; 10 for any other byte.
-fn digit(byte: u8) -> u64
-    ensures { (result ≤ 10) × (result ≤ 9 → Digit byte result) }
-{
-    if byte < b'0' {
-        return 10;
-    }
-    if b'9' < byte {
-        return 10;
-    }
-    (byte - b'0') as u64
-}
-
-// No number.
-fn nowhere() -> Number
-    ensures { result.good ≡ false }
-{
-    Number {
-        value: 0,
-        next: 0,
-        good: false,
-    }
-}
-
-// A number from `at` up to `next`.
-fn read_up_to(value: u64, at: usize, next: usize) -> Number
-    requires { value ≤ 4294967295 }
-    ensures { (result.value ≡ value) × (result.next ≡ next) × (result.good ≡ true → at < next) }
-{
-    Number {
-        value: value as u32,
-        next,
-        good: at < next,
-    }
-}
-
-// The number whose digits begin at `at`.
-fn digits(line: &[u8], at: usize) -> Number
-    ensures { result.good ≡ true → Digits line.now at result.next result.value }
-{
-    let mut value: u64 = 0;
-    let mut i = at;
-    while i < line.len() {
-        let d = digit(line[i]);
-        if 9 < d {
-            return read_up_to(value, at, i);
+    // Passes numbers that are to be these answers.
+    pub fn expect_all(&mut self, answers: &[u32]) -> Result<(), Differs> {
+        for answer in answers {
+            self.expect(*answer)?;
         }
-        let more = value * 10 + d;
-        if 4294967295 < more {
-            return nowhere();
+        Ok(())
+    }
+
+    // Passes n numbers, which are to be the first n of these answers.
+    pub fn expect_first(&mut self, n: usize, answers: &[u32]) -> Result<(), Differs> {
+        self.expect_all(answers.get(..n).ok_or(Differs::Answer)?)
+    }
+
+    // Whether every number was read.
+    pub fn end(&self) -> Result<(), Differs>
+        ensures { IfOk result (λ _. IsSomeAnd self.now.rest (λ rest. rest.now ≡ [])) }
+    {
+        if self.rest == Some(b"") {
+            return Ok(());
         }
-        value = more;
-        i += 1;
+        Err(Differs::Malformed)
     }
-    read_up_to(value, at, i)
-}
-
-// The first number after a word that ends at `end`.
-pub fn first(line: &[u8], end: usize) -> Number
-    ensures { result.good ≡ true → Follows line.now end result.next result.value }
-{
-    if end < line.len() {
-        if line[end] == b' ' {
-            return digits(line, end + 1);
-        }
-    }
-    nowhere()
-}
-
-// The number after another one.
-pub fn after(line: &[u8], last: Number) -> Number
-    ensures { result.good ≡ true → (last.good ≡ true) × Follows line.now last.next result.next result.value }
-{
-    if last.good {
-        return first(line, last.next);
-    }
-    last
-}
-
-// Whether the line was read well and ends with a number.
-pub fn ends(line: &[u8], last: Number) -> bool {
-    if last.good {
-        return last.next == line.len();
-    }
-    false
-}
-
-// Whether a word is the stored one.
-fn same_word(words: &[u32], i: usize, word: u32) -> bool {
-    if i < words.len() {
-        return words[i] == word;
-    }
-    false
-}
-
-// The last of the n numbers after another one; it is not good unless they are the first n of these words.
-pub fn same_part(line: &[u8], before: Number, n: usize, words: &[u32]) -> Number {
-    let mut last = before;
-    let mut i: usize = 0;
-    while i < n {
-        last = after(line, last);
-        if !same_word(words, i, last.value) {
-            return nowhere();
-        }
-        i += 1;
-    }
-    last
-}
-
-// Whether the rest of a line has the first n of these words, and no more.
-pub fn same_words(line: &[u8], before: Number, n: usize, words: &[u32]) -> bool {
-    ends(line, same_part(line, before, n, words))
 }

@@ -1,17 +1,17 @@
 -- Delete: what the code decides and writes is what the definitions say. Assumes nothing.
-use Prim.Native.Nat.{ℕ, ◌+◌, ◌-◌, ◌≤◌, ◌<◌}
+use Prim.Native.Nat.{ℕ, ◌+◌, ◌-◌, ◌≤◌}
 use mathlib.Core.Bool.{Bool, true, false, ◌||◌}
 use mathlib.Core.Path.{◌≡◌, refl, sym, ap, ap₂, ◌∙◌, subst}
 use mathlib.Core.List.{List, [], ◌∷◌, map}
 use mathlib.Core.Option.{some}
 use native.Mathlib.Omega.{arith}
-use borrow.Author.Tests.{lt-ltb, le-ltb, ltb-false}
+use borrow.Author.Tests.{ltb-false}
 use lib.Dec.{ltb}
 use lib.ListN.{length}
-use Rattle.lists.specs.Lists.{All, filter, range}
+use Rattle.lists.specs.Lists.{filter, range}
 use Rattle.lists.proofs.Filter.{filter_length}
 use Rattle.lists.proofs.Ranges.{length_range}
-use Rattle.slots.specs.Sizes.{Slices, slices, Lengths, lengths_of, limits}
+use Rattle.slots.specs.Sizes.{Slices, slices, lengths_of, limits}
 use Rattle.slots.specs.Scratch.{size_answer}
 use Rattle.slots.specs.View.{live_slots, emptied}
 use Rattle.slots.specs.Store.{Store, is_valid, store_view, store_ops, arrays}
@@ -31,53 +31,19 @@ use Rattle.calls.specs.Runs.{lent_of, slices_of, call_of, run_refusal}
 use Rattle.calls.proofs.Tests.{first_none, or_neither}
 use Rattle.index.specs.declared.Index.{Index}
 use Rattle.index.specs.Index.{guard_of, state_of}
-use Rattle.index.specs.Inner.Deciding.{Labels, labels_of, Decided, Passed}
-use Rattle.index.proofs.Decide.{Numbered, decided_before, decided_after, turned_back, let_through, own_none, not_wrong, passed, passed_rows, passed_marks, passed_bytes, step_back, step_on}
-use Rattle.updating.specs.declared.Deleted.TheVariants.{Refused, Done}
+use Rattle.index.specs.Inner.Deciding.{labels_of, Decided, Passed}
+use Rattle.index.proofs.Decide.{turned_back, let_through, own_none, not_wrong, passed, passed_rows, passed_marks, passed_bytes, step_back, step_on}
+use Rattle.std.specs.Prelude.{Result, Ok, Err}
+use Rattle.index.specs.declared.Refusal.{Refusal}
+use Rattle.index.specs.Refusal.{number_of}
+use Rattle.updating.specs.declared.Changed.{Changed}
+use Rattle.updating.proofs.Fills.{ok_is}
 use Rattle.updating.specs.Delete.{stats_outputs, deleted_as, index_left, Deletes}
-use Rattle.updating.specs.Inner.Emptying.{delete_tests, slot_delete, with_entry}
+use Rattle.updating.specs.Inner.Emptying.{delete_tests, slot_delete, with_entry, fewer}
 
--- ---- rows 7 and 8
-
+-- row 7
 abbrev over_limit : ℕ → ℕ → ℕ → Bool
 over_limit beam degree ids = ltb limits.repair_beam beam || ltb limits.repair_degree degree || ltb limits.ids ids
-
-pub over_beam : {beam : ℕ} (degree ids : ℕ) → 256 < beam → true ≡ over_limit beam degree ids
-unfolding limits
-over_beam {beam} degree ids h = rw (lt-ltb 256 beam h)
-
-pub over_degree : {beam degree : ℕ} (ids : ℕ) → beam ≤ 256 → 16 < degree → true ≡ over_limit beam degree ids
-unfolding limits
-over_degree {beam} {degree} ids b h = rw (le-ltb 256 beam b, lt-ltb 16 degree h)
-
-pub over_ids : {beam degree : ℕ} (ids : ℕ) {most : ℕ} → beam ≤ 256 → degree ≤ 16 → most ≡ 256 → ltb most ids ≡ over_limit beam degree ids
-unfolding limits
-over_ids {beam} {degree} ids b h e = rw (le-ltb 256 beam b, le-ltb 16 degree h, e)
-
-module _ (index : Index) {lent : Lengths} {looked : Labels} (ids beam degree stats scratch : ℕ) {r : ℕ} (d : Decided index lent looked (ltb stats ids) [] r) where
-  abbrev Turns : ℕ → Type 0
-  Turns k = Decided index lent looked (ltb stats ids) (delete_tests index.capacity ids beam degree scratch) k
-
-  pub turns_before : (r ≡ 0 → ⊥) → Turns r
-  turns_before n = decided_before d _ n
-
-  module _ (z : r ≡ 0) {q₇ : Bool} (e₇ : q₇ ≡ over_limit beam degree ids) where
-    pub turns_over : q₇ ≡ true → Turns 7
-    turns_over t = decided_after d _ 7 z (rw (sym e₇ ∙ t))
-
-    module _ (f₇ : q₇ ≡ false) {q₈ : Bool} (e₈ : q₈ ≡ ltb scratch (size_answer index.capacity)) where
-      pub turns_short : q₈ ≡ true → Turns 8
-      turns_short t = decided_after d _ 8 z (rw (sym e₇ ∙ f₇, sym e₈ ∙ t))
-
-      pub turns_none : q₈ ≡ false → Turns 0
-      turns_none t = decided_after d _ 0 z (rw (sym e₇ ∙ f₇, sym e₈ ∙ t))
-
--- what striking out asks, after the batch
-pub strike_room : {live l marks marks' numbers summary : ℕ} → numbers ≡ marks → live ≤ summary → l ≡ live → marks' ≡ marks → (numbers ≡ marks') × (l ≤ summary)
-strike_room h k e m = (h ∙ sym m, omega (arith, k, e))
-
-pub struck_of : {live l : ℕ} {marks numbers summary numbers' summary' : List ℕ} → l ≡ live → Struck marks numbers summary l numbers' summary' → Struck marks numbers summary live numbers' summary'
-struck_of {marks = marks} {numbers} {summary} {numbers'} {summary'} e k = subst (λ n. Struck marks numbers summary n numbers' summary') e k
 
 -- ---- the batch of an index that passed
 
@@ -176,38 +142,35 @@ module _ {index : Index} {s : Slices} (able : Passed index s) (ids : List ℕ) (
 
 -- ---- a delete of slots
 
-module _ (index : Index) (s : Slices) (ids : List ℕ) (beam degree room : ℕ) (scratch : List ℕ) {r : ℕ}
+module _ (index : Index) (s : Slices) (ids : List ℕ) (beam degree room : ℕ) (scratch : List ℕ) {A : Type 0} {r : Result A Refusal}
     (d : Decided index (lengths_of s) (labels_of s) (ltb room (length ids)) (delete_tests index.capacity (length ids) beam degree (length scratch)) r) where
   abbrev call : List Stats → Call
   call before = record { lent = lent_of s (stats_outputs before) scratch; operation = delete (slot_delete ids beam degree) }
-
-  numbered : All Numbered (delete_tests index.capacity (length ids) beam degree (length scratch))
-  numbered = (omega arith, (omega arith, tt))
 
   -- for a list of that room
   with_list : (before : List Stats) → length before ≡ room
       → Decided index (lengths_of s) (labels_of s) (ltb (length before) (length ids)) (delete_tests index.capacity (length ids) beam degree (length scratch)) r
   with_list before e = subst (λ (k : ℕ). Decided index (lengths_of s) (labels_of s) (ltb k (length ids)) (delete_tests index.capacity (length ids) beam degree (length scratch)) r) (sym e) d
 
-  pub deletes_back : (r ≡ 0 → ⊥) → Deletes index s (slot_delete ids beam degree) room scratch s scratch (Refused r)
+  pub deletes_back : {x : Refusal} → r ≡ Err x → Deletes index s (slot_delete ids beam degree) room scratch s scratch (Err x)
   unfolding tests refused_as deleted_as index_left written state_of stored store_ops store_view shown room_of call_of slices_of
-  deletes_back n =
+  deletes_back {x} n =
       record {
         stats = [];
-        words = λ i m e. absurd (let z : ◌≡◌ {A = ℕ} 0 1 = cc in omega arith);
-        fits = λ i m e. absurd (let z : ◌≡◌ {A = ℕ} 0 1 = cc in omega arith);
-        meets = λ before e. record { does = sym (step_back (state_of index s) (call before) r (turned_back index s numbered (with_list before e) n)); writes = refl; keeps = λ m e. refl };
+        words = λ c e. cc;
+        fits = λ c e. cc;
+        meets = λ before e. record { does = sym (step_back (state_of index s) (call before) (number_of x) (turned_back index s (with_list before e) n)); writes = refl; keeps = λ m e. refl };
       }
 
-  module _ (z : r ≡ 0) where
+  module _ {u : A} (z : r ≡ Ok u) where
     pub able : Passed index s
-    able = passed index s numbered d z
+    able = passed index s d z
 
     over : over_limit beam degree (length ids) ≡ false
-    over = (first_none 7 _ ((8, ltb (length scratch) (size_answer index.capacity)) ∷ []) (own_none index s numbered d z)).0
+    over = (first_none 7 _ ((8, ltb (length scratch) (size_answer index.capacity)) ∷ []) (own_none index s d z)).0
 
     short : ltb (length scratch) (size_answer index.capacity) ≡ false
-    short = (first_none 8 _ [] (first_none 7 (over_limit beam degree (length ids)) ((8, ltb (length scratch) (size_answer index.capacity)) ∷ []) (own_none index s numbered d z)).1).0
+    short = (first_none 8 _ [] (first_none 7 (over_limit beam degree (length ids)) ((8, ltb (length scratch) (size_answer index.capacity)) ∷ []) (own_none index s d z)).1).0
 
     pub deletes_able : Deletable (arrays index.dim index.degree s.vectors s.targets s.edges s.versions s.marks) index.entry beam degree ids scratch
         × (length s.numbers ≡ length s.marks) × (index.live ≤ length s.summary)
@@ -220,20 +183,23 @@ module _ (index : Index) (s : Slices) (ids : List ℕ) (beam degree room : ℕ) 
         (lm : length marks' ≡ length s.marks) where
       not_refused : (before : List Stats) → length before ≡ room → (m : ℕ) → refusal stored (state_of index s) (call before) ≡ some m → ⊥
       unfolding refusal tests state_of stored store_ops store_view shown room_of
-      not_refused before e m h = let g = sym (let_through index s numbered (with_list before e) z) ∙ h in let x : ◌≡◌ {A = ℕ} 0 1 = cc in omega arith
+      not_refused before e m h = let g = sym (let_through index s (with_list before e) z) ∙ h in let x : ◌≡◌ {A = ℕ} 0 1 = cc in omega arith
 
-      pub deletes_on : {i : Index} → i ≡ with_entry index entry' (index.live - n)
-          → Deletes index s (slot_delete ids beam degree) room scratch (slices s.vectors targets' edges' versions' marks' s.pool numbers' summary') scratch' (Done i n)
+      pub deletes_on : {c : Changed} → c ≡ fewer index entry' n
+          → Deletes index s (slot_delete ids beam degree) room scratch (slices s.vectors targets' edges' versions' marks' s.pool numbers' summary') scratch' (Ok c)
       unfolding tests perform deleted_as index_left written state_of stored store_ops store_view shown room_of call_of slices_of run_refusal
-      deletes_on {i} e =
-          let w = state_left able ids beam degree b.0 b.1 lm e in
+      deletes_on {c} e =
+          let w = state_left able ids beam degree b.0 b.1 lm (ap (λ x. x.index) e) in
           record {
             stats = map (stats_of scratch' (stats_at index.capacity)) (range 0 n);
-            words = λ j m g. let k : n ≡ m = cc in ap (λ (x : ℕ). map (stats_of scratch' (stats_at index.capacity)) (range 0 x)) k;
-            fits = λ j m g. let k : n ≡ m = cc in omega (arith, k, b.0.few, ltb-false room (length ids) (not_wrong index s numbered d z));
+            words = λ k g. ap (λ (x : ℕ). map (stats_of scratch' (stats_at index.capacity)) (range 0 x)) (counted k g);
+            fits = λ k g. omega (arith, counted k g, b.0.few, ltb-false room (length ids) (not_wrong index s d z));
             meets = λ before l. record {
-              does = ap (λ (v : State Store × List Stats). (v.0, deleted v.1)) w ∙ sym (step_on (state_of index s) (call before) (let_through index s numbered (with_list before l) z));
+              does = ap (λ (v : State Store × List Stats). (v.0, deleted v.1)) w ∙ sym (step_on (state_of index s) (call before) (let_through index s (with_list before l) z));
               writes = refl;
               keeps = λ m g. absurd (not_refused before l m g);
             };
           }
+        where
+          counted : (k : Changed) → ◌≡◌ {A = Result Changed Refusal} (Ok c) (Ok k) → n ≡ k.count
+          counted k g = sym (ap (λ x. x.count) e) ∙ ap (λ x. x.count) (ok_is g)

@@ -4,13 +4,12 @@ use mathlib.Core.Bool.{Bool, true, false, not, ◌||◌}
 use mathlib.Core.Path.{◌≡◌, refl, sym, ap, ap₂, ◌∙◌, subst}
 use mathlib.Core.List.{List, [], ◌∷◌}
 use mathlib.Core.Option.{Option, none, some}
-use native.Mathlib.Nat.{div-zero, div-mul-le_self}
 use native.Mathlib.Omega.{arith}
-use borrow.Author.Tests.{lt-ltb, le-ltb, ltb-false, eqb-true, not-false}
+use borrow.Author.Tests.{lt-ltb, le-ltb, ltb-false, eq-eqb, ne_eqb, eqb-true, not-false}
 use lib.Dec.{eqb, ltb}
 use lib.ListN.{length, take, drop, length-map}
 use lib.Seq.{length-take-le, take-append-le, take-length}
-use Rattle.lists.specs.Lists.{All, filter, range, elem, put_front}
+use Rattle.lists.specs.Lists.{filter, range, elem, put_front}
 use Rattle.lists.proofs.Filtered.{count_both}
 use Rattle.lists.proofs.Ranges.{length_range}
 use Rattle.slots.specs.Sizes.{Slices, slices, Lengths, lengths_of, limits, alpha_ok}
@@ -19,10 +18,7 @@ use Rattle.slots.specs.View.{live_slots}
 use Rattle.slots.specs.Store.{Store, is_valid, store_view, store_ops, arrays}
 use Rattle.slots.proofs.Live.{MarksFit, store_marking}
 use Rattle.numbers.specs.Numbers.{taken, write_numbers, summary_of}
-use Rattle.numbers.specs.Inner.Held.{any_in}
-use Rattle.numbers.specs.Inner.Listed.{Listed, Inserting, Entering, Entered}
-use Rattle.numbers.proofs.Taken.{taken_split}
-use Rattle.numbers.proofs.Kept.{write_numbers_long}
+use Rattle.numbers.specs.Inner.Listed.{Listed, Inserting, Entering}
 use Rattle.numbers.proofs.Listing.{inserting_entering}
 use Rattle.insert.specs.Insert.{insert_batch}
 use Rattle.insert.proofs.Free.{sizes_after_insert, live_after_insert}
@@ -40,51 +36,24 @@ use Rattle.calls.proofs.Labelled.{inserting_now, filled_now}
 use Rattle.index.specs.declared.Index.{Index}
 use Rattle.index.specs.Index.{guard_of, state_of}
 use Rattle.index.specs.Inner.Deciding.{labels, labels_of, Decided, Passed}
-use Rattle.index.proofs.Decide.{Numbered, decided_before, decided_after, decided_live, decided_passed, decided_listed, decided_not_wrong, turned_back, let_through, own_none, not_wrong, passed, passed_none, passed_rows, passed_marks, passed_bytes, step_back, step_on}
-use Rattle.updating.specs.declared.Inserted.TheVariants.{Refused, Done}
+use Rattle.index.proofs.Decide.{decided_before, decided_after, decided_live, decided_passed, decided_listed, decided_not_wrong, turned_back, let_through, own_none, not_wrong, passed, passed_none, passed_rows, passed_marks, passed_bytes, step_back, step_on}
+use Rattle.std.specs.Prelude.{Result, Ok, Err}
+use Rattle.index.specs.declared.Refusal.{Refusal}
+use Rattle.index.specs.declared.Refusal.TheVariants as Refused
+use Rattle.index.specs.Refusal.{number_of}
+use Rattle.updating.specs.declared.Changed.{Changed}
 use Rattle.updating.specs.Insert.{insert_outputs, inserted_as, index_after, Inserts}
 use Rattle.updating.specs.Inner.Filling.{insert_tests, with_live, Labelable, Relabelled}
 
--- ---- whole vectors
-
-pub whole_none : (bytes : ℕ) {dim : ℕ} → dim ≡ 0 → 0 ≡ bytes / dim
-whole_none bytes e = rw e (sym (div-zero bytes))
-
-pub whole_some : (bytes : ℕ) {dim d : ℕ} → d ≡ dim → bytes / d ≡ bytes / dim
-whole_some bytes e = rw e
-
-pub whole_within : (bytes dim : ℕ) {n : ℕ} → n ≡ bytes / dim → n * dim ≤ bytes
-whole_within bytes dim e = rw e (div-mul-le_self bytes dim)
-
-pub left_fits : {bytes : ℕ} (n : ℕ) {dim d : ℕ} → d ≡ dim → n * dim ≤ bytes → n * d ≤ bytes
-left_fits n e h = rw e h
-
-pub left_is : (bytes n : ℕ) {dim d : ℕ} → d ≡ dim → not (eqb bytes (n * d)) ≡ not (eqb bytes (n * dim))
-left_is bytes n e = rw e
-
-pub few_is : (n : ℕ) {free w : ℕ} → w ≡ free → ltb w n ≡ ltb free n
-few_is n e = rw e
-
--- row 3, of the list for slots and of the numbers
-pub wrong_room : {slots n : ℕ} (given : ℕ) → slots < n → true ≡ (ltb slots n || not (eqb given n))
-wrong_room {slots} {n} given h = rw (lt-ltb slots n h)
-
-pub wrong_numbers : {slots n : ℕ} (given : ℕ) → n ≤ slots → not (eqb given n) ≡ (ltb slots n || not (eqb given n))
-wrong_numbers {slots} {n} given h = rw (le-ltb slots n h)
-
--- row 15, in two tests
-pub taken_live : (numbers given : List ℕ) {q : Bool} → q ≡ any_in numbers given → q ≡ true → true ≡ taken numbers given
-taken_live numbers given e t = rw (taken_split numbers given, sym e ∙ t)
-
-pub taken_twice : (numbers given : List ℕ) {q r : Bool} → q ≡ any_in numbers given → q ≡ false → r ≡ taken [] given → r ≡ taken numbers given
-taken_twice numbers given e t f = rw (taken_split numbers given, sym e ∙ t) f
+pub ok_is : {A E : Type 0} {x y : A} → ◌≡◌ {A = Result A E} (Ok x) (Ok y) → x ≡ y
+ok_is e = cc
 
 -- ---- rows 7 to 10, and 15
 
-module _ (index : Index) {lent : Lengths} {marks numbers summary : List ℕ} (bytes : ℕ) (given : List ℕ) (beam slots scratch : ℕ) {n r : ℕ} {wrong : Bool}
+module _ (index : Index) {lent : Lengths} {marks numbers summary : List ℕ} (bytes : ℕ) (given : List ℕ) (beam slots scratch : ℕ) {n : ℕ} {A : Type 0} {r : Result A Refusal} {wrong : Bool}
     (long : (lent.marks ≡ length marks) × (lent.numbers ≡ length numbers) × (lent.summary ≡ length summary))
     (e : n ≡ bytes / index.dim) (w : wrong ≡ (ltb slots n || not (eqb (length given) n))) (d : Decided index lent (labels marks numbers summary) wrong [] r) where
-  abbrev Turns : ℕ → Type 0
+  abbrev Turns : Result A Refusal → Type 0
   Turns k =
       Decided index lent (labels marks numbers summary) (ltb slots (bytes / index.dim) || not (eqb (length given) (bytes / index.dim))) (insert_tests index marks numbers bytes given beam scratch) k
 
@@ -93,103 +62,77 @@ module _ (index : Index) {lent : Lengths} {marks numbers summary : List ℕ} (by
       subst (λ (x : ℕ). Decided index lent (labels marks numbers summary) (ltb slots x || not (eqb (length given) x)) [] r) e
       (subst (λ (q : Bool). Decided index lent (labels marks numbers summary) q [] r) w d)
 
-  pub turns_before : (r ≡ 0 → ⊥) → Turns r
-  turns_before k = decided_before right _ k
+  pub turns_before : {x : Refusal} → r ≡ Err x → Turns (Err x)
+  turns_before z = decided_before right _ z
 
-  module _ (z : r ≡ 0) where
-    passes : Decided index lent (labels marks numbers summary) wrong [] 0
-    passes = subst (λ (k : ℕ). Decided index lent (labels marks numbers summary) wrong [] k) z d
-
-    -- the live slots are counted
-    live_is : index.live ≡ length (filter (is_valid marks) (range 0 index.capacity))
-    live_is = decided_live index long.0 long.1 long.2 passes
-
-    -- so the others are free
+  module _ {u : A} (z : r ≡ Ok u) where
+    -- the live slots are counted, so the others are free
     free_is : index.live + length (filter (λ s. not (is_valid marks s)) (range 0 index.capacity)) ≡ index.capacity
-    free_is = omega (arith, live_is, count_both (is_valid marks) (range 0 index.capacity), length_range 0 index.capacity)
+    free_is = omega (arith, decided_live index long.0 long.1 long.2 d z, count_both (is_valid marks) (range 0 index.capacity), length_range 0 index.capacity)
 
     pub turns_live : index.live ≤ index.capacity
     turns_live = omega (arith, free_is)
 
     -- the numbers can be looked up
     pub turns_listed : Listed numbers summary index.live
-    turns_listed = decided_listed index long.0 long.1 long.2 passes
+    turns_listed = decided_listed index long.0 long.1 long.2 d z
 
-    pub turns_over : 1024 < beam → Turns 7
+    pub turns_over : 1024 < beam → Turns (Err Refused.Limits)
     unfolding limits
-    turns_over h = decided_after right _ 7 z (rw (lt-ltb 1024 beam h))
+    turns_over h = decided_after right _ _ z (rw (lt-ltb 1024 beam h))
 
     module _ (b : beam ≤ 1024) {q₈ : Bool} (e₈ : q₈ ≡ ltb scratch (size_answer index.capacity)) where
-      pub turns_short : q₈ ≡ true → Turns 8
+      pub turns_short : q₈ ≡ true → Turns (Err Refused.Scratch)
       unfolding limits
-      turns_short t = decided_after right _ 8 z (rw (le-ltb 1024 beam b, sym e₈ ∙ t))
+      turns_short t = decided_after right _ _ z (rw (le-ltb 1024 beam b, sym e₈ ∙ t))
 
-      module _ (f₈ : q₈ ≡ false) {q₉ : Bool} (e₉ : q₉ ≡ not (eqb bytes (n * index.dim))) where
-        leaves : q₉ ≡ not (eqb bytes (bytes / index.dim * index.dim))
-        leaves = e₉ ∙ ap (λ (x : ℕ). not (eqb bytes (x * index.dim))) e
-
-        pub turns_left : q₉ ≡ true → Turns 9
+      module _ (f₈ : q₈ ≡ false) where
+        pub turns_left : (bytes ≡ n * index.dim → ⊥) → Turns (Err Refused.Bytes)
         unfolding limits
-        turns_left t = decided_after right _ 9 z (rw (le-ltb 1024 beam b, sym e₈ ∙ f₈, sym leaves ∙ t))
+        turns_left t = decided_after right _ _ z (rw (le-ltb 1024 beam b, sym e₈ ∙ f₈, ne_eqb bytes (bytes / index.dim * index.dim) (λ x. t (x ∙ ap (λ m. m * index.dim) (sym e)))))
 
-        module _ (f₉ : q₉ ≡ false) {q₁₀ : Bool} (e₁₀ : q₁₀ ≡ ltb (index.capacity - index.live) n) where
+        module _ (f₉ : bytes ≡ n * index.dim) {q₁₀ : Bool} (e₁₀ : q₁₀ ≡ ltb (index.capacity - index.live) n) where
+          whole_is : eqb bytes (bytes / index.dim * index.dim) ≡ true
+          whole_is = eq-eqb bytes (bytes / index.dim * index.dim) (f₉ ∙ ap (λ m. m * index.dim) e)
+
           few : q₁₀ ≡ ltb (length (filter (λ s. not (is_valid marks s)) (range 0 index.capacity))) (bytes / index.dim)
           few = e₁₀ ∙ ap₂ ltb (omega (arith, free_is)) e
 
-          pub turns_few : q₁₀ ≡ true → Turns 10
+          pub turns_few : q₁₀ ≡ true → Turns (Err Refused.Full)
           unfolding limits
-          turns_few t = decided_after right _ 10 z (rw (le-ltb 1024 beam b, sym e₈ ∙ f₈, sym leaves ∙ f₉, sym few ∙ t))
+          turns_few t = decided_after right _ _ z (rw (le-ltb 1024 beam b, sym e₈ ∙ f₈, whole_is, sym few ∙ t))
 
           module _ (f₁₀ : q₁₀ ≡ false) where
             -- no more numbers than slots
             pub turns_short_list : length given ≤ 65536
-            unfolding state_of store_view
             turns_short_list =
-                let p = decided_passed index long.0 long.1 long.2 passes in
                 omega (
                   arith,
                   ltb-false (index.capacity - index.live) n (sym e₁₀ ∙ f₁₀),
-                  p.capacity_high,
-                  eqb-true (length given) n (not-false (eqb (length given) n) (or_neither (ltb slots n) (not (eqb (length given) n)) (sym w ∙ decided_right)).1),
+                  (decided_passed index long.0 long.1 long.2 d z).capacity_high,
+                  eqb-true (length given) n (not-false (eqb (length given) n) (or_neither (ltb slots n) (not (eqb (length given) n)) (sym w ∙ decided_not_wrong index long.0 long.1 long.2 d z)).1),
                 )
-              where
-                decided_right : wrong ≡ false
-                decided_right = decided_not_wrong index long.0 long.1 long.2 passes
 
             module _ {q₁₅ : Bool} (e₁₅ : q₁₅ ≡ taken numbers given) where
-              pub turns_taken : q₁₅ ≡ true → Turns 15
+              pub turns_taken : q₁₅ ≡ true → Turns (Err Refused.Numbers)
               unfolding limits
-              turns_taken t = decided_after right _ 15 z (rw (le-ltb 1024 beam b, sym e₈ ∙ f₈, sym leaves ∙ f₉, sym few ∙ f₁₀, sym e₁₅ ∙ t))
+              turns_taken t = decided_after right _ _ z (rw (le-ltb 1024 beam b, sym e₈ ∙ f₈, whole_is, sym few ∙ f₁₀, sym e₁₅ ∙ t))
 
-              pub turns_none : q₁₅ ≡ false → Turns 0
+              pub turns_none : {v : A} → q₁₅ ≡ false → Turns (Ok v)
               unfolding limits
-              turns_none t = decided_after right _ 0 z (rw (le-ltb 1024 beam b, sym e₈ ∙ f₈, sym leaves ∙ f₉, sym few ∙ f₁₀, sym e₁₅ ∙ t))
+              turns_none t = decided_after right _ _ z (rw (le-ltb 1024 beam b, sym e₈ ∙ f₈, whole_is, sym few ∙ f₁₀, sym e₁₅ ∙ t))
 
 -- ---- numbers and summary
 
--- the slots filled can be given their numbers
-pub label_inside : {numbers summary : List ℕ} {live : ℕ} {slots given : List ℕ} → Labelable numbers summary live slots given
-    → (length given ≤ length slots) × All (λ s. s < length numbers) (take (length given) slots)
-label_inside k = (k.long, k.inserting.inside)
-
+-- the slots filled can be entered
 module _ {numbers summary : List ℕ} {live : ℕ} {slots given : List ℕ} (k : Labelable numbers summary live slots given) {numbers' : List ℕ}
-    (e : numbers' ≡ write_numbers (take (length given) slots) given numbers) {l : ℕ} (same : l ≡ live) where
-  pub label_entering : Entering numbers' summary l slots (length given)
-  label_entering = inserting_entering k.inserting e (same ∙ k.many) k.long
-
-  pub label_done : {summary' : List ℕ} → Entered numbers' summary l slots (length given) summary' → Relabelled numbers summary live slots given numbers' summary'
-  label_done {summary'} f =
-      let n : length numbers' ≡ length numbers = ap length e ∙ write_numbers_long (take (length given) slots) given numbers in
-      record {
-        numbers_new = e;
-        summary_new = λ before after i m h. subst (λ c. summary' ≡ summary_of after c numbers') n
-            (f.listed before after numbers given (subst (λ c. Inserting before c numbers summary (take (length given) slots) given) (sym n) i) e
-            (same ∙ subst (λ c. live ≡ length (filter before (range 0 c))) (sym n) m) (λ s q. h s (omega (arith, q, n))));
-      }
+    (e : numbers' ≡ write_numbers (take (length given) slots) given numbers) where
+  pub label_entering : Entering numbers' summary live slots (length given)
+  label_entering = inserting_entering k.inserting e k.many k.long
 
 -- ---- an insert
 
-module _ (index : Index) (s : Slices) (a : Insert) (slots scratch : List ℕ) {r : ℕ}
+module _ (index : Index) (s : Slices) (a : Insert) (slots scratch : List ℕ) {A : Type 0} {r : Result A Refusal}
     (d : Decided index (lengths_of s) (labels_of s) (ltb (length slots) (length a.bytes / index.dim) || not (eqb (length a.numbers) (length a.bytes / index.dim)))
     (insert_tests index s.marks s.numbers (length a.bytes) a.numbers a.beam (length scratch)) r) where
   abbrev call : Call
@@ -210,33 +153,30 @@ module _ (index : Index) (s : Slices) (a : Insert) (slots scratch : List ℕ) {r
   abbrev full : Bool
   full = ltb (length (filter (λ t. not (is_valid s.marks t)) (range 0 index.capacity))) count
 
-  numbered : All Numbered (insert_tests index s.marks s.numbers (length a.bytes) a.numbers a.beam (length scratch))
-  numbered = (omega arith, (omega arith, (omega arith, (omega arith, (omega arith, tt)))))
-
-  pub inserts_back : (r ≡ 0 → ⊥) → Inserts index s a (insert_outputs slots) scratch s (insert_outputs slots) scratch (Refused r)
+  pub inserts_back : {x : Refusal} → r ≡ Err x → Inserts index s a (insert_outputs slots) scratch s (insert_outputs slots) scratch (Err x)
   unfolding tests refused_as inserted_as index_after written state_of stored store_ops store_view shown room_of call_of slices_of
-  inserts_back n =
+  inserts_back {x} n =
       record {
         filled = [];
-        counts = λ i m e. absurd (let z : ◌≡◌ {A = ℕ} 0 1 = cc in omega arith);
-        meets = record { does = sym (step_back (state_of index s) call r (turned_back index s numbered d n)); writes = refl; keeps = λ m e. refl };
+        counts = λ c h. cc;
+        meets = record { does = sym (step_back (state_of index s) call (number_of x) (turned_back index s d n)); writes = refl; keeps = λ m e. refl };
       }
 
-  module _ (z : r ≡ 0) where
+  module _ {u : A} (z : r ≡ Ok u) where
     abbrev able : Passed index s
-    able = passed index s numbered d z
+    able = passed index s d z
 
     -- none of the call's tests holds
     let_on : first_of (tests limits call.lent (shown stored (state_of index s)) (insert a)) ≡ none
     unfolding tests state_of stored store_ops store_view shown room_of
-    let_on = let_through index s numbered d z
+    let_on = let_through index s d z
 
     pub finds : InsertFinds call.lent (shown stored (state_of index s)) a
     finds = insert_finds call.lent (shown stored (state_of index s)) a let_on
 
     own : (over ≡ false) × (small ≡ false)
     own =
-        let e = first_none 7 over ((8, small) ∷ (9, odd) ∷ (10, full) ∷ (15, taken s.numbers a.numbers) ∷ []) (own_none index s numbered d z) in
+        let e = first_none 7 over ((8, small) ∷ (9, odd) ∷ (10, full) ∷ (15, taken s.numbers a.numbers) ∷ []) (own_none index s d z) in
         (e.0, (first_none 8 small ((9, odd) ∷ (10, full) ∷ (15, taken s.numbers a.numbers) ∷ []) e.1).0)
 
     beam_most : a.beam ≤ 1024
@@ -257,7 +197,7 @@ module _ (index : Index) (s : Slices) (a : Insert) (slots scratch : List ℕ) {r
           dim_least = p.dim_low;
           entry_in = rw m p.entry_inside;
           beam_most = beam_most;
-          room_in = ltb-false (length slots) count (or_neither (ltb (length slots) count) (not (eqb (length a.numbers) count)) (not_wrong index s numbered d z)).0;
+          room_in = ltb-false (length slots) count (or_neither (ltb (length slots) count) (not (eqb (length a.numbers) count)) (not_wrong index s d z)).0;
           free_in = rw m enough_free;
           enough = rw m (omega (arith, insert_enough index.capacity index.degree p.degree_high, ltb-false (length scratch) (size_answer index.capacity) own.1));
         }
@@ -370,7 +310,7 @@ module _ (index : Index) (s : Slices) (a : Insert) (slots scratch : List ℕ) {r
         not_refused m h = let g = sym let_on ∙ h in let x : ◌≡◌ {A = ℕ} 0 1 = cc in omega arith
 
         pub inserts_on : {scratch' : List ℕ} {i : Index} → i ≡ with_live index (index.live + n)
-            → Inserts index s a (insert_outputs slots) scratch (slices vectors' targets' edges' s.versions marks' s.pool numbers' summary') (insert_outputs slots') scratch' (Done i n)
+            → Inserts index s a (insert_outputs slots) scratch (slices vectors' targets' edges' s.versions marks' s.pool numbers' summary') (insert_outputs slots') scratch' (Ok (record { index = i; count = n }))
         unfolding perform with_graph inserted_as index_after written state_of stored store_ops store_view room_of call_of slices_of run_refusal
         inserts_on {scratch'} {i} e =
             let s' = slices vectors' targets' edges' s.versions marks' s.pool numbers' summary' in
@@ -381,7 +321,7 @@ module _ (index : Index) (s : Slices) (a : Insert) (slots scratch : List ℕ) {r
             ∙ ap (λ (g : Store). with_graph stored (state_of index s) g numbers) graph_is in
             record {
               filled = filled;
-              counts = λ j m q. let g : n ≡ m = cc in sym g ∙ counted;
+              counts = λ c q. sym (ap (λ x. x.count) (ok_is q)) ∙ counted;
               meets = record {
                 does = ap (λ (w : State Store). (w, inserted filled)) after ∙ sym (step_on (state_of index s) call let_on);
                 writes = ap (λ (l : List ℕ). insert_outputs l) slots_are;
@@ -391,9 +331,9 @@ module _ (index : Index) (s : Slices) (a : Insert) (slots scratch : List ℕ) {r
 
 -- ---- the new index's alpha: the one that was accepted
 
-module _ {index : Index} {s : Slices} {a : Insert} {outputs : Outputs} {scratch : List ℕ} {s' : Slices} {outputs' : Outputs} {scratch' : List ℕ} {i : Index} {n : ℕ}
-    (c : Inserts index s a outputs scratch s' outputs' scratch' (Done i n)) where
-  pub inserted_alpha : (i.alpha ≡ index.alpha) × (alpha_ok index.alpha ≡ true)
+module _ {index : Index} {s : Slices} {a : Insert} {outputs : Outputs} {scratch : List ℕ} {s' : Slices} {outputs' : Outputs} {scratch' : List ℕ} {new : Changed}
+    (c : Inserts index s a outputs scratch s' outputs' scratch' (Ok new)) where
+  pub inserted_alpha : (new.index.alpha ≡ index.alpha) × (alpha_ok index.alpha ≡ true)
   unfolding tests perform with_graph refused_as inserted_as index_after state_of stored store_ops store_view shown room_of call_of slices_of
   inserted_alpha = go _ refl
     where
@@ -403,13 +343,13 @@ module _ {index : Index} {s : Slices} {a : Insert} {outputs : Outputs} {scratch 
       asked : Call
       asked = record { lent = lent_of s outputs scratch; operation = insert a }
 
-      go : (o : Option ℕ) → first_of (tests limits asked.lent (shown stored on) (insert a)) ≡ o → (i.alpha ≡ index.alpha) × (alpha_ok index.alpha ≡ true)
+      go : (o : Option ℕ) → first_of (tests limits asked.lent (shown stored on) (insert a)) ≡ o → (new.index.alpha ≡ index.alpha) × (alpha_ok index.alpha ≡ true)
       go (some m) e =
           let b : inserted c.filled ≡ refused_as m (insert a) = ap (λ x. x.1) (c.meets.does ∙ step_back on asked m e) in
           absurd (let z : ◌≡◌ {A = ℕ} 0 1 = cc in omega arith)
       go none e =
-          let p = passed_none index s _ _ (omega arith, (omega arith, (omega arith, (omega arith, (omega arith, tt))))) e in
+          let p = passed_none index s _ _ e in
           let g = on.graph in
           let vs = vectors_of index.dim a.bytes in
-          let w : state_of i s' ≡ with_graph stored on (insert_batch store_ops a.beam g vs) _ = ap (λ x. x.0) (c.meets.does ∙ step_on on asked e) in
+          let w : state_of new.index s' ≡ with_graph stored on (insert_batch store_ops a.beam g vs) _ = ap (λ x. x.0) (c.meets.does ∙ step_on on asked e) in
           (ap (λ x. x.graph.alpha) w ∙ ap (λ z. z.alpha) (sizes_after_insert store_ops MarksFit store_marking g (passed_marks p) a.beam vs), p.alpha_right)

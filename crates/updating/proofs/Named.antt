@@ -1,22 +1,21 @@
 -- The names of a delete: a call on numbers is the call on the slots that carry them. Assumes nothing.
 use Prim.Native.Nat.{ℕ, ◌-◌, ◌≤◌}
 use mathlib.Core.Bool.{Bool, true, false, ◌&&◌, ◌||◌}
-use mathlib.Core.Path.{◌≡◌, refl, sym, ap, ◌∙◌, subst}
+use mathlib.Core.Path.{◌≡◌, refl, sym, ap, ◌∙◌}
 use mathlib.Core.List.{List, [], ◌∷◌, map}
 use mathlib.Core.Option.{none}
 use native.Mathlib.Omega.{arith}
 use borrow.Author.Tests.{leb-true, leb-false, ltb-false}
 use lib.Dec.{ltb, leb}
-use lib.ListN.{length, take, drop, length-map}
-use lib.Seq.{length-take-le, take-append-le, take-length}
-use Rattle.lists.specs.Lists.{put_front}
+use lib.ListN.{length, take}
+use lib.Seq.{length-take-le}
 use Rattle.lists.proofs.Bools.{and_both}
 use Rattle.slots.specs.Sizes.{Slices, Lengths, lengths_of, limits}
 use Rattle.slots.specs.Store.{Store}
 use Rattle.numbers.specs.Numbers.{slot_of}
 use Rattle.numbers.specs.Inner.Listed.{Listed}
 use Rattle.calls.specs.Calls.{Delete, delete, Lent}
-use Rattle.calls.specs.Refusals.{Test, first_of, or_zero, delete_over, scratch_short, index_tests, tests}
+use Rattle.calls.specs.Refusals.{Test, first_of, delete_over, scratch_short, index_tests, tests}
 use Rattle.calls.specs.State.{State, stored, shown}
 use Rattle.calls.specs.Step.{slots_of, named, refusal}
 use Rattle.calls.specs.Runs.{slices_of, call_of, run_refusal}
@@ -24,11 +23,13 @@ use Rattle.calls.proofs.Tests.{first_none, or_neither, index_finds}
 use Rattle.calls.proofs.Labelled.{same_refusal, same_delete}
 use Rattle.index.specs.declared.Index.{Index}
 use Rattle.index.specs.Index.{state_of}
-use Rattle.index.specs.Inner.Deciding.{Labels, labels, labels_of, Decided}
+use Rattle.index.specs.Inner.Deciding.{labels, labels_of, Decided}
 use Rattle.index.proofs.Decide.{shared_none, decided_listed}
 use Rattle.updating.specs.declared.Naming.{Naming}
 use Rattle.updating.specs.declared.Naming.TheVariants.{Slots, Numbers}
-use Rattle.updating.specs.declared.Deleted.{Deleted}
+use Rattle.std.specs.Prelude.{Result, Ok}
+use Rattle.index.specs.declared.Refusal.{Refusal}
+use Rattle.updating.specs.declared.Changed.{Changed}
 use Rattle.updating.specs.Delete.{naming_of, deleting, Deletes}
 use Rattle.updating.specs.Inner.Emptying.{slot_delete, are_numbers, Translated}
 
@@ -40,31 +41,13 @@ module _ (naming : Naming) {names slots : ℕ} {q : Bool} (e : q ≡ (are_number
   pub names_fit_after : {slots' : ℕ} → slots' ≡ slots → names ≤ slots'
   names_fit_after l = omega (arith, names_fit, l)
 
-pub few_names : (names : ℕ) {most : ℕ} → most ≡ 256 → leb names most ≡ leb names limits.ids
-unfolding limits
-few_names names e = ap (leb names) e
-
 -- ---- translating
 
 -- of an index that is not turned back the numbers can be looked up
-pub names_listed : (index : Index) {lent : Lengths} {marks numbers summary : List ℕ} {names slots r : ℕ}
+pub names_listed : (index : Index) {lent : Lengths} {marks numbers summary : List ℕ} {names slots : ℕ} {A : Type 0} {r : Result A Refusal} {u : A}
     → (lent.marks ≡ length marks) × (lent.numbers ≡ length numbers) × (lent.summary ≡ length summary) × (names ≤ slots)
-    → Decided index lent (labels marks numbers summary) false [] r → r ≡ 0 → Listed numbers summary index.live
-names_listed index {lent} {marks} {numbers} {summary} h d z = decided_listed index h.0 h.1 h.2 (subst (λ k. Decided index lent (labels marks numbers summary) false [] k) z d)
-
-pub translated_on : {index : Index} {lent : Lengths} {marks numbers summary : List ℕ} (names slots : List ℕ) {slots' : List ℕ} → slots' ≡ put_front (map (slot_of numbers) names) slots
-    → Translated index lent (labels marks numbers summary) names slots'
-translated_on names slots e = record {
-  does = λ s l h n.
-      let front = map (slot_of s.numbers) names in
-      let k : length front ≡ length names = simp length-map in
-      ap (take (length names)) e ∙ ap (λ ns. take (length names) (put_front (map (slot_of ns) names) slots)) (sym (ap (λ x. x.numbers) h))
-      ∙ ap (λ m. take m (put_front front slots)) (sym k) ∙ take-append-le (length front) front (drop (length front) slots) (omega arith) ∙ take-length front;
-}
-
-pub translated_off : {index : Index} {lent : Lengths} {looked : Labels} {names slots : List ℕ} {r : ℕ} → Decided index lent looked false [] r → (r ≡ 0 → ⊥)
-    → Translated index lent looked names slots
-translated_off d n = record { does = λ s e h k. absurd (n (d.does s e h ∙ ap or_zero k)) }
+    → Decided index lent (labels marks numbers summary) false [] r → r ≡ Ok u → Listed numbers summary index.live
+names_listed index {lent} {marks} {numbers} {summary} h d z = decided_listed index h.0 h.1 h.2 d z
 
 pub from_first : (names slots : List ℕ) → take (length names - 0) slots ≡ take (length names) slots
 from_first names slots = let e : length names - 0 ≡ length names = omega arith in ap (λ n. take n slots) e
@@ -108,7 +91,7 @@ delete_accepted w lent a e =
     ((first_none 7 (delete_over limits a) after (index_finds lent.slices (shown stored w) wrong rest e).own).0, shared_none lent.slices (shown stored w) wrong rest e)
 
 -- a delete by one list of names is the delete by another that names the same slots
-renamed : {index : Index} {s : Slices} {a b : Delete} {room : ℕ} {scratch : List ℕ} {s' : Slices} {scratch' : List ℕ} {r : Deleted}
+renamed : {index : Index} {s : Slices} {a b : Delete} {room : ℕ} {scratch : List ℕ} {s' : Slices} {scratch' : List ℕ} {r : Result Changed Refusal}
     → length b.names ≡ length a.names → b.repair_beam ≡ a.repair_beam → b.repair_degree ≡ a.repair_degree
     → (delete_over limits a ≡ false → first_of (index_tests limits (lengths_of s) (shown stored (state_of index s)) false []) ≡ none → named (state_of index s) b ≡ named (state_of index s) a)
     → Deletes index s b room scratch s' scratch' r → Deletes index s a room scratch s' scratch' r
@@ -127,7 +110,7 @@ renamed {index} {s} {a} {b} long beam degree same d = record {
       };
 }
 
-module _ (naming : Naming) (index : Index) (s : Slices) (names : List ℕ) {beam degree room : ℕ} {scratch : List ℕ} {s' : Slices} {scratch' : List ℕ} {r : Deleted} {q : Bool}
+module _ (naming : Naming) (index : Index) (s : Slices) (names : List ℕ) {beam degree room : ℕ} {scratch : List ℕ} {s' : Slices} {scratch' : List ℕ} {r : Result Changed Refusal} {q : Bool}
     (e : q ≡ (are_numbers naming && leb (length names) limits.ids)) where
   pub deletes_slots : q ≡ false → Deletes index s (slot_delete names beam degree) room scratch s' scratch' r → Deletes index s (deleting names naming beam degree) room scratch s' scratch' r
   deletes_slots f d = renamed refl refl refl (λ over n. as_they_are (state_of index s) names naming beam degree e f over) d

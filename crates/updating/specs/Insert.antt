@@ -1,9 +1,10 @@
 -- What an insert gives. Assumes nothing.
-use Rattle.std.specs.Prelude.{ℕ, List, [], ◌≡◌, length}
+use Rattle.std.specs.Prelude.{ℕ, List, [], ◌≡◌, length, Result, Ok, Err}
 use Rattle.slots.specs.Sizes.{Slices}
 use Rattle.index.specs.declared.Index.{Index}
-use Rattle.updating.specs.declared.Inserted.{Inserted}
-use Rattle.updating.specs.declared.Inserted.TheVariants.{Refused, Done}
+use Rattle.index.specs.declared.Refusal.{Refusal}
+use Rattle.index.specs.Refusal.{number_of}
+use Rattle.updating.specs.declared.Changed.{Changed}
 use Rattle.calls.specs.Calls.{Insert, insert, Answer, refused, inserted}
 use Rattle.calls.specs.Outputs.{Outputs}
 use Rattle.calls.specs.Runs.{Meets}
@@ -18,17 +19,17 @@ inserting bytes numbers beam = record { bytes = bytes; numbers = numbers; beam =
 abbrev pub insert_outputs : List ℕ → Outputs
 insert_outputs slots = record { slots = slots; dists = []; numbers = []; stats = []; checked = []; lost = [] }
 
-unfoldable pub inserted_as : Inserted → List ℕ → Answer
-inserted_as (Refused n) ss = refused n
-inserted_as (Done i n) ss = inserted ss
+unfoldable pub inserted_as : Result Changed Refusal → List ℕ → Answer
+inserted_as (Err e) ss = refused (number_of e)
+inserted_as (Ok c) ss = inserted ss
 
 -- the index by value that the app has then: the one that it had, or the new one
-unfoldable pub index_after : Index → Inserted → Index
-index_after index (Refused n) = index
-index_after index (Done i n) = i
+unfoldable pub index_after : Index → Result Changed Refusal → Index
+index_after index (Err e) = index
+index_after index (Ok c) = c.index
 
 -- what is left has a prime; the code answers the new index and how many slots are filled
-pub record Inserts (index : Index) (s : Slices) (a : Insert) (outputs : Outputs) (scratch : List ℕ) (s' : Slices) (outputs' : Outputs) (scratch' : List ℕ) (r : Inserted) : Type 0 where
+pub record Inserts (index : Index) (s : Slices) (a : Insert) (outputs : Outputs) (scratch : List ℕ) (s' : Slices) (outputs' : Outputs) (scratch' : List ℕ) (r : Result Changed Refusal) : Type 0 where
   pub filled : List ℕ
-  pub counts : (i : Index) (n : ℕ) → r ≡ Done i n → n ≡ length filled
+  pub counts : (c : Changed) → r ≡ Ok c → c.count ≡ length filled
   pub meets : Meets (changing index s (insert a) outputs scratch (index_after index r) s' outputs' scratch' (inserted_as r filled))

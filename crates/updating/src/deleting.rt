@@ -7,34 +7,29 @@ ghost use Rattle.deletion.specs.Batch.{Deletable, BatchDeleted};
 ghost use Rattle.index.specs.Index.{lengths_in};
 ghost use Rattle.index.specs.Inner.Deciding.{labels, Decided};
 ghost use Rattle.updating.specs.Delete.{deleting, Deletes};
-ghost use Rattle.updating.specs.Inner.Emptying.{delete_tests, with_entry};
+ghost use Rattle.updating.specs.Inner.Emptying.{delete_tests, fewer};
 ghost use Rattle.updating.specs.declared.Naming.TheVariants.{Slots};
 
 use super::names::{by_numbers, translate};
-use super::{Deleted, Naming};
+use super::{Changed, Naming};
 use deletion::Emptied;
-use index::refusals::{index_refusal, scratch_short};
-use index::{Index, Lengths};
+use index::refusals::{check_index, scratch_short};
+use index::{Index, Lengths, Refusal};
 use numbers::strike;
 use slots::limits;
-use slots::marks::wide;
 use vectors::Space;
 
 // Row 7: the repair beam, the repair degree or the number of names is over its limit.
 pub fn delete_over(repair_beam: u32, repair_degree: u32, ids: usize) -> bool
     ensures { result ≡ (ltb limits.repair_beam repair_beam || ltb limits.repair_degree repair_degree || ltb limits.ids ids) }
 {
-    if limits::REPAIR_BEAM < repair_beam {
-        return true;
-    }
-    if limits::REPAIR_DEGREE < repair_degree {
-        return true;
-    }
-    wide(limits::IDS) < ids
+    limits::REPAIR_BEAM < repair_beam
+        || limits::REPAIR_DEGREE < repair_degree
+        || (limits::IDS as usize) < ids
 }
 
-// The first of rows 1, 2, 3, 6, 7 and 8 that turns a delete back, else 0. `stats` is the length of the list for its stats.
-fn delete_refusal(
+// Whether one of rows 1, 2, 3, 6, 7 and 8 turns a delete back: the first. `stats` is the length of the list for its stats.
+fn check_delete(
     index: Index,
     lent: Lengths,
     marks: &[u8],
@@ -45,21 +40,18 @@ fn delete_refusal(
     repair_degree: u32,
     stats: usize,
     scratch: usize,
-) -> u32
+) -> Result<(), Refusal>
     requires { (lent.marks ≡ length marks.now) × (lent.numbers ≡ length numbers.now) × (lent.summary ≡ length summary.now) }
     ensures { Decided index (lengths_in lent) (labels marks.now numbers.now summary.now) (ltb stats ids) (delete_tests index.capacity ids repair_beam repair_degree scratch) result }
 {
-    let r = index_refusal(index, lent, marks, numbers, summary, stats < ids);
-    if r != 0 {
-        return r;
-    }
+    check_index(index, lent, marks, numbers, summary, stats < ids)?;
     if delete_over(repair_beam, repair_degree, ids) {
-        return 7;
+        return Err(Refusal::Limits);
     }
     if scratch_short(index.capacity, scratch) {
-        return 8;
+        return Err(Refusal::Scratch);
     }
-    0
+    Ok(())
 }
 
 // The batch, by the index's sizes.
@@ -132,24 +124,23 @@ pub fn delete_ids(
         repair_degree,
         scratch,
     );
-    strike(marks, numbers, summary, wide(index.live));
+    strike(marks, numbers, summary, index.live as usize);
     d
 }
 
-// The index with another entry and `n` live slots fewer.
-pub fn with_fewer(index: Index, entry: u32, n: u32) -> Index
-    requires { n ≤ index.live }
-    ensures { result ≡ with_entry index entry (index.live - n) }
+// The index without the slots that a batch emptied, and how many they are.
+pub fn with_fewer(index: Index, emptied: Emptied) -> Changed
+    requires { emptied.count ≤ index.live }
+    ensures { result ≡ fewer index emptied.entry emptied.count }
 {
-    let guard = index.guard;
-    Index {
-        dim: index.dim,
-        capacity: index.capacity,
-        degree: index.degree,
-        alpha: index.alpha,
-        entry,
-        live: index.live - n,
-        guard,
+    let n = emptied.count as u32;
+    Changed {
+        index: Index {
+            entry: emptied.entry,
+            live: index.live - n,
+            ..index
+        },
+        count: n,
     }
 }
 
@@ -169,7 +160,7 @@ fn delete_slots(
     repair_degree: u32,
     room: usize,
     scratch: &mut [u32],
-) -> Deleted
+) -> Result<Changed, Refusal>
     ensures { Deletes index (slices vectors.now targets.old edges.old versions.old marks.old pool.now numbers.old summary.old) (deleting ids.now Slots repair_beam repair_degree) room scratch.old
         (slices vectors.now targets.new edges.new versions.new marks.new pool.now numbers.new summary.new) scratch.new result }
 {
@@ -183,7 +174,7 @@ fn delete_slots(
         numbers: numbers.len(),
         summary: summary.len(),
     };
-    let r = delete_refusal(
+    check_delete(
         index,
         lent,
         marks,
@@ -194,10 +185,7 @@ fn delete_slots(
         repair_degree,
         room,
         scratch.len(),
-    );
-    if r != 0 {
-        return Deleted::Refused(r);
-    }
+    )?;
     let d = delete_ids(
         index,
         vectors,
@@ -212,8 +200,7 @@ fn delete_slots(
         repair_degree,
         scratch,
     );
-    let n = d.count as u32;
-    Deleted::Done(with_fewer(index, d.entry, n), n)
+    Ok(with_fewer(index, d))
 }
 
 // The same by slots or by numbers; `slots` has room for those that the numbers name. More than 256 numbers are passed on as they are: 7 or an earlier row turns
@@ -235,7 +222,7 @@ fn delete_named(
     room: usize,
     scratch: &mut [u32],
     slots: &mut [u32],
-) -> Deleted
+) -> Result<Changed, Refusal>
     requires { length slots.old ≡ limits.ids }
     ensures { Deletes index (slices vectors.now targets.old edges.old versions.old marks.old pool.now numbers.old summary.old) (deleting names.now naming repair_beam repair_degree) room scratch.old
         (slices vectors.now targets.new edges.new versions.new marks.new pool.now numbers.new summary.new) scratch.new result }
@@ -306,7 +293,7 @@ pub fn delete(
     repair_degree: u32,
     room: usize,
     scratch: &mut [u32],
-) -> Deleted
+) -> Result<Changed, Refusal>
     ensures { Deletes index (slices vectors.now targets.old edges.old versions.old marks.old pool.now numbers.old summary.old) (deleting names.now naming repair_beam repair_degree) room scratch.old
         (slices vectors.now targets.new edges.new versions.new marks.new pool.now numbers.new summary.new) scratch.new result }
 {

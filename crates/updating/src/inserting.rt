@@ -10,29 +10,24 @@ ghost use Rattle.index.specs.Inner.Deciding.{labels, Decided};
 ghost use Rattle.updating.specs.Insert.{inserting, insert_outputs, Inserts};
 ghost use Rattle.updating.specs.Inner.Filling.{insert_tests, with_live, Labelable, Relabelled};
 
-use super::Inserted;
-use index::refusals::{index_refusal, scratch_short};
-use index::{Index, Lengths};
+use super::Changed;
+use index::refusals::{check_index, scratch_short};
+use index::{Index, Lengths, Refusal};
 use numbers::{Labels, enter, repeated, write_numbers};
-use slots::marks::wide;
 use slots::{RowsMut, limits};
 
 // How many whole vectors so many bytes hold; none where dim is 0.
 fn whole(bytes: usize, dim: u32) -> usize
     ensures { result ≡ bytes / dim }
 {
-    if dim == 0 {
-        return 0;
-    }
-    bytes / wide(dim)
+    bytes.checked_div(dim as usize).unwrap_or(0)
 }
 
-// Row 9: bytes are left over.
-fn left_over(bytes: usize, dim: u32, n: usize) -> bool
-    requires { n * dim ≤ bytes }
-    ensures { result ≡ not (eqb bytes (n * dim)) }
+// Row 3, of the list for slots and of the numbers: too short for `n`, or not one for each of `n` vectors.
+fn room_or_numbers_wrong(n: usize, slots: usize, given: usize) -> bool
+    ensures { result ≡ (ltb slots n || not (eqb given n)) }
 {
-    bytes != n * wide(dim)
+    slots < n || given != n
 }
 
 // Row 10: fewer slots are free than vectors are given.
@@ -40,17 +35,7 @@ fn too_few(capacity: u32, live: u32, n: usize) -> bool
     requires { live ≤ capacity }
     ensures { result ≡ ltb (capacity - live) n }
 {
-    wide(capacity - live) < n
-}
-
-// Row 3, of the list for slots and of the numbers: too short for `n`, or not one for each of `n` vectors.
-fn room_or_numbers_wrong(n: usize, slots: usize, given: usize) -> bool
-    ensures { result ≡ (ltb slots n || not (eqb given n)) }
-{
-    if slots < n {
-        return true;
-    }
-    given != n
+    ((capacity - live) as usize) < n
 }
 
 // Row 15: a given number is 0, carried by a live slot, or twice in the list.
@@ -63,14 +48,11 @@ fn taken(numbers: &[u32], summary: &[u32], live: u32, given: &[u32]) -> bool
         summary,
         live: live as usize,
     };
-    if labels.any_live(given) {
-        return true;
-    }
-    repeated(given)
+    labels.any_live(given) || repeated(given)
 }
 
-// The first of rows 1, 2, 3, 6, 7, 8, 9, 10 and 15 that turns an insert back, else 0.
-fn insert_refusal(
+// Whether one of rows 1, 2, 3, 6, 7, 8, 9, 10 and 15 turns an insert back: the first.
+fn check_insert(
     index: Index,
     lent: Lengths,
     marks: &[u8],
@@ -81,32 +63,29 @@ fn insert_refusal(
     beam: u32,
     slots: usize,
     scratch: usize,
-) -> u32
+) -> Result<(), Refusal>
     requires { (lent.marks ≡ length marks.now) × (lent.numbers ≡ length numbers.now) × (lent.summary ≡ length summary.now) }
     ensures { Decided index (lengths_in lent) (labels marks.now numbers.now summary.now) (ltb slots (bytes / index.dim) || not (eqb (length given.now) (bytes / index.dim))) (insert_tests index marks.now numbers.now bytes given.now beam scratch) result }
 {
     let n = whole(bytes, index.dim);
     let wrong = room_or_numbers_wrong(n, slots, given.len());
-    let r = index_refusal(index, lent, marks, numbers, summary, wrong);
-    if r != 0 {
-        return r;
-    }
+    check_index(index, lent, marks, numbers, summary, wrong)?;
     if limits::BEAM < beam {
-        return 7;
+        return Err(Refusal::Limits);
     }
     if scratch_short(index.capacity, scratch) {
-        return 8;
+        return Err(Refusal::Scratch);
     }
-    if left_over(bytes, index.dim, n) {
-        return 9;
+    if bytes != n * index.dim as usize {
+        return Err(Refusal::Bytes);
     }
     if too_few(index.capacity, index.live, n) {
-        return 10;
+        return Err(Refusal::Full);
     }
     if taken(numbers, summary, index.live, given) {
-        return 15;
+        return Err(Refusal::Numbers);
     }
-    0
+    Ok(())
 }
 
 // The batch, by the index's sizes. Returns how many vectors it has.
@@ -151,15 +130,9 @@ fn with_more(index: Index, n: u32) -> Index
     requires { index.live + n ≤ 65536 }
     ensures { result ≡ with_live index (index.live + n) }
 {
-    let guard = index.guard;
     Index {
-        dim: index.dim,
-        capacity: index.capacity,
-        degree: index.degree,
-        alpha: index.alpha,
-        entry: index.entry,
         live: index.live + n,
-        guard,
+        ..index
     }
 }
 
@@ -169,7 +142,7 @@ fn label(numbers: &mut [u32], summary: &mut [u32], live: u32, slots: &[u32], giv
     ensures { Relabelled numbers.old summary.old live slots.now given.now numbers.new summary.new }
 {
     write_numbers(numbers, slots, given);
-    enter(numbers, summary, wide(live), slots, given.len());
+    enter(numbers, summary, live as usize, slots, given.len());
 }
 
 // Inserts the vectors of `bytes` with the numbers `given` into the lowest free slots, which go to the front of `slots`.
@@ -188,7 +161,7 @@ pub fn insert(
     beam: u32,
     slots: &mut [u32],
     scratch: &mut [u32],
-) -> Inserted
+) -> Result<Changed, Refusal>
     ensures { Inserts index (slices vectors.old targets.old edges.old versions.now marks.old pool.now numbers.old summary.old) (inserting bytes.now given.now beam) (insert_outputs slots.old) scratch.old
         (slices vectors.new targets.new edges.new versions.now marks.new pool.now numbers.new summary.new) (insert_outputs slots.new) scratch.new result }
 {
@@ -202,7 +175,7 @@ pub fn insert(
         numbers: numbers.len(),
         summary: summary.len(),
     };
-    let r = insert_refusal(
+    check_insert(
         index,
         lent,
         marks,
@@ -213,13 +186,13 @@ pub fn insert(
         beam,
         slots.len(),
         scratch.len(),
-    );
-    if r != 0 {
-        return Inserted::Refused(r);
-    }
+    )?;
     let n = insert_vectors(
         index, vectors, targets, edges, versions, marks, bytes, beam, slots, scratch,
     ) as u32;
     label(numbers, summary, index.live, slots, given);
-    Inserted::Done(with_more(index, n), n)
+    Ok(Changed {
+        index: with_more(index, n),
+        count: n,
+    })
 }

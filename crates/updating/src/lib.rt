@@ -17,16 +17,9 @@ pub enum Naming {
     Numbers,
 }
 
-// The index with its vectors inserted, and how many they are; or the number of a refusal.
+// The index that an insert or a delete leaves, and how many slots it filled or emptied.
 #[derive(Clone, Copy)]
-pub enum Inserted {
-    Refused(u32),
-    Done(Index, u32),
-}
-
-// The index without the slots that are emptied, and how many they are; or the number of a refusal.
-#[derive(Clone, Copy)]
-pub enum Deleted {
-    Refused(u32),
-    Done(Index, u32),
+pub struct Changed {
+    pub index: Index,
+    pub count: u32,
 }

@@ -6,20 +6,19 @@ ghost use Rattle.index.specs.Inner.Deciding.{labels};
 ghost use Rattle.updating.specs.Inner.Emptying.{are_numbers, Translated};
 
 use super::Naming;
-use index::refusals::index_refusal;
+use index::refusals::check_index;
 use index::{Index, Lengths};
 use numbers::Labels;
 use slots::limits;
-use slots::marks::wide;
 
 // Whether names are to be translated: they are numbers, and not more than a delete may name. More are turned back, whatever they name.
 pub fn by_numbers(naming: Naming, names: usize) -> bool
     ensures { result ≡ (are_numbers naming && leb names limits.ids) }
 {
-    let Naming::Numbers = naming else {
-        return false;
-    };
-    names <= wide(limits::IDS)
+    match naming {
+        Naming::Slots => false,
+        Naming::Numbers => names <= limits::IDS as usize,
+    }
 }
 
 // Writes the slots that carry the numbers `names` to the front of `slots`, unless a test that calls share turns the index back.
@@ -35,8 +34,7 @@ pub fn translate(
     requires { (lent.marks ≡ length marks.now) × (lent.numbers ≡ length numbers.now) × (lent.summary ≡ length summary.now) × (length names.now ≤ length slots.old) }
     ensures { Translated index (lengths_in lent) (labels marks.now numbers.now summary.now) names.now slots.new }
 {
-    let r = index_refusal(index, lent, marks, numbers, summary, false);
-    if r == 0 {
+    if let Ok(()) = check_index(index, lent, marks, numbers, summary, false) {
         let labels = Labels {
             numbers,
             summary,

@@ -7,12 +7,13 @@ use mathlib.Core.Path.{◌≡◌, refl, sym, ap, ◌∙◌, subst}
 use native.Mathlib.Omega.{arith}
 use borrow.Author.Tests.{ltb-false}
 use lib.Dec.{T, eqb, ltb}
-use lib.Ieee.{binary32, is_nan, fits}
+use lib.Ieee.{is_nan}
 use lib.ListN.{length, length-map}
 use Rattle.lists.specs.Lists.{filter, range, distinct_by, put_front}
 use Rattle.lists.proofs.Filter.{filter_length}
 use Rattle.lists.proofs.Alike.{self, sorted_many}
 use Rattle.lists.proofs.Ranges.{length_range}
+use Rattle.std.specs.Prelude.{Result, Ok, Err}
 use Rattle.slots.specs.Sizes.{Slices, lengths_of, limits, alpha_ok}
 use Rattle.slots.specs.Scratch.{size_answer}
 use Rattle.slots.specs.View.{View, emptied}
@@ -29,30 +30,19 @@ use Rattle.calls.specs.Refusals.{first_of, tests}
 use Rattle.calls.specs.State.{State, stored, shown, with_graph}
 use Rattle.calls.specs.Step.{named, deletion, perform}
 use Rattle.calls.specs.Runs.{lent_of, slices_of, call_of}
-use Rattle.calls.proofs.Tests.{first_none, or_neither, index_finds}
+use Rattle.calls.proofs.Tests.{passed_lengths, first_none, or_neither, index_finds}
 use Rattle.calls.proofs.Labelled.{named_many}
 use Rattle.index.specs.declared.Index.{Index}
-use Rattle.index.specs.Index.{state_of}
-use Rattle.index.proofs.Decide.{passed_none, passed_marks, step_back, step_on}
-use Rattle.updating.specs.declared.Deleted.{Deleted}
-use Rattle.updating.specs.declared.Deleted.TheVariants.{Refused, Done}
+use Rattle.index.specs.declared.Refusal.{Refusal}
+use Rattle.index.specs.Index.{sizes_of, state_of}
+use Rattle.index.proofs.Decide.{step_back, step_on}
+use Rattle.updating.specs.declared.Changed.{Changed}
 use Rattle.updating.specs.Delete.{stats_outputs, deleted_as, index_left, Deletes}
 use Rattle.words.specs.declared.deleting.Left.{Left}
-use Rattle.words.specs.IndexWords.{index_of, words_of}
-use Rattle.words.specs.Given.{deleted_put, DeletesWords}
+use Rattle.words.specs.IndexWords.{index_of}
+use Rattle.words.specs.Given.{map_ok, put, changed_words, DeletesWords}
 use Rattle.words.specs.Inner.Putting.{stats_left, LeavesStats}
-use Rattle.words.proofs.Held.{alpha_right, alpha_fits, words_hold}
-
--- ---- what is put
-
-module _ {d : Deleted} (words : List ℕ) (found place : ℕ) where
-  pub put_refused : {n : ℕ} → d ≡ Refused n → ((n, words, found) ≡ deleted_put d words found) × ((0, 0) ≡ stats_left d place)
-  unfolding deleted_put stats_left
-  put_refused e = (ap (λ x. deleted_put x words found) (sym e), ap (λ x. stats_left x place) (sym e))
-
-  pub put_deleted : {i : Index} {n m : ℕ} {w : List ℕ} → d ≡ Done i n → w ≡ words_of i → m ≡ n → ((0, w, n) ≡ deleted_put d words found) × ((place, m) ≡ stats_left d place)
-  unfolding deleted_put stats_left
-  put_deleted {n = n} e h k = (ap (λ (x : List ℕ). (0, x, n)) h ∙ ap (λ x. deleted_put x words found) (sym e), ap (λ (x : ℕ). (place, x)) k ∙ ap (λ x. stats_left x place) (sym e))
+use Rattle.words.proofs.Held.{number_left, held_left}
 
 -- ---- how many are emptied
 
@@ -75,13 +65,12 @@ stats_many beam degree b ids = maps_many _ _ (snapshot (store_view b)) (emptied 
 
 -- ---- a delete that was carried out: alpha is the one that was accepted, and the stats stand inside the scratch
 
-pub record Accepted (index i : Index) (n : ℕ) (scratch : List ℕ) : Type 0 where
-  pub same_alpha : i.alpha ≡ index.alpha
-  pub right_alpha : alpha_ok index.alpha ≡ true
-  pub inside : stats_at index.capacity + 4 * n ≤ length scratch
+record Accepted (index : Index) (d : Changed) (scratch : List ℕ) : Type 0 where
+  pub alpha : (d.index.alpha ≡ index.alpha) × (alpha_ok index.alpha ≡ true)
+  pub inside : stats_at index.capacity + 4 * d.count ≤ length scratch
 
-module _ {index : Index} {s : Slices} {a : Delete} {room : ℕ} {scratch : List ℕ} {s' : Slices} {scratch' : List ℕ} {i : Index} {n : ℕ}
-    (c : Deletes index s a room scratch s' scratch' (Done i n)) where
+module _ {index : Index} {s : Slices} {a : Delete} {room : ℕ} {scratch : List ℕ} {s' : Slices} {scratch' : List ℕ} {d : Changed}
+    (c : Deletes index s a room scratch s' scratch' (Ok d)) where
   -- a list of that room
   abbrev before : List Stats
   before = map (stats_of [] 0) (range 0 room)
@@ -95,11 +84,11 @@ module _ {index : Index} {s : Slices} {a : Delete} {room : ℕ} {scratch : List 
   long : length before ≡ room
   long = length-map (range 0 room) (stats_of [] 0) ∙ length_range 0 room
 
-  pub accepted : Accepted index i n scratch
+  accepted : Accepted index d scratch
   unfolding tests perform deletion with_graph refused_as deleted_as index_left state_of stored store_ops store_view shown room_of call_of slices_of limits size_answer
   accepted = go _ refl
     where
-      go : (o : Option ℕ) → first_of (tests limits call.lent (shown stored on) (delete a)) ≡ o → Accepted index i n scratch
+      go : (o : Option ℕ) → first_of (tests limits call.lent (shown stored on) (delete a)) ≡ o → Accepted index d scratch
       go (some k) e =
           let b : deleted c.stats ≡ refused_as k (delete a) = ap (λ x. x.1) ((c.meets before long).does ∙ step_back on call k e) in
           absurd (let z : ◌≡◌ {A = ℕ} 0 1 = cc in omega arith)
@@ -107,21 +96,20 @@ module _ {index : Index} {s : Slices} {a : Delete} {room : ℕ} {scratch : List 
           let over = ltb 256 a.repair_beam || ltb 16 a.repair_degree in
           let many = ltb 256 (length a.names) in
           let short = ltb (length scratch) (size_answer index.capacity) in
-          let p = passed_none index s _ _ (omega arith, (omega arith, tt)) e in
+          let p = index_finds (lengths_of s) (shown stored on) (ltb (length before) (length a.names)) ((7, over || many) ∷ (8, short) ∷ []) e in
           let g = on.graph in
           let ids = named on a in
-          let d = delete_batch store_ops a.repair_beam a.repair_degree g ids in
+          let b = delete_batch store_ops a.repair_beam a.repair_degree g ids in
           let r = (c.meets before long).does ∙ step_on on call e in
-          let w : state_of i s' ≡ (deletion stored on a).0 = ap (λ x. x.0) r in
-          let f : deleted c.stats ≡ deleted d.1 = ap (λ x. x.1) r in
-          let t : c.stats ≡ d.1 = cc in
-          let o = (index_finds (lengths_of s) (shown stored on) (ltb (length before) (length a.names)) ((7, over || many) ∷ (8, short) ∷ []) e).own in
-          let o₇ = first_none 7 (over || many) ((8, short) ∷ []) o in
-          let counted : n ≡ length d.1 =
-          sym (ap length (c.words i n refl) ∙ length-map (range 0 n) (stats_of scratch' (stats_at index.capacity)) ∙ length_range 0 n) ∙ ap length t in
+          let w : state_of d.index s' ≡ (deletion stored on a).0 = ap (λ x. x.0) r in
+          let f : deleted c.stats ≡ deleted b.1 = ap (λ x. x.1) r in
+          let t : c.stats ≡ b.1 = cc in
+          let o₇ = first_none 7 (over || many) ((8, short) ∷ []) p.own in
+          let counted : d.count ≡ length b.1 =
+          sym (ap length (c.words d refl) ∙ length-map (range 0 d.count) (stats_of scratch' (stats_at index.capacity)) ∙ length_range 0 d.count) ∙ ap length t in
+          let fit = ap (λ l. l.marks) (passed_lengths (sizes_of index) (lengths_of s) p.long) in
           record {
-            same_alpha = ap (λ x. x.graph.alpha) w ∙ ap (λ z. z.alpha) (sizes_after_delete store_ops MarksFit store_marking g (passed_marks p) a.repair_beam a.repair_degree ids);
-            right_alpha = p.alpha_right;
+            alpha = (ap (λ x. x.graph.alpha) w ∙ ap (λ z. z.alpha) (sizes_after_delete store_ops MarksFit store_marking g fit a.repair_beam a.repair_degree ids), p.grown);
             inside = omega (
               arith,
               counted,
@@ -134,34 +122,32 @@ module _ {index : Index} {s : Slices} {a : Delete} {room : ℕ} {scratch : List 
           }
 
 -- the new index's alpha is a number
-pub deleted_number : {index : Index} {s : Slices} {a : Delete} {room : ℕ} {scratch : List ℕ} {s' : Slices} {scratch' : List ℕ} {d : Deleted}
-    → Deletes index s a room scratch s' scratch' d → (i : Index) (n : ℕ) → d ≡ Done i n → T (not (is_nan i.alpha))
-deleted_number {index} {s} {a} {room} {scratch} {s'} {scratch'} c i n e =
-    let h = accepted (subst (Deletes index s a room scratch s' scratch') e c) in
-    alpha_right i.alpha (ap alpha_ok h.same_alpha ∙ h.right_alpha)
+pub deleted_number : {index : Index} {s : Slices} {a : Delete} {room : ℕ} {scratch : List ℕ} {s' : Slices} {scratch' : List ℕ} {r : Result Changed Refusal}
+    → Deletes index s a room scratch s' scratch' r → (d : Changed) → r ≡ Ok d → T (not (is_nan d.index.alpha))
+deleted_number {index} {s} {a} {room} {scratch} {s'} {scratch'} c d e = number_left d.index (accepted (subst (Deletes index s a room scratch s' scratch') e c)).alpha
 
 -- ---- all but the records
 
 module _ (words : List ℕ) (found : ℕ) {s : Slices} {a : Delete} {room : ℕ} {scratch : List ℕ} {s' : Slices} {scratch' : List ℕ} where
-  held : {words' : List ℕ} (d : Deleted) → Deletes (index_of words) s a room scratch s' scratch' d → words' ≡ (deleted_put d words found).1 → index_of words' ≡ index_left (index_of words) d
-  unfolding deleted_put index_left index_of
-  held (Refused n) c t = ap index_of t
-  held (Done i n) c t = ap index_of t ∙ words_hold i (subst (λ x. T (fits binary32 x)) (sym (accepted c).same_alpha) (alpha_fits _)) (deleted_number c i n refl)
+  held : {words' : List ℕ} (r : Result Changed Refusal) → Deletes (index_of words) s a room scratch s' scratch' r → words' ≡ (put (map_ok changed_words r) (words, found)).1.0
+      → index_of words' ≡ index_left (index_of words) r
+  unfolding index_left
+  held (Ok d) c t = ap index_of t ∙ held_left words d.index (accepted c).alpha
+  held (Err e) c t = ap index_of t
 
-  inside : {at count : ℕ} (d : Deleted) → Deletes (index_of words) s a room scratch s' scratch' d → length scratch' ≡ length scratch
-      → (at, count) ≡ stats_left d (stats_at (index_of words).capacity) → at + 4 * count ≤ length scratch'
-  unfolding stats_left
-  inside (Refused n) c l e = omega (arith, ap (λ x. x.0) e, ap (λ x. x.1) e)
-  inside (Done i n) c l e = omega (arith, ap (λ x. x.0) e, ap (λ x. x.1) e, l, (accepted c).inside)
+  inside : {at count : ℕ} (r : Result Changed Refusal) → Deletes (index_of words) s a room scratch s' scratch' r → length scratch' ≡ length scratch
+      → (at, count) ≡ stats_left r (stats_at (index_of words).capacity) → at + 4 * count ≤ length scratch'
+  inside (Ok d) c l e = omega (arith, ap (λ x. x.0) e, ap (λ x. x.1) e, l, (accepted c).inside)
+  inside (Err k) c l e = omega (arith, ap (λ x. x.0) e, ap (λ x. x.1) e)
 
-  pub leaves_stats : {i : Index} {place : ℕ} {d : Deleted} {words' : List ℕ} {found' : ℕ} {r : Left} → i ≡ index_of words → place ≡ stats_at i.capacity
-      → Deletes i s a room scratch s' scratch' d → length scratch' ≡ length scratch
-      → ((r.status, words', found') ≡ deleted_put d words found) × ((r.at, r.count) ≡ stats_left d place)
-      → LeavesStats words s a room scratch words' s' scratch' found found' r
-  leaves_stats {d = d} e p c l t =
-      let c' = subst (λ i. Deletes i s a room scratch s' scratch' d) e c in
-      let q = t.1 ∙ ap (λ x. stats_left d x) (p ∙ ap (λ i. stats_at i.capacity) e) in
-      record { answer = d; does = c'; told = t.0; held = held d c' (ap (λ x. x.1) t.0); place = q; inside = inside d c' l q }
+  pub leaves_stats : {i : Index} {place : ℕ} {r : Result Changed Refusal} {words' : List ℕ} {found' : ℕ} {l : Left} → i ≡ index_of words → place ≡ stats_at i.capacity
+      → Deletes i s a room scratch s' scratch' r → length scratch' ≡ length scratch
+      → ((l.status, (words', found')) ≡ put (map_ok changed_words r) (words, found)) × ((l.at, l.count) ≡ stats_left r place)
+      → LeavesStats words s a room scratch words' s' scratch' found found' l
+  leaves_stats {r = r} e p c l t =
+      let c' = subst (λ i. Deletes i s a room scratch s' scratch' r) e c in
+      let q = t.1 ∙ ap (λ x. stats_left r x) (p ∙ ap (λ i. stats_at i.capacity) e) in
+      record { answer = r; does = c'; told = t.0; held = held r c' (ap (λ x. x.1.0) t.0); place = q; inside = inside r c' l q }
 
 -- ---- the records
 
@@ -170,25 +156,24 @@ front_of f [] l = refl
 front_of f (x ∷ xs) [] = ap (λ r. f x ∷ r) (map-append f xs [])
 front_of f (x ∷ xs) (y ∷ l) = ap (λ r. f x ∷ r) (front_of f xs l)
 
-listed : (place : ℕ) (w : List ℕ) {at count : ℕ} (ys vs : List DeleteStats) → vs ≡ put_front (records_of w at count) ys → (d : Deleted) (ts : List Stats)
-    → ((i : Index) (n : ℕ) → d ≡ Done i n → ts ≡ map (stats_of w place) (range 0 n)) → (at, count) ≡ stats_left d place
-    → stats_outputs (map stats_in vs) ≡ written (deleted_as d ts) (stats_outputs (map stats_in ys))
-unfolding stats_left deleted_as written
-listed place w ys vs f (Refused n) ts g e = ap (λ l. stats_outputs (map stats_in l)) (f ∙ ap (λ (x : ℕ × ℕ). put_front (records_of w x.0 x.1) ys) e)
-listed place w ys vs f (Done i n) ts g e =
+listed : (place : ℕ) (w : List ℕ) {at count : ℕ} (ys vs : List DeleteStats) → vs ≡ put_front (records_of w at count) ys → (r : Result Changed Refusal) (ts : List Stats)
+    → ((d : Changed) → r ≡ Ok d → ts ≡ map (stats_of w place) (range 0 d.count)) → (at, count) ≡ stats_left r place
+    → stats_outputs (map stats_in vs) ≡ written (deleted_as r ts) (stats_outputs (map stats_in ys))
+unfolding deleted_as written
+listed place w ys vs f (Err k) ts g e = ap (λ l. stats_outputs (map stats_in l)) (f ∙ ap (λ (x : ℕ × ℕ). put_front (records_of w x.0 x.1) ys) e)
+listed place w ys vs f (Ok d) ts g e =
     ap (λ l. stats_outputs (map stats_in l)) (f ∙ ap (λ (x : ℕ × ℕ). put_front (records_of w x.0 x.1) ys) e)
-    ∙ ap stats_outputs (front_of stats_in (records_of w place n) ys)
-    ∙ ap (λ (l : List Stats). stats_outputs (put_front l (map stats_in ys))) (records_are w place n ∙ sym (g i n refl))
+    ∙ ap stats_outputs (front_of stats_in (records_of w place d.count) ys)
+    ∙ ap (λ (l : List Stats). stats_outputs (put_front l (map stats_in ys))) (records_are w place d.count ∙ sym (g d refl))
 
 module _ {words : List ℕ} {s : Slices} {a : Delete} {scratch words' : List ℕ} {s' : Slices} {scratch' : List ℕ} {found found' : ℕ} {r : Left} where
   -- what `write_stats` asks
   pub asked : {room : ℕ} → LeavesStats words s a room scratch words' s' scratch' found found' r → (r.count ≤ room) × (r.at + 4 * r.count ≤ length scratch')
-  unfolding stats_left
   asked {room} c = (go c.answer c.does.fits c.place, c.inside)
     where
-      go : (d : Deleted) → ((i : Index) (n : ℕ) → d ≡ Done i n → n ≤ room) → (r.at, r.count) ≡ stats_left d (stats_at (index_of words).capacity) → r.count ≤ room
-      go (Refused n) f e = omega (arith, ap (λ x. x.1) e)
-      go (Done i n) f e = omega (arith, ap (λ x. x.1) e, f i n refl)
+      go : (q : Result Changed Refusal) → ((d : Changed) → q ≡ Ok d → d.count ≤ room) → (r.at, r.count) ≡ stats_left q (stats_at (index_of words).capacity) → r.count ≤ room
+      go (Ok d) f e = omega (arith, ap (λ x. x.1) e, f d refl)
+      go (Err k) f e = omega (arith, ap (λ x. x.1) e)
 
   pub deletes_words : (ys : List DeleteStats) {vs : List DeleteStats} → vs ≡ put_front (records_of scratch' r.at r.count) ys
       → LeavesStats words s a (length ys) scratch words' s' scratch' found found' r
@@ -198,7 +183,7 @@ module _ {words : List ℕ} {s : Slices} {a : Delete} {scratch words' : List ℕ
       let d = c.does in
       record {
         answer = c.answer;
-        does = record { stats = d.stats; words = d.words; fits = λ i n e. rw k (d.fits i n e); meets = λ l e. d.meets l (e ∙ k) };
+        does = record { stats = d.stats; words = d.words; fits = λ x e. rw k (d.fits x e); meets = λ l e. d.meets l (e ∙ k) };
         told = c.told;
         held = c.held;
         listed = listed (stats_at (index_of words).capacity) scratch' ys vs f c.answer d.stats d.words c.place;

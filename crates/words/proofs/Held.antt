@@ -3,6 +3,9 @@ use Prim.Native.Nat.{ℕ, ◌%◌, ◌≤◌, ◌<◌}
 use mathlib.Core.Bool.{Bool, true, false, not, ◌&&◌, cond}
 use mathlib.Core.List.{List, [], ◌∷◌}
 use mathlib.Core.Path.{◌≡◌, refl, sym, ap, ◌∙◌, subst}
+use Rattle.std.specs.Prelude.{Option, Some, None, is_some}
+use Rattle.std.specs.Option.{unwrap_or}
+use Rattle.std.specs.Int.{from_bool}
 use native.Mathlib.Omega.{arith}
 use borrow.Author.Tests.{lt-ltb, le-ltb}
 use lib.Dec.{T}
@@ -13,9 +16,7 @@ use Rattle.candidates.proofs.Floats.{one_bits}
 use Rattle.slots.specs.Sizes.{alpha_ok}
 use Rattle.index.specs.declared.Index.{Index}
 use Rattle.index.specs.Index as Index
-use Rattle.index.specs.declared.Guard.{Guard}
 use Rattle.index.specs.declared.Settings.{Settings}
-use Rattle.index.specs.declared.Guard.TheVariants.{Off, On}
 use Rattle.words.specs.IndexWords.{alpha_of, guard_of, index_of, guard_words, value_words, words_of}
 
 -- ---- alpha
@@ -76,23 +77,26 @@ alpha_held a f h =
 
 -- ---- the whole index
 
-guard_held : (a b c d e f : ℕ) (g : Guard) → guard_of (a ∷ b ∷ c ∷ d ∷ e ∷ f ∷ guard_words (Index.guard_of g)) ≡ g
+guard_held : (a b c d e f : ℕ) (g : Option Settings) → guard_of (a ∷ b ∷ c ∷ d ∷ e ∷ f ∷ guard_words (Index.guard_of g)) ≡ g
 unfolding guard_of guard_words Index.guard_of
-guard_held a b c d e f Off = refl
-guard_held a b c d e f (On s) = refl
+guard_held a b c d e f None = refl
+guard_held a b c d e f (Some s) = refl
 
--- what the code writes, by the guard
-module _ (i : Index) where
-  abbrev six : List ℕ → List ℕ
-  six l = i.dim ∷ i.capacity ∷ i.degree ∷ to_bits binary32 i.alpha ∷ i.entry ∷ i.live ∷ l
+-- what the code writes where a guard is off
+abbrev no_settings : Settings
+no_settings = record { count = 0; multiplier = 0; sample = 0; beam = 0; pool = 0 }
 
-  pub words_off : i.guard ≡ Off → six (0 ∷ 0 ∷ 0 ∷ 0 ∷ 0 ∷ 0 ∷ []) ≡ words_of i
-  unfolding value_words guard_words Index.guard_of
-  words_off e = ap (λ g. six (guard_words (Index.guard_of g))) (sym e)
-
-  pub words_on : {s : Settings} → i.guard ≡ On s → six (1 ∷ s.count ∷ s.multiplier ∷ s.sample ∷ s.beam ∷ s.pool ∷ []) ≡ words_of i
-  unfolding value_words guard_words Index.guard_of
-  words_on e = ap (λ g. six (guard_words (Index.guard_of g))) (sym e)
+pub words_told : (i : Index) {on : ℕ} {s : Settings} → on ≡ from_bool (is_some i.guard) → s ≡ unwrap_or i.guard no_settings
+    → i.dim ∷ i.capacity ∷ i.degree ∷ to_bits binary32 i.alpha ∷ i.entry ∷ i.live ∷ on ∷ s.count ∷ s.multiplier ∷ s.sample ∷ s.beam ∷ s.pool ∷ [] ≡ words_of i
+unfolding value_words guard_words Index.guard_of
+words_told i e f = rw (e, f) (go i.guard)
+  where
+    go : (g : Option Settings)
+        → i.dim ∷ i.capacity ∷ i.degree ∷ to_bits binary32 i.alpha ∷ i.entry ∷ i.live ∷ from_bool (is_some g) ∷ (unwrap_or g no_settings).count ∷ (unwrap_or g no_settings).multiplier
+        ∷ (unwrap_or g no_settings).sample ∷ (unwrap_or g no_settings).beam ∷ (unwrap_or g no_settings).pool ∷ []
+        ≡ i.dim ∷ i.capacity ∷ i.degree ∷ to_bits binary32 i.alpha ∷ i.entry ∷ i.live ∷ guard_words (Index.guard_of g)
+    go None = refl
+    go (Some s) = refl
 
 -- words hold an index faithfully
 pub words_hold : (i : Index) → T (fits binary32 i.alpha) → T (not (is_nan i.alpha)) → index_of (words_of i) ≡ i
@@ -106,3 +110,12 @@ words_hold i f h = λ j. record {
   live = i.live;
   guard = guard_held i.dim i.capacity i.degree (to_bits binary32 i.alpha) i.entry i.live i.guard j;
 }
+
+-- an index that a call leaves, whose alpha is the one that it was lent and passed row 2
+module _ {alpha : Float} (i : Index) (a : (i.alpha ≡ alpha) × (alpha_ok alpha ≡ true)) where
+  pub number_left : T (not (is_nan i.alpha))
+  number_left = alpha_right i.alpha (ap alpha_ok a.0 ∙ a.1)
+
+pub held_left : (words : List ℕ) (i : Index) → (i.alpha ≡ (index_of words).alpha) × (alpha_ok (index_of words).alpha ≡ true) → index_of (words_of i) ≡ i
+unfolding index_of
+held_left words i a = words_hold i (subst (λ x. T (fits binary32 x)) (sym a.0) (alpha_fits _)) (number_left i a)

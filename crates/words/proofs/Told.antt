@@ -1,114 +1,62 @@
--- What a status and what is written beside it stand for is what the call answered. Assumes nothing.
+-- What is written is what was answered: of a status and numbers, the size answer, a making, the readings and a search. Assumes nothing.
 use Prim.Native.Nat.{ℕ, zero, suc, ◌*◌}
 use mathlib.Core.Bool.{Bool, true, false, not, cond}
 use mathlib.Core.List.{List, [], ◌∷◌}
 use mathlib.Core.Option.{Option, none, some}
 use mathlib.Core.Path.{◌≡◌, refl, sym, ap, ◌∙◌, subst}
 use native.Mathlib.Omega.{arith}
-use borrow.Author.Tests.{eq-eqb, ne_eqb}
-use lib.Dec.{T, eqb}
+use lib.Dec.{T}
 use lib.Ieee.{Float, binary32, is_nan, fits}
 use lib.ListN.{length, take, drop}
-use Rattle.lists.specs.Lists.{All}
-use Rattle.slots.specs.Sizes.{Slices, Lengths, limits, sizes_ok, alpha_ok}
-use Rattle.slots.specs.Scratch.{size_answer}
+use Rattle.std.specs.Prelude.{Result, Ok, Err, MatchResult, IsOkAnd}
+use Rattle.std.specs.Int.{from_bool}
+use Rattle.slots.specs.Sizes.{Slices, limits, alpha_ok}
 use Rattle.slots.specs.Store.{Store, is_valid, vector_of, store_view, store_ops}
-use Rattle.calls.specs.Calls.{Making, Search, read, read_vector, search, Lent, Call, Answer, refused, created, number, alpha, version, vector, found, inserted, deleted, standing, assessed, applied, deferred, refused_as}
+use Rattle.calls.specs.Calls.{Making, Search, read, read_vector, Call, Answer, refused, created, number, alpha, version, vector, found, inserted, deleted, standing, assessed, applied, deferred, refused_as}
 use Rattle.calls.specs.Outputs.{Outputs, no_outputs}
-use Rattle.calls.specs.Refusals.{Test, first_of, making_tests, index_tests, tests}
+use Rattle.calls.specs.Refusals.{first_of, tests}
 use Rattle.calls.specs.State.{State, stored, view_of, shown, made}
-use Rattle.calls.specs.Step.{reading, perform, step}
+use Rattle.calls.specs.Step.{reading, perform}
 use Rattle.calls.specs.Runs.{lent_of, slices_of, call_of}
+use Rattle.calls.proofs.Tests.{accepted}
 use Rattle.index.specs.declared.Index.{Index}
-use Rattle.index.specs.declared.ScratchWords.{ScratchWords}
-use Rattle.index.specs.declared.ScratchWords.TheVariants.{Refused as no_size, Words as sized}
-use Rattle.index.specs.declared.Created.{Created}
-use Rattle.index.specs.declared.Created.TheVariants.{Refused as not_made, Done}
-use Rattle.index.specs.Index.{sizes, state_of, words_for}
+use Rattle.index.specs.declared.Refusal.{Refusal}
+use Rattle.index.specs.Index.{state_of}
 use Rattle.index.specs.Create.{Creates}
-use Rattle.reading.specs.declared.Found.{Found}
-use Rattle.reading.specs.declared.Found.TheVariants.{Refused as none_found, Found as Nearest}
+use Rattle.index.proofs.Decide.{step_back, step_on}
 use Rattle.reading.specs.declared.Reading.{Reading}
 use Rattle.reading.specs.declared.Reading.TheVariants.{Dim, Capacity, Degree, Alpha, Entry, Live, Mark, Version, Number as Figure, Target}
 use Rattle.reading.specs.declared.Value.{Value}
-use Rattle.reading.specs.declared.Value.TheVariants.{Refused, Number, Alpha as Factor, Version as Stamp}
+use Rattle.reading.specs.declared.Value.TheVariants.{Number, Alpha as Factor, Version as Stamp}
 use Rattle.reading.specs.Read.{reading_of, answer_of, Reads, ReadsVector}
-use Rattle.reading.specs.Search.{found_as, Searches}
-use Rattle.index.proofs.Decide.{Numbered, step_back, step_on}
-use Rattle.calls.proofs.Tests.{accepted}
+use Rattle.reading.specs.Search.{Searches}
 use Rattle.words.specs.IndexWords.{index_of, words_of}
-use Rattle.words.specs.Given.{SizesScratch, CreatesWords, value_in, ReadsNumber, ReadsAlpha, ReadsLength, SearchesWords}
-use Rattle.words.specs.Inner.Putting.{created_put, gives_number, number_put, alpha_put, found_put}
+use Rattle.words.specs.GuardWords.{flag}
+use Rattle.words.specs.Given.{map_ok, put, CreatesWords, value_in, ReadsNumber, ReadsAlpha, ReadsLength, SearchesWords}
+use Rattle.words.specs.Inner.Putting.{gives_number, number_in, alpha_in}
 use Rattle.words.proofs.Held.{alpha_right, words_hold}
 
--- ---- a number of the table is not 0
+-- ---- an answer for C
 
-pub positive : (ts : List Test) {n : ℕ} → All Numbered ts → first_of ts ≡ some n → n ≡ 0 → ⊥
-positive [] p e z = let y : ◌≡◌ {A = ℕ} 0 1 = cc in omega arith
-positive ((k, true) ∷ ts) {n} p e z = let y : k ≡ n = cc in omega (arith, p.0)
-positive ((k, false) ∷ ts) p e z = positive ts p.1 e z
+-- what `Result::map` says
+mapped : {A B : Type 0} (f : A → B) (r : Result A Refusal) (m : Result B Refusal) → MatchResult r (λ x. IsOkAnd m (λ y. y ≡ f x)) (λ e. m ≡ Err e) → m ≡ map_ok f r
+mapped f (Ok x) (Ok y) e = ap Ok e
+mapped f (Ok x) (Err d) e = absurd e
+mapped f (Err d) m e = e
 
-making_positive : (lent : Lengths) (m : Making) {n : ℕ} → first_of (making_tests limits lent m) ≡ some n → n ≡ 0 → ⊥
-unfolding making_tests
-making_positive lent m e =
-    positive (making_tests limits lent m) (omega arith, (omega arith, (omega arith, (omega arith, (omega arith, (omega arith, tt)))))) e
+pub put_mapped : {A B : Type 0} (f : A → B) (r : Result A Refusal) (m : Result B Refusal) (before : B) {after : B} {status : ℕ}
+    → MatchResult r (λ x. IsOkAnd m (λ y. y ≡ f x)) (λ e. m ≡ Err e) → ◌≡◌ {A = ℕ × B} (status, after) (put m before)
+    → ◌≡◌ {A = ℕ × B} (status, after) (put (map_ok f r) before)
+put_mapped {B = B} f r m before e p = p ∙ ap (λ (q : Result B Refusal). put q before) (mapped f r m e)
 
--- ---- a status, and what is written beside it
-
--- what they tell of an answer v, given how what is written makes one and how a number does
-pub record Told {A B : Type 0} (given : A → B) (back : ℕ → B) (v : B) (before after : A) (status : ℕ) : Type 0 where
-  pub says : v ≡ cond (eqb status 0) (given after) (back status)
-  pub kept : (status ≡ 0 → ⊥) → after ≡ before
-
-module _ {A B : Type 0} (given : A → B) (back : ℕ → B) {v : B} {before after : A} {status : ℕ} where
-  pub told_back : {n : ℕ} → (n ≡ 0 → ⊥) → v ≡ back n → ◌≡◌ {A = ℕ × A} (status, after) (n, before) → Told given back v before after status
-  told_back z e f =
-      let s = ap (λ x. x.0) f in
-      record {
-        says = e ∙ ap back (sym s) ∙ sym (ap (λ b. cond b (given after) (back status)) (ne_eqb status 0 (λ y. z (sym s ∙ y))));
-        kept = λ y. ap (λ x. x.1) f;
-      }
-
-  pub told_on : {x : A} → v ≡ given x → ◌≡◌ {A = ℕ × A} (status, after) (0, x) → Told given back v before after status
-  told_on e f =
-      let s = ap (λ y. y.0) f in
-      record {
-        says = e ∙ ap given (sym (ap (λ y. y.1) f)) ∙ sym (ap (λ b. cond b (given after) (back status)) (eq-eqb status 0 s));
-        kept = λ y. absurd (y s);
-      }
-
--- ---- the size answer
-
-one_only : (q : Bool) (a n : ℕ) → no_size n ≡ cond q (sized a) (no_size 1) → n ≡ 1
-one_only true a n h = absurd (let y : ◌≡◌ {A = ℕ} 0 1 = cc in omega arith)
-one_only false a n h = cc
-
-module _ (dim capacity degree : ℕ) {r : ScratchWords} (e : (alpha : Float) → r ≡ words_for (sizes dim capacity degree alpha)) (before : ℕ) where
-  pub scratch_refused : {n : ℕ} → r ≡ no_size n → SizesScratch dim capacity degree before before n
-  unfolding words_for
-  scratch_refused {n} h = record {
-    does = λ a.
-        let z = one_only (sizes_ok limits (sizes dim capacity degree a)) (size_answer capacity) n (sym h ∙ e a) in
-        ap (λ b. cond b (sized before) (no_size n)) (ne_eqb n 0 (λ y. omega arith)) ∙ sym h ∙ e a;
-    kept = λ k. refl;
-  }
-
-  pub scratch_given : {n : ℕ} → r ≡ sized n → SizesScratch dim capacity degree before n 0
-  scratch_given h = record { does = λ a. sym h ∙ e a; kept = λ k. absurd (k refl) }
+pub flag_is : (b : Bool) → from_bool b ≡ flag b
+flag_is true = refl
+flag_is false = refl
 
 -- ---- making
 
-module _ {r : Created} (before : List ℕ) where
-  pub put_refused : {n : ℕ} → r ≡ not_made n → (n, before) ≡ created_put r before
-  unfolding created_put
-  put_refused e = ap (λ x. created_put x before) (sym e)
-
-  pub put_done : {i : Index} {w : List ℕ} → r ≡ Done i → w ≡ words_of i → (0, w) ≡ created_put r before
-  unfolding created_put
-  put_done e h = ap (λ x. (0, x)) h ∙ ap (λ x. created_put x before) (sym e)
-
 module _ {m : Making} {s s' : Slices} where
-  module _ {i : Index} {r : Created} (c : Creates m s s' r) (e : r ≡ Done i) where
+  module _ {i : Index} {r : Result Index Refusal} (c : Creates m s s' r) (e : r ≡ Ok i) where
     same_alpha : i.alpha ≡ m.sizes.alpha
     unfolding state_of made stored
     same_alpha = ap (λ s. s.graph.alpha) (c.done i e).new
@@ -116,76 +64,69 @@ module _ {m : Making} {s s' : Slices} where
     pub made_number : T (not (is_nan i.alpha))
     made_number = alpha_right i.alpha (ap alpha_ok same_alpha ∙ (accepted _ m (c.done i e).accepted).alpha_right)
 
-  pub creates_words : {words words' : List ℕ} {status : ℕ} (r : Created) → fits binary32 m.sizes.alpha ≡ true → Creates m s s' r
-      → (status, words') ≡ created_put r words → CreatesWords m s s' words words' status
-  unfolding created_put
-  creates_words {words} {words'} {status} (not_made n) f c p =
-      let z = making_positive _ m (c.back n refl).number in
-      let t = told_back (λ w. Done (index_of w)) not_made z refl p in
-      record { does = subst (Creates m s s') t.says c; written = λ y. absurd (z (sym (ap (λ x. x.0) p) ∙ y)); kept = t.kept }
-  creates_words {words} {words'} {status} (Done i) f c p =
-      let h : index_of (words_of i) ≡ i = words_hold i (subst T (sym f ∙ ap (fits binary32) (sym (same_alpha c refl))) tt) (made_number c refl) in
-      let l : words' ≡ words_of i = ap (λ x. x.1) p in
-      let t = told_on (λ w. Done (index_of w)) not_made (ap Done (sym h)) p in
-      record { does = subst (Creates m s s') t.says c; written = λ y. l ∙ ap words_of (sym (ap index_of l ∙ h)); kept = t.kept }
+  pub creates_words : {words words' : List ℕ} {status : ℕ} (r : Result Index Refusal) → fits binary32 m.sizes.alpha ≡ true → Creates m s s' r
+      → (status, words') ≡ put (map_ok words_of r) words → CreatesWords m s s' words words' status
+  creates_words {words} {words'} r f c p = record {
+    answer = r;
+    does = c;
+    told = p;
+    held = λ i e.
+        let l : words' ≡ words_of i = ap (λ x. x.1) (p ∙ ap (λ x. put (map_ok words_of x) words) e) in
+        ap index_of l ∙ words_hold i (subst T (sym f ∙ ap (fits binary32) (sym (same_alpha c e))) tt) (made_number c e);
+  }
 
 -- ---- readings
 
 -- the answer tells the value
-back : Answer → Value
-back (refused n) = Refused n
-back (number n) = Number n
-back (alpha a) = Factor a
-back (version n) = Stamp n
-back created = Refused 0
-back (vector l) = Refused 0
-back (found l ns) = Refused 0
-back (inserted l) = Refused 0
-back (deleted l) = Refused 0
-back (standing s) = Refused 0
-back (assessed r) = Refused 0
-back (applied l r) = Refused 0
-back (deferred r) = Refused 0
+told_value : Answer → Value
+told_value (number n) = Number n
+told_value (alpha a) = Factor a
+told_value (version n) = Stamp n
+told_value (refused n) = Number 0
+told_value created = Number 0
+told_value (vector l) = Number 0
+told_value (found l ns) = Number 0
+told_value (inserted l) = Number 0
+told_value (deleted l) = Number 0
+told_value (standing s) = Number 0
+told_value (assessed r) = Number 0
+told_value (applied l r) = Number 0
+told_value (deferred r) = Number 0
 
-back_is : (v : Value) → back (answer_of v) ≡ v
-unfolding back answer_of
-back_is (Refused n) = refl
-back_is (Number n) = refl
-back_is (Factor a) = refl
-back_is (Stamp n) = refl
+value_is : (v : Value) → told_value (answer_of (Ok v)) ≡ v
+unfolding told_value answer_of
+value_is (Number n) = refl
+value_is (Factor a) = refl
+value_is (Stamp n) = refl
 
-same_value : (u v : Value) → answer_of u ≡ answer_of v → u ≡ v
-same_value u v e = sym (back_is u) ∙ ap back e ∙ back_is v
+same_value : (u v : Value) → answer_of (Ok u) ≡ answer_of (Ok v) → u ≡ v
+same_value u v e = sym (value_is u) ∙ ap told_value e ∙ value_is v
 
--- a reading is turned back, or it answers
-data Outcome (w : State Store) (q : Reading) (v : Value) : Type 0 where
-  back_with : (n : ℕ) → (n ≡ 0 → ⊥) → v ≡ Refused n → Outcome w q v
-  answers : answer_of v ≡ reading stored w (reading_of q) → Outcome w q v
+not_back : (v : Value) (n : ℕ) → answer_of (Ok v) ≡ refused n → ⊥
+unfolding answer_of
+not_back (Number m) n e = let z : ◌≡◌ {A = ℕ} 0 1 = cc in omega arith
+not_back (Factor a) n e = let z : ◌≡◌ {A = ℕ} 0 1 = cc in omega arith
+not_back (Stamp m) n e = let z : ◌≡◌ {A = ℕ} 0 1 = cc in omega arith
 
-module _ (lent : Lent) (w : State Store) (q : Reading) (v : Value) where
-  abbrev call : Call
-  call = record { lent = lent; operation = read (reading_of q) }
+-- a value that was read is what the index shows
+shows : {i : Index} {s : Slices} {q : Reading} {v : Value} → Reads i s q (Ok v) → answer_of (Ok v) ≡ reading stored (state_of i s) (reading_of q)
+unfolding call_of perform refused_as
+shows {i} {s} {q} {v} r = go _ refl
+  where
+    w : State Store
+    w = state_of i s
 
-  -- a reading's number is not 0
-  read_positive : {n : ℕ} → first_of (tests limits lent (shown stored w) (read (reading_of q))) ≡ some n → n ≡ 0 → ⊥
-  unfolding tests index_tests
-  read_positive e = positive (tests limits lent (shown stored w) (read (reading_of q))) (omega arith, (omega arith, (omega arith, (omega arith, tt)))) e
+    call : Call
+    call = record { lent = lent_of (slices_of w) no_outputs []; operation = read (reading_of q) }
 
-  outcome : (w, answer_of v) ≡ step stored w call → Outcome w q v
-  unfolding perform answer_of refused_as
-  outcome h = go (first_of (tests limits lent (shown stored w) (read (reading_of q)))) refl
-    where
-      on : step stored w call ≡ perform stored w (read (reading_of q)) → answer_of v ≡ reading stored w (reading_of q)
-      on s = ap (λ x. x.1) (h ∙ s)
-
-      go : (o : Option ℕ) → first_of (tests limits lent (shown stored w) (read (reading_of q))) ≡ o → Outcome w q v
-      go (some n) e = back_with n (read_positive e) (same_value v (Refused n) (ap (λ x. x.1) (h ∙ step_back w call n e)))
-      go none e = answers (on (step_on w call e))
+    go : (o : Option ℕ) → first_of (tests limits call.lent (shown stored w) (read (reading_of q))) ≡ o → answer_of (Ok v) ≡ reading stored w (reading_of q)
+    go (some n) e = absurd (not_back v n (ap (λ x. x.1) (r.meets.does ∙ step_back w call n e)))
+    go none e = ap (λ x. x.1) (r.meets.does ∙ step_on w call e)
 
 -- what is read, where it is a number
 record Shape (w : State Store) (q : Reading) : Type 0 where
   pub n : ℕ
-  pub says : reading stored w (reading_of q) ≡ answer_of (value_in q n)
+  pub says : reading stored w (reading_of q) ≡ answer_of (Ok (value_in q n))
 
 shape : (w : State Store) (q : Reading) → gives_number q ≡ true → Shape w q
 unfolding reading reading_of answer_of value_in
@@ -200,53 +141,43 @@ shape w (Version s) e = record { n = _; says = refl }
 shape w (Figure s) e = record { n = _; says = refl }
 shape w (Target s place) e = record { n = _; says = refl }
 
-put_in : (q : Reading) (n before : ℕ) → number_put (value_in q n) before ≡ (0, n)
-unfolding number_put value_in
-put_in Dim n before = refl
-put_in Capacity n before = refl
-put_in Degree n before = refl
-put_in Alpha n before = refl
-put_in Entry n before = refl
-put_in Live n before = refl
-put_in (Mark s) n before = refl
-put_in (Version s) n before = refl
-put_in (Figure s) n before = refl
-put_in (Target s place) n before = refl
+value_number : (q : Reading) (n : ℕ) → number_in (value_in q n) ≡ n
+unfolding value_in
+value_number Dim n = refl
+value_number Capacity n = refl
+value_number Degree n = refl
+value_number Alpha n = refl
+value_number Entry n = refl
+value_number Live n = refl
+value_number (Mark s) n = refl
+value_number (Version s) n = refl
+value_number (Figure s) n = refl
+value_number (Target s place) n = refl
 
-reads_outcome : {i : Index} {s : Slices} {q : Reading} (v : Value) → Reads i s q v → Outcome (state_of i s) q v
-unfolding call_of
-reads_outcome {i} {s} {q} v r = let w = state_of i s in outcome (lent_of (slices_of w) no_outputs []) w q v r.meets.does
+-- a value that was read is the number in it
+number_read : {i : Index} {s : Slices} {q : Reading} (r : Result Value Refusal) → gives_number q ≡ true → Reads i s q r → r ≡ map_ok (value_in q) (map_ok number_in r)
+number_read {i} {s} {q} (Ok v) g c =
+    let h = shape (state_of i s) q g in
+    let e : v ≡ value_in q h.n = same_value v (value_in q h.n) (shows c ∙ h.says) in
+    ap Ok (e ∙ ap (value_in q) (sym (value_number q h.n) ∙ ap number_in (sym e)))
+number_read (Err d) g c = refl
 
-module _ {words : List ℕ} {s : Slices} where
-  pub reads_number : {q : Reading} {v : Value} {before after status : ℕ} → gives_number q ≡ true → Reads (index_of words) s q v
-      → (status, after) ≡ number_put v before → ReadsNumber words s q before after status
-  unfolding number_put
-  reads_number {q} {v} {before} {after} {status} g r p = tell (go (reads_outcome v r))
-    where
-      tell : Told (value_in q) Refused v before after status → ReadsNumber words s q before after status
-      tell t = record { does = subst (Reads (index_of words) s q) t.says r; kept = t.kept }
+-- or the alpha
+alpha_read : {i : Index} {s : Slices} (r : Result Value Refusal) → Reads i s Alpha r → r ≡ map_ok Factor (map_ok alpha_in r)
+unfolding reading reading_of answer_of
+alpha_read {i} {s} (Ok v) c =
+    let x = (view_of stored (state_of i s)).sizes.alpha in
+    let e : v ≡ Factor x = same_value v (Factor x) (shows c) in
+    ap Ok (e ∙ ap Factor (sym (ap alpha_in e)))
+alpha_read (Err d) c = refl
 
-      go : Outcome (state_of (index_of words) s) q v → Told (value_in q) Refused v before after status
-      go (back_with n z e) = told_back (value_in q) Refused z e (p ∙ ap (λ u. number_put u before) e)
-      go (answers a) =
-          let h = shape (state_of (index_of words) s) q g in
-          let e : v ≡ value_in q h.n = same_value v (value_in q h.n) (a ∙ h.says) in
-          told_on (value_in q) Refused e (p ∙ ap (λ u. number_put u before) e ∙ put_in q h.n before)
+module _ {words : List ℕ} {s : Slices} {r : Result Value Refusal} where
+  pub reads_number : {q : Reading} {value value' status : ℕ} → gives_number q ≡ true → Reads (index_of words) s q r
+      → (status, value') ≡ put (map_ok number_in r) value → ReadsNumber words s q value value' status
+  reads_number {q} g c p = record { answer = map_ok number_in r; does = subst (Reads (index_of words) s q) (number_read r g c) c; told = p }
 
-  pub reads_alpha : {v : Value} {before after : Float} {status : ℕ} → Reads (index_of words) s Alpha v
-      → (status, after) ≡ alpha_put v before → ReadsAlpha words s before after status
-  unfolding alpha_put reading reading_of answer_of
-  reads_alpha {v} {before} {after} {status} r p = tell (go (reads_outcome v r))
-    where
-      tell : Told Factor Refused v before after status → ReadsAlpha words s before after status
-      tell t = record { does = subst (Reads (index_of words) s Alpha) t.says r; kept = t.kept }
-
-      go : Outcome (state_of (index_of words) s) Alpha v → Told Factor Refused v before after status
-      go (back_with n z e) = told_back Factor Refused z e (p ∙ ap (λ u. alpha_put u before) e)
-      go (answers a) =
-          let x = (view_of stored (state_of (index_of words) s)).sizes.alpha in
-          let e : v ≡ Factor x = same_value v (Factor x) a in
-          told_on Factor Refused e (p ∙ ap (λ u. alpha_put u before) e)
+  pub reads_alpha : {value value' : Float} {status : ℕ} → Reads (index_of words) s Alpha r → (status, value') ≡ put (map_ok alpha_in r) value → ReadsAlpha words s value value' status
+  reads_alpha c p = record { answer = map_ok alpha_in r; does = subst (Reads (index_of words) s Alpha) (alpha_read r c) c; told = p }
 
 -- ---- the vector of a slot
 
@@ -289,48 +220,7 @@ module _ {words : List ℕ} {s : Slices} {slot : ℕ} {p : List ℕ} where
 
 -- ---- search
 
-module _ (lent : Lent) (w : State Store) (a : Search) where
-  abbrev searched : Call
-  searched = record { lent = lent; operation = search a }
-
-  search_positive : {n : ℕ} → first_of (tests limits lent (shown stored w) (search a)) ≡ some n → n ≡ 0 → ⊥
-  unfolding tests index_tests
-  search_positive e =
-      positive (tests limits lent (shown stored w) (search a)) (omega arith, (omega arith, (omega arith, (omega arith, (omega arith, (omega arith, tt)))))) e
-
-  -- a search's number is not 0
-  search_numbered : {n : ℕ} → (w, refused n) ≡ step stored w searched → n ≡ 0 → ⊥
-  unfolding refused_as perform
-  search_numbered {n} h z = go _ refl
-    where
-      go : (o : Option ℕ) → first_of (tests limits lent (shown stored w) (search a)) ≡ o → ⊥
-      go (some m) e =
-          let b : refused n ≡ refused m = ap (λ x. x.1) (h ∙ step_back w searched m e) in
-          search_positive e (let y : n ≡ m = cc in sym y ∙ z)
-      go none e =
-          let b : refused n ≡ (perform stored w (search a)).1 = ap (λ x. x.1) (h ∙ step_on w searched e) in
-          let y : ◌≡◌ {A = ℕ} 0 1 = cc in omega arith
-
-module _ {r : Found} (before : ℕ) where
-  pub put_none : {n : ℕ} → r ≡ none_found n → (n, before) ≡ found_put r before
-  unfolding found_put
-  put_none e = ap (λ x. found_put x before) (sym e)
-
-  pub put_nearest : {n : ℕ} → r ≡ Nearest n → (0, n) ≡ found_put r before
-  unfolding found_put
-  put_nearest e = ap (λ x. found_put x before) (sym e)
-
-module _ {s : Slices} {a : Search} {outputs : Outputs} {scratch : List ℕ} {outputs' : Outputs} {scratch' : List ℕ} {before after status : ℕ} where
-  told : {i : Index} (r : Found) → Searches i s a outputs scratch outputs' scratch' r → (status, after) ≡ found_put r before → Told Nearest none_found r before after status
-  unfolding found_put found_as call_of
-  told {i} (none_found n) c p =
-      let w = state_of i s in
-      told_back Nearest none_found (search_numbered (lent_of (slices_of w) outputs scratch) w a c.meets.does) refl p
-  told (Nearest n) c p = told_on Nearest none_found refl p
-
-  pub searches_words : {words : List ℕ} {i : Index} (r : Found) → i ≡ index_of words → Searches i s a outputs scratch outputs' scratch' r
-      → (status, after) ≡ found_put r before → SearchesWords words s a outputs scratch outputs' scratch' before after status
-  searches_words {words} r e c p =
-      let t = told r c p in
-      let c' = subst (λ i. Searches i s a outputs scratch outputs' scratch' r) e c in
-      record { does = subst (Searches (index_of words) s a outputs scratch outputs' scratch') t.says c'; kept = t.kept }
+pub searches_words : {words : List ℕ} {s : Slices} {a : Search} {outputs : Outputs} {scratch : List ℕ} {outputs' : Outputs} {scratch' : List ℕ} {before after status : ℕ} {i : Index} {r : Result ℕ Refusal}
+    → i ≡ index_of words → Searches i s a outputs scratch outputs' scratch' r → (status, after) ≡ put r before → SearchesWords words s a outputs scratch outputs' scratch' before after status
+searches_words {s = s} {a} {outputs} {scratch} {outputs'} {scratch'} {r = r} e c p =
+    record { answer = r; does = subst (λ i. Searches i s a outputs scratch outputs' scratch' r) e c; told = p }

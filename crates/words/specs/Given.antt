@@ -1,65 +1,60 @@
--- What a status and what is written beside it stand for, and what the functions promise. A status of 0 says that the call is carried out; another one is
--- the number of the refusal, and nothing is written. What is left has a prime. Assumes nothing.
-use Rattle.std.specs.Prelude.{ℕ, ◌*◌, cond, List, ◌≡◌, eqb, Float, length, take, drop}
+-- What the functions for C promise: there is an answer of the call; where it is a refusal, the status returned is its number and nothing is written; else the
+-- status is 0 and the answer's value is written. What is left has a prime. Assumes nothing.
+use Rattle.std.specs.Prelude.{ℕ, ◌*◌, List, ◌≡◌, Float, length, take, drop, Result, Ok, Err}
 use Rattle.slots.specs.Sizes.{Slices}
 use Rattle.guard.specs.Guard.{Config}
+use Rattle.admission.specs.declared.report.Report.{Report}
 use Rattle.calls.specs.Calls.{Making, Search, Insert, Delete, Assess}
 use Rattle.calls.specs.Outputs.{Outputs, written}
-use Rattle.index.specs.declared.ScratchWords.{ScratchWords}
-use Rattle.index.specs.declared.ScratchWords.TheVariants.{Refused as no_size, Words as sized}
-use Rattle.index.specs.declared.Created.{Created}
-use Rattle.index.specs.declared.Created.TheVariants.{Refused as not_made, Done}
+use Rattle.index.specs.declared.Index.{Index}
+use Rattle.index.specs.declared.Refusal.{Refusal}
+use Rattle.index.specs.Refusal.{number_of}
 use Rattle.index.specs.Index.{sizes, words_for}
 use Rattle.index.specs.Create.{Creates}
 use Rattle.reading.specs.declared.Reading.{Reading}
 use Rattle.reading.specs.declared.Reading.TheVariants.{Dim, Capacity, Degree, Alpha, Entry, Live, Mark, Version, Number as Figure, Target}
 use Rattle.reading.specs.declared.Value.{Value}
-use Rattle.reading.specs.declared.Value.TheVariants.{Refused, Number, Alpha as Factor, Version as Stamp}
-use Rattle.reading.specs.declared.Found.{Found}
-use Rattle.reading.specs.declared.Found.TheVariants.{Refused as none_found, Found as Nearest}
+use Rattle.reading.specs.declared.Value.TheVariants.{Number, Alpha as Factor, Version as Stamp}
 use Rattle.reading.specs.Read.{Reads, ReadsVector}
 use Rattle.reading.specs.Search.{Searches}
-use Rattle.updating.specs.declared.Inserted.{Inserted}
-use Rattle.updating.specs.declared.Inserted.TheVariants.{Refused as not_inserted, Done as Filled}
-use Rattle.updating.specs.Insert.{Inserts}
-use Rattle.updating.specs.declared.Deleted.{Deleted}
-use Rattle.updating.specs.declared.Deleted.TheVariants.{Refused as not_deleted, Done as Emptied}
+use Rattle.updating.specs.declared.Changed.{Changed}
+use Rattle.updating.specs.Insert.{index_after, Inserts}
 use Rattle.updating.specs.Delete.{deleted_as, index_left, Deletes}
-use Rattle.guarding.specs.declared.Standing.{Standing}
-use Rattle.guarding.specs.declared.Standing.TheVariants.{Refused as no_status, Standing as StandsSo}
+use Rattle.guarding.specs.declared.Status.{Status}
 use Rattle.guarding.specs.declared.Enabled.{Enabled}
-use Rattle.guarding.specs.declared.Enabled.TheVariants.{Refused as not_enabled, Enabled as EnabledWith}
-use Rattle.guarding.specs.declared.Assessed.{Assessed}
-use Rattle.guarding.specs.declared.Assessed.TheVariants.{Refused as not_assessed, Assessed as AssessedSo}
 use Rattle.guarding.specs.declared.Guarded.{Guarded}
-use Rattle.guarding.specs.declared.Guarded.TheVariants.{Refused as not_guarded, Applied, Deferred}
+use Rattle.guarding.specs.declared.Guarded.TheVariants.{Applied, Deferred}
 use Rattle.guarding.specs.Guarded.{guarded_as, index_kept, Guards}
 use Rattle.guarding.specs.Guarding.{status_of, Stands, enabled_index, Enables, Assesses}
 use Rattle.words.specs.IndexWords.{index_of, words_of}
 use Rattle.words.specs.GuardWords.{status_words, report_words}
 
--- ---- the size answer
+-- ---- an answer for C
 
--- the size answer that a status and a number give
-abbrev pub size_given : ℕ → ℕ → ScratchWords
-size_given status n = cond (eqb status 0) (sized n) (no_size status)
+-- an answer with its value as f gives it
+abbrev pub map_ok : {A B : Type 0} → (A → B) → Result A Refusal → Result B Refusal
+map_ok f (Ok a) = Ok (f a)
+map_ok f (Err e) = Err e
+
+-- the status of an answer, and what is left where its value is to be written
+abbrev pub put : {A : Type 0} → Result A Refusal → A → ℕ × A
+put (Ok a) before = (0, a)
+put (Err e) before = (number_of e, before)
+
+-- ---- the size answer
 
 -- what `finder_scratch_words` promises
 pub record SizesScratch (dim capacity degree size size' status : ℕ) : Type 0 where
-  pub does : (alpha : Float) → size_given status size' ≡ words_for (sizes dim capacity degree alpha)
-  pub kept : (status ≡ 0 → ⊥) → size' ≡ size
+  pub told : (alpha : Float) → (status, size') ≡ put (words_for (sizes dim capacity degree alpha)) size
 
 -- ---- making
 
--- the new index that a status and the index's words give
-abbrev pub created_given : ℕ → List ℕ → Created
-created_given status words = cond (eqb status 0) (Done (index_of words)) (not_made status)
-
--- what `finder_create` promises
+-- what `finder_create` promises; the words that it leaves hold the new index
 pub record CreatesWords (m : Making) (s s' : Slices) (words words' : List ℕ) (status : ℕ) : Type 0 where
-  pub does : Creates m s s' (created_given status words')
-  pub written : status ≡ 0 → words' ≡ words_of (index_of words')
-  pub kept : (status ≡ 0 → ⊥) → words' ≡ words
+  pub answer : Result Index Refusal
+  pub does : Creates m s s' answer
+  pub told : (status, words') ≡ put (map_ok words_of answer) words
+  pub held : (i : Index) → answer ≡ Ok i → index_of words' ≡ i
 
 -- ---- readings
 
@@ -76,24 +71,18 @@ value_in (Version slot) n = Stamp n
 value_in (Figure slot) n = Number n
 value_in (Target slot place) n = Number n
 
--- the value that a status and a number give
-abbrev pub number_given : Reading → ℕ → ℕ → Value
-number_given q status n = cond (eqb status 0) (value_in q n) (Refused status)
-
--- the value that a status and an alpha give
-abbrev pub alpha_given : ℕ → Float → Value
-alpha_given status a = cond (eqb status 0) (Factor a) (Refused status)
-
 module _ (words : List ℕ) (s : Slices) where
   -- what a function promises that reads a number
   pub record ReadsNumber (q : Reading) (value value' status : ℕ) : Type 0 where
-    pub does : Reads (index_of words) s q (number_given q status value')
-    pub kept : (status ≡ 0 → ⊥) → value' ≡ value
+    pub answer : Result ℕ Refusal
+    pub does : Reads (index_of words) s q (map_ok (value_in q) answer)
+    pub told : (status, value') ≡ put answer value
 
   -- what `finder_alpha` promises
   pub record ReadsAlpha (value value' : Float) (status : ℕ) : Type 0 where
-    pub does : Reads (index_of words) s Alpha (alpha_given status value')
-    pub kept : (status ≡ 0 → ⊥) → value' ≡ value
+    pub answer : Result Float Refusal
+    pub does : Reads (index_of words) s Alpha (map_ok Factor answer)
+    pub told : (status, value') ≡ put answer value
 
   -- so many bytes from a slot's place on
   abbrev pub bytes_at : ℕ → ℕ → List ℕ
@@ -106,89 +95,72 @@ module _ (words : List ℕ) (s : Slices) where
 
 -- ---- search
 
--- what a status and a number give
-abbrev pub found_given : ℕ → ℕ → Found
-found_given status n = cond (eqb status 0) (Nearest n) (none_found status)
-
 -- what `finder_search` promises
 pub record SearchesWords (words : List ℕ) (s : Slices) (a : Search) (outputs : Outputs) (scratch : List ℕ) (outputs' : Outputs) (scratch' : List ℕ) (found found' status : ℕ) : Type 0 where
-  pub does : Searches (index_of words) s a outputs scratch outputs' scratch' (found_given status found')
-  pub kept : (status ≡ 0 → ⊥) → found' ≡ found
+  pub answer : Result ℕ Refusal
+  pub does : Searches (index_of words) s a outputs scratch outputs' scratch' answer
+  pub told : (status, found') ≡ put answer found
 
--- ---- insert
+-- ---- insert and delete
 
--- what a status, the index's words and a number give
-abbrev pub inserted_given : ℕ → List ℕ → ℕ → Inserted
-inserted_given status words n = cond (eqb status 0) (Filled (index_of words) n) (not_inserted status)
+-- what is written of an index that was changed: its words, and how many slots were filled or emptied
+abbrev pub changed_words : Changed → List ℕ × ℕ
+changed_words c = (words_of c.index, c.count)
 
--- what `finder_insert` promises
+-- what `finder_insert` promises; the words that it leaves hold the index that the app has then
 pub record InsertsWords (words : List ℕ) (s : Slices) (a : Insert) (outputs : Outputs) (scratch words' : List ℕ) (s' : Slices) (outputs' : Outputs) (scratch' : List ℕ) (found found' status : ℕ) : Type 0 where
-  pub does : Inserts (index_of words) s a outputs scratch s' outputs' scratch' (inserted_given status words' found')
-  pub written : status ≡ 0 → words' ≡ words_of (index_of words')
-  pub kept : (status ≡ 0 → ⊥) → (words' ≡ words) × (found' ≡ found)
-
--- ---- delete
-
--- the status of an answer, and what is left in the index's words and where the number of slots emptied is to be written
-unfoldable pub deleted_put : Deleted → List ℕ → ℕ → ℕ × List ℕ × ℕ
-deleted_put (not_deleted n) words found = (n, words, found)
-deleted_put (Emptied i n) words found = (0, words_of i, n)
+  pub answer : Result Changed Refusal
+  pub does : Inserts (index_of words) s a outputs scratch s' outputs' scratch' answer
+  pub told : (status, (words', found')) ≡ put (map_ok changed_words answer) (words, found)
+  pub held : index_of words' ≡ index_after (index_of words) answer
 
 -- what `finder_delete` promises; the words that it leaves hold the index that the app has then
 pub record DeletesWords (words : List ℕ) (s : Slices) (a : Delete) (outputs : Outputs) (scratch words' : List ℕ) (s' : Slices) (outputs' : Outputs) (scratch' : List ℕ) (found found' status : ℕ) : Type 0 where
-  pub answer : Deleted
+  pub answer : Result Changed Refusal
   pub does : Deletes (index_of words) s a (length outputs.stats) scratch s' scratch' answer
-  pub told : (status, words', found') ≡ deleted_put answer words found
+  pub told : (status, (words', found')) ≡ put (map_ok changed_words answer) (words, found)
   pub held : index_of words' ≡ index_left (index_of words) answer
   pub listed : outputs' ≡ written (deleted_as answer does.stats) outputs
 
 -- ---- the guard
 
--- the status of an answer, and what is left where the guard's status is to be written
-unfoldable pub standing_put : Standing → List ℕ → ℕ × List ℕ
-standing_put (no_status n) place = (n, place)
-standing_put (StandsSo s) place = (0, status_words (status_of s))
+-- the words of the guard's status
+abbrev pub standing_words : Status → List ℕ
+standing_words s = status_words (status_of s)
 
 -- what `finder_guard_status` promises
 pub record StandsWords (words : List ℕ) (s : Slices) (place place' : List ℕ) (status : ℕ) : Type 0 where
-  pub answer : Standing
+  pub answer : Result Status Refusal
   pub does : Stands (index_of words) s answer
-  pub told : (status, place') ≡ standing_put answer place
+  pub told : (status, place') ≡ put (map_ok standing_words answer) place
 
 -- the same, with the index's words
-unfoldable pub enabled_put : Enabled → List ℕ → List ℕ → ℕ × List ℕ × List ℕ
-enabled_put (not_enabled n) words place = (n, words, place)
-enabled_put (EnabledWith i s) words place = (0, words_of i, status_words (status_of s))
+abbrev pub enabled_words : Enabled → List ℕ × List ℕ
+enabled_words n = (words_of n.index, standing_words n.status)
 
 -- what `finder_guard_enable` promises; the words that it leaves hold the index that the app has then
 pub record EnablesWords (words : List ℕ) (s : Slices) (c : Config) (scratch : List ℕ) (words' : List ℕ) (s' : Slices) (scratch' place place' : List ℕ) (status : ℕ) : Type 0 where
-  pub answer : Enabled
+  pub answer : Result Enabled Refusal
   pub does : Enables (index_of words) s c scratch s' scratch' answer
-  pub told : (status, words', place') ≡ enabled_put answer words place
+  pub told : (status, (words', place')) ≡ put (map_ok enabled_words answer) (words, place)
   pub held : index_of words' ≡ enabled_index (index_of words) answer
-
--- the same, where a report's numbers are to be written
-unfoldable pub assessed_put : Assessed → List ℕ → ℕ × List ℕ
-assessed_put (not_assessed n) place = (n, place)
-assessed_put (AssessedSo r) place = (0, report_words r)
 
 -- what `finder_assess` promises
 pub record AssessesWords (words : List ℕ) (s : Slices) (a : Assess) (outputs : Outputs) (scratch : List ℕ) (outputs' : Outputs) (scratch' place place' : List ℕ) (status : ℕ) : Type 0 where
-  pub answer : Assessed
+  pub answer : Result Report Refusal
   pub does : Assesses (index_of words) s a outputs scratch outputs' scratch' answer
-  pub told : (status, place') ≡ assessed_put answer place
+  pub told : (status, place') ≡ put (map_ok report_words answer) place
 
--- the status of an answer, and what is left in the index's words, where the number of slots emptied is to be written, and where the report's numbers are; a
--- delete that is deferred empties none
-unfoldable pub guarded_put : Guarded → List ℕ → ℕ → List ℕ → ℕ × List ℕ × ℕ × List ℕ
-guarded_put (not_guarded n) words found place = (n, words, found, place)
-guarded_put (Applied i n v) words found place = (0, words_of i, n, report_words v)
-guarded_put (Deferred v) words found place = (0, words, 0, report_words v)
+-- what is left in the index's words, where the number of slots emptied is to be written, and where the report's numbers are; a delete that is deferred
+-- empties none, and leaves the words
+abbrev pub guarded_words : List ℕ → Guarded → List ℕ × ℕ × List ℕ
+guarded_words words (Applied c v) = (words_of c.index, c.count, report_words v)
+guarded_words words (Deferred v) = (words, 0, report_words v)
 
 -- what `finder_guarded_delete` promises; the words that it leaves hold the index that the app has then
 pub record GuardsWords (words : List ℕ) (s : Slices) (a : Delete) (outputs : Outputs) (scratch words' : List ℕ) (s' : Slices) (outputs' : Outputs) (scratch' : List ℕ) (found found' : ℕ) (place place' : List ℕ) (status : ℕ) : Type 0 where
-  pub answer : Guarded
+  pub answer : Result Guarded Refusal
   pub does : Guards (index_of words) s a (length outputs.stats) outputs.checked outputs.lost scratch s' outputs'.checked outputs'.lost scratch' answer
-  pub told : (status, words', found', place') ≡ guarded_put answer words found place
+  pub told : (status, (words', found', place')) ≡ put (map_ok (guarded_words words) answer) (words, found, place)
   pub held : index_of words' ≡ index_kept (index_of words) answer
   pub listed : outputs' ≡ written (guarded_as answer does.stats does.report) outputs

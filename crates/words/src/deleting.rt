@@ -1,16 +1,17 @@
 // Delete on an index that words hold, but for the records of its stats.
-ghost use Rattle.std.specs.Prelude.{not, ◌≡◌, ℕ, T};
+ghost use Rattle.std.specs.Prelude.{not, ◌≡◌, T, Ok};
 ghost use Rattle.std.specs.Float.Ieee.{is_nan};
 ghost use Rattle.slots.specs.Sizes.{slices};
-ghost use Rattle.index.specs.declared.Index.{Index};
-ghost use Rattle.updating.specs.declared.Deleted.TheVariants.{Done};
+ghost use Rattle.updating.specs.declared.Changed as Change;
 ghost use Rattle.updating.specs.Delete.{deleting};
-ghost use Rattle.words.specs.Given.{deleted_put};
+ghost use Rattle.words.specs.Given.{map_ok, put, changed_words};
 ghost use Rattle.words.specs.Inner.Putting.{stats_left, LeavesStats};
 
-use super::index_words::{index_from, words_from};
+use super::changing::put_changed;
+use super::index_words::index_from;
 use deletion::stats_place;
-use updating::{Deleted, Naming};
+use index::Refusal;
+use updating::{Changed, Naming};
 
 // A delete's status, and where in the scratch the words of how many stats stand.
 #[derive(Clone, Copy)]
@@ -20,26 +21,28 @@ pub struct Left {
     pub count: usize,
 }
 
-// Writes the words of an index without the slots that are emptied, and how many they are.
-pub fn put_deleted(answer: Deleted, place: usize, words: &mut [u32; 12], found: &mut u32) -> Left
-    requires { (i : Index) (n : ℕ) → answer ≡ Done i n → T (not (is_nan i.alpha)) }
-    ensures { ((result.status, words.new, found.new) ≡ deleted_put answer words.old found.old) × ((result.at, result.count) ≡ stats_left answer place) }
+// Writes what a delete changed.
+fn put_deleted(
+    answer: Result<Changed, Refusal>,
+    place: usize,
+    words: &mut [u32; 12],
+    found: &mut u32,
+) -> Left
+    requires { (c : Change.Changed) → answer ≡ Ok c → T (not (is_nan c.index.alpha)) }
+    ensures { ((result.status, (words.new, found.new)) ≡ put (map_ok changed_words answer) (words.old, found.old)) × ((result.at, result.count) ≡ stats_left answer place) }
 {
+    let status = put_changed(answer, words, found);
     match answer {
-        Deleted::Refused(n) => Left {
-            status: n,
+        Ok(c) => Left {
+            status,
+            at: place,
+            count: c.count as usize,
+        },
+        Err(_) => Left {
+            status,
             at: 0,
             count: 0,
         },
-        Deleted::Done(i, n) => {
-            *words = words_from(i);
-            *found = n;
-            Left {
-                status: 0,
-                at: place,
-                count: n as usize,
-            }
-        }
     }
 }
 

@@ -1,49 +1,46 @@
 // The guarded delete on an index that words hold, but for the records of its stats.
-ghost use Rattle.std.specs.Prelude.{not, ◌≡◌, ℕ, T};
+ghost use Rattle.std.specs.Prelude.{not, ◌≡◌, T, Ok};
 ghost use Rattle.std.specs.Float.Ieee.{is_nan};
 ghost use Rattle.slots.specs.Sizes.{slices};
-ghost use Rattle.admission.specs.declared.report.Report.{Report};
-ghost use Rattle.index.specs.declared.Index.{Index};
+ghost use Rattle.admission.specs.declared.report.Report as Reported;
+ghost use Rattle.updating.specs.declared.Changed as Change;
 ghost use Rattle.updating.specs.Delete.{deleting};
 ghost use Rattle.guarding.specs.declared.Guarded.TheVariants.{Applied};
-ghost use Rattle.words.specs.Given.{guarded_put};
+ghost use Rattle.words.specs.Given.{map_ok, put, guarded_words};
 ghost use Rattle.words.specs.Inner.Putting.{guarded_left, LeavesGuarded};
 
+use super::answers::number_of;
 use super::deleting::Left;
 use super::guard_calls::words_of_report;
 use super::index_words::{index_from, words_from};
 use deletion::stats_place;
 use guarding::Guarded;
+use index::Refusal;
 use updating::Naming;
 
 // Writes the numbers of the report and how many slots are emptied; where the delete is applied, the words of the index without them too.
-pub fn put_guarded(
-    answer: Guarded,
+fn put_guarded(
+    answer: Result<Guarded, Refusal>,
     place: usize,
     words: &mut [u32; 12],
     found: &mut u32,
     report: &mut [u32; 8],
 ) -> Left
-    requires { (i : Index) (n : ℕ) (v : Report) → answer ≡ Applied i n v → T (not (is_nan i.alpha)) }
-    ensures { ((result.status, words.new, found.new, report.new) ≡ guarded_put answer words.old found.old report.old) × ((result.at, result.count) ≡ guarded_left answer place) }
+    requires { (c : Change.Changed) (v : Reported.Report) → answer ≡ Ok (Applied c v) → T (not (is_nan c.index.alpha)) }
+    ensures { ((result.status, (words.new, found.new, report.new)) ≡ put (map_ok (guarded_words words.old) answer) (words.old, found.old, report.old)) × ((result.at, result.count) ≡ guarded_left answer place) }
 {
     match answer {
-        Guarded::Refused(n) => Left {
-            status: n,
-            at: 0,
-            count: 0,
-        },
-        Guarded::Applied(i, n, r) => {
-            *words = words_from(i);
-            *found = n;
+        Ok(Guarded::Applied(c, r)) => {
+            *words = words_from(c.index);
+            *found = c.count;
             *report = words_of_report(r);
             Left {
                 status: 0,
                 at: place,
-                count: n as usize,
+                count: c.count as usize,
             }
         }
-        Guarded::Deferred(r) => {
+        Ok(Guarded::Deferred(r)) => {
             *found = 0;
             *report = words_of_report(r);
             Left {
@@ -52,6 +49,11 @@ pub fn put_guarded(
                 count: 0,
             }
         }
+        Err(e) => Left {
+            status: number_of(e),
+            at: 0,
+            count: 0,
+        },
     }
 }
 

@@ -3,7 +3,7 @@ ghost use Rattle.std.specs.Prelude.{not, ◌≡◌, T};
 ghost use Rattle.std.specs.Float.Ieee.{is_nan};
 ghost use Rattle.words.specs.IndexWords.{alpha_of, guard_of, index_of, words_of};
 
-use index::{Guard, Index, Settings};
+use index::{Index, Settings};
 
 // The alpha of its bits; a NaN's bits are read as 0.0.
 fn alpha_from(bits: u32) -> f32
@@ -15,13 +15,15 @@ fn alpha_from(bits: u32) -> f32
     f32::from_bits(bits)
 }
 
-fn guard_from(words: &[u32; 12]) -> Guard
+// The settings of the guard that words hold; none where it is off.
+#[tactic(auto, unfolding(crate::specs::IndexWords::guard_of))]
+fn guard_from(words: &[u32; 12]) -> Option<Settings>
     ensures { result ≡ guard_of words.now }
 {
     if words[6] == 0 {
-        return Guard::Off;
+        return None;
     }
-    Guard::On(Settings {
+    Some(Settings {
         count: words[7],
         multiplier: words[8],
         sample: words[9],
@@ -31,6 +33,7 @@ fn guard_from(words: &[u32; 12]) -> Guard
 }
 
 // The index that words hold.
+#[tactic(auto, unfolding(crate::specs::IndexWords::index_of))]
 pub fn index_from(words: &[u32; 12]) -> Index
     ensures { result ≡ index_of words.now }
 {
@@ -47,41 +50,35 @@ pub fn index_from(words: &[u32; 12]) -> Index
     }
 }
 
+// What the words of a guard that is off hold in place of settings.
+const OFF: Settings = Settings {
+    count: 0,
+    multiplier: 0,
+    sample: 0,
+    beam: 0,
+    pool: 0,
+};
+
 // The words that an index is written as.
 pub fn words_from(index: Index) -> [u32; 12]
     requires { T (not (is_nan index.alpha)) }
     ensures { result ≡ words_of index }
 {
-    let bits = f32::to_bits(index.alpha);
     let guard = index.guard;
-    match guard {
-        Guard::Off => [
-            index.dim,
-            index.capacity,
-            index.degree,
-            bits,
-            index.entry,
-            index.live,
-            0,
-            0,
-            0,
-            0,
-            0,
-            0,
-        ],
-        Guard::On(s) => [
-            index.dim,
-            index.capacity,
-            index.degree,
-            bits,
-            index.entry,
-            index.live,
-            1,
-            s.count,
-            s.multiplier,
-            s.sample,
-            s.beam,
-            s.pool,
-        ],
-    }
+    let on = u32::from(guard.is_some());
+    let s = guard.unwrap_or(OFF);
+    [
+        index.dim,
+        index.capacity,
+        index.degree,
+        index.alpha.to_bits(),
+        index.entry,
+        index.live,
+        on,
+        s.count,
+        s.multiplier,
+        s.sample,
+        s.beam,
+        s.pool,
+    ]
 }

@@ -1,16 +1,17 @@
 // Readings of an index that words hold.
 ghost use Rattle.std.specs.Prelude.{true, ◌≡◌};
 ghost use Rattle.slots.specs.Sizes.{slices};
-ghost use Rattle.reading.specs.declared.Reading.TheVariants.{Alpha, Version};
 ghost use Rattle.reading.specs.Read.{Reads};
 ghost use Rattle.words.specs.IndexWords.{index_of};
-ghost use Rattle.words.specs.Given.{ReadsNumber};
-ghost use Rattle.words.specs.Inner.Putting.{gives_number, number_put, alpha_put};
+ghost use Rattle.words.specs.Given.{map_ok, put, ReadsNumber};
+ghost use Rattle.words.specs.Inner.Putting.{gives_number, number_in, alpha_in};
 
+use super::answers::put;
 use super::index_words::index_from;
+use index::Refusal;
 use reading::{Reading, Value};
 
-// What is read, or the number of a refusal.
+// What is read, or why it is not.
 pub fn read_value(
     words: &[u32; 12],
     vectors: &[u8],
@@ -22,7 +23,7 @@ pub fn read_value(
     numbers: &[u32],
     summary: &[u32],
     reading: Reading,
-) -> Value
+) -> Result<Value, Refusal>
     ensures { Reads (index_of words.now) (slices vectors.now targets.now edges.now versions.now marks.now pool.now numbers.now summary.now) reading result }
 {
     let held = index_from(words);
@@ -31,37 +32,33 @@ pub fn read_value(
     )
 }
 
-// Writes a number that was read.
-pub fn put_number(read: Value, value: &mut u32) -> u32
-    ensures { (result, value.new) ≡ number_put read value.old }
+// The number that was read; alpha is none.
+fn number_in(value: Value) -> u32
+    ensures { result ≡ number_in value }
 {
-    match read {
-        Value::Refused(n) => n,
-        Value::Number(n) => {
-            *value = n;
-            0
-        }
-        Value::Version(n) => {
-            *value = n as u32;
-            0
-        }
+    match value {
+        Value::Number(n) => n,
+        Value::Version(n) => n as u32,
         Value::Alpha(_) => 0,
     }
 }
 
-// Writes an alpha that was read.
-pub fn put_alpha(read: Value, value: &mut f32) -> u32
-    ensures { (result, value.new) ≡ alpha_put read value.old }
+// The alpha that was read; a number is none.
+fn alpha_in(value: Value) -> f32
+    ensures { result ≡ alpha_in value }
 {
-    match read {
-        Value::Refused(n) => n,
-        Value::Alpha(a) => {
-            *value = a;
-            0
-        }
-        Value::Number(_) => 0,
-        Value::Version(_) => 0,
+    match value {
+        Value::Alpha(a) => a,
+        Value::Number(_) | Value::Version(_) => 0.0,
     }
+}
+
+// Writes an alpha that was read.
+#[tactic(auto, using(crate::proofs::Told::put_mapped))]
+pub fn put_alpha(read: Result<Value, Refusal>, value: &mut f32) -> u32
+    ensures { (result, value.new) ≡ put (map_ok alpha_in read) value.old }
+{
+    put(read.map(alpha_in), value)
 }
 
 // Reads a number and writes it.
@@ -84,5 +81,5 @@ pub fn read_number(
     let read = read_value(
         words, vectors, targets, edges, versions, marks, pool, numbers, summary, reading,
     );
-    put_number(read, value)
+    put(read.map(number_in), value)
 }

@@ -1,5 +1,5 @@
 -- The own tests of the guard's calls, and what their functions leave. Assumes nothing.
-use Rattle.std.specs.Prelude.{ℕ, max, min, ◌≤◌, Bool, false, List, [], ◌∷◌, ◌≡◌, eqb, ltb, length}
+use Rattle.std.specs.Prelude.{ℕ, Some, Result, Ok, Err, max, min, ◌≤◌, Bool, false, List, [], ◌∷◌, ◌≡◌, eqb, ltb, length}
 use Rattle.slots.specs.Sizes.{Slices, slices, lengths_of, limits}
 use Rattle.slots.specs.Scratch.{size_answer}
 use Rattle.slots.specs.View.{View}
@@ -13,12 +13,10 @@ use Rattle.calls.specs.State.{stored, shown}
 use Rattle.calls.specs.Step.{report_of}
 use Rattle.index.specs.declared.Index.{Index}
 use Rattle.index.specs.declared.Settings.{Settings}
-use Rattle.index.specs.declared.Guard.TheVariants.{On}
+use Rattle.index.specs.declared.Refusal.{Refusal}
 use Rattle.index.specs.Index.{guard_of, state_of}
 use Rattle.index.specs.Inner.Deciding.{labels_of, Decided}
 use Rattle.guarding.specs.declared.Status.{Status}
-use Rattle.guarding.specs.declared.Assessed.{Assessed}
-use Rattle.guarding.specs.declared.Assessed.TheVariants.{Refused as not_assessed, Assessed as AssessedSo}
 use Rattle.guarding.specs.Guarding.{status_of}
 
 -- 7, 8, 12 and 13, of which the live count decides the last two (`one_live`)
@@ -35,16 +33,11 @@ pub record Testable (wrong over : Bool) (ids checked lost : List ℕ) : Type 0 w
   pub long : wrong ≡ false → limits.landmarks ≤ min (length checked) (length lost)
   pub few : over ≡ false → length ids ≤ limits.ids
 
--- the number of the test that holds, 0 where none does
-unfoldable pub refusal_of : Assessed → ℕ
-refusal_of (not_assessed n) = n
-refusal_of (AssessedSo v) = 0
-
 -- a report, or the number of the first test that holds, and then nothing is written
-pub record Tested (index : Index) (s : Slices) (wrong over : Bool) (ids checked lost scratch checked' lost' scratch' : List ℕ) (r : Assessed) : Type 0 where
-  pub decided : Decided index (lengths_of s) (labels_of s) wrong (report_tests index over (length scratch)) (refusal_of r)
-  pub back : (n : ℕ) → r ≡ not_assessed n → (n ≡ 0 → ⊥) × (checked' ≡ checked) × (lost' ≡ lost) × (scratch' ≡ scratch)
-  pub on : (v : Report) → r ≡ AssessedSo v → Reports (report_of (shown stored (state_of index s)) ids) checked checked' lost lost' v
+pub record Tested (index : Index) (s : Slices) (wrong over : Bool) (ids checked lost scratch checked' lost' scratch' : List ℕ) (r : Result Report Refusal) : Type 0 where
+  pub decided : Decided index (lengths_of s) (labels_of s) wrong (report_tests index over (length scratch)) r
+  pub back : (e : Refusal) → r ≡ Err e → (checked' ≡ checked) × (lost' ≡ lost) × (scratch' ≡ scratch)
+  pub on : (v : Report) → r ≡ Ok v → Reports (report_of (shown stored (state_of index s)) ids) checked checked' lost lost' v
 
 -- the settings as they act
 pub record Normal (c : Config) (s : Settings) : Type 0 where
@@ -63,7 +56,7 @@ guarded_index i s n =
       alpha = i.alpha;
       entry = i.entry;
       live = i.live;
-      guard = On (record { count = s.count; multiplier = s.multiplier; sample = s.sample; beam = s.beam; pool = n });
+      guard = Some (record { count = s.count; multiplier = s.multiplier; sample = s.sample; beam = s.beam; pool = n });
     }
 
 -- the slices with another pool

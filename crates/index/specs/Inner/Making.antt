@@ -1,15 +1,14 @@
 -- The new index by value, from what making is given, and its numbers. Assumes nothing.
-use Rattle.std.specs.Prelude.{ℕ, ◌-◌, ◌≤◌, Bool, false, List, [], ◌++◌, ◌≡◌, ltb, Float, length, replicate}
+use Rattle.std.specs.Prelude.{None, ℕ, ◌-◌, ◌≤◌, Bool, false, List, [], ◌++◌, ◌≡◌, ltb, Float, length, replicate}
 use Rattle.numbers.specs.Numbers.{taken, summary_of}
 use Rattle.index.specs.declared.Index.{Index}
-use Rattle.index.specs.declared.Guard.TheVariants.{Off}
 use Rattle.calls.specs.Calls.{Making}
 use Rattle.index.specs.Create.{making}
 
 -- the new index by value
 abbrev pub fresh_index : ℕ → ℕ → ℕ → Float → ℕ → ℕ → Index
 fresh_index dim capacity degree alpha entry count =
-    record { dim = dim; capacity = capacity; degree = degree; alpha = alpha; entry = entry; live = count; guard = Off }
+    record { dim = dim; capacity = capacity; degree = degree; alpha = alpha; entry = entry; live = count; guard = None }
 
 -- what making is given for it
 abbrev pub making_of : Index → List ℕ → List ℕ → List ℕ → Making

@@ -1,5 +1,5 @@
 -- What is read of an index that no test turns back. Assumes nothing.
-use Rattle.std.specs.Prelude.{List, ◌≡◌, ℕ}
+use Rattle.std.specs.Prelude.{Ok, List, ◌≡◌, ℕ}
 use Rattle.slots.specs.Sizes.{slices}
 use Rattle.index.specs.declared.Index.{Index}
 use Rattle.reading.specs.declared.Reading.{Reading}
@@ -11,4 +11,4 @@ use Rattle.reading.specs.Read.{reading_of, answer_of}
 
 -- where no test holds, the rows, versions, marks and numbers decide
 pub record Answers (index : Index) (targets edges versions marks numbers : List ℕ) (q : Reading) (r : Value) : Type 0 where
-  pub does : (vectors pool summary : List ℕ) → answer_of r ≡ reading stored (state_of index (slices vectors targets edges versions marks pool numbers summary)) (reading_of q)
+  pub does : (vectors pool summary : List ℕ) → answer_of (Ok r) ≡ reading stored (state_of index (slices vectors targets edges versions marks pool numbers summary)) (reading_of q)

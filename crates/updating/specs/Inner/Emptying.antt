@@ -1,5 +1,5 @@
 -- A delete's own tests, its names as slots, and the index that it leaves by value. Assumes nothing.
-use Rattle.std.specs.Prelude.{ℕ, Bool, true, false, ◌||◌, List, [], ◌∷◌, map, ◌≡◌, length, take, ltb}
+use Rattle.std.specs.Prelude.{ℕ, ◌-◌, Bool, true, false, ◌||◌, List, [], ◌∷◌, map, ◌≡◌, length, take, ltb}
 use Rattle.std.proofs.Math.Option.{none}
 use Rattle.slots.specs.Sizes.{Slices, Lengths, lengths_of, limits}
 use Rattle.slots.specs.Scratch.{size_answer}
@@ -10,6 +10,7 @@ use Rattle.calls.specs.State.{shown, stored}
 use Rattle.index.specs.declared.Index.{Index}
 use Rattle.index.specs.Index.{state_of}
 use Rattle.index.specs.Inner.Deciding.{Labels, labels_of}
+use Rattle.updating.specs.declared.Changed.{Changed}
 use Rattle.updating.specs.declared.Naming.{Naming}
 use Rattle.updating.specs.declared.Naming.TheVariants.{Slots, Numbers}
 
@@ -28,6 +29,10 @@ slot_delete slots repair_beam repair_degree = record { names = slots; naming = o
 abbrev pub with_entry : Index → ℕ → ℕ → Index
 with_entry i entry live =
     record { dim = i.dim; capacity = i.capacity; degree = i.degree; alpha = i.alpha; entry = entry; live = live; guard = i.guard }
+
+-- with how many slots fewer
+abbrev pub fewer : Index → ℕ → ℕ → Changed
+fewer i entry n = record { index = with_entry i entry (i.live - n); count = n }
 
 abbrev pub are_numbers : Naming → Bool
 are_numbers Slots = false

@@ -1,5 +1,6 @@
-use Rattle.words.proofs.Told.{scratch_refused}
+use mathlib.Core.Path.{◌∙◌, ap}
+use Rattle.words.specs.Given.{put}
 use Rattle.finder.proofs.making.finder_scratch_words.Goals as goal
 
-pub returns-in-Refused : goal.returns-in-Refused
-returns-in-Refused c = scratch_refused _ _ _ c.scratch_words-answer.ensures _ c.in-Refused.is
+pub returns : goal.returns
+returns c = record { told = λ alpha. c.put.ensures ∙ ap (λ r. put r c.args.size.now) (c.scratch_words.ensures alpha) }

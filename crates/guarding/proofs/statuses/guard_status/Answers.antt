@@ -1,12 +1,13 @@
 use Rattle.slots.specs.Sizes.{Slices, slices}
+use Rattle.std.proofs.lemmas.Result.{err_from_is_err_and}
 use Rattle.guarding.proofs.Stands.{stands_back, stands_ready, stands_on}
 use Rattle.guarding.proofs.statuses.guard_status.Goals as goal
 
-pub returns-then-r-ne0 : goal.returns-then-r-ne0
-returns-then-r-ne0 c = let lent : Slices = slices c.args.vectors.now c.args.targets.now c.args.edges.now c.args.versions.now c.args.marks.now c.args.pool.now c.args.numbers.now c.args.summary.now in stands_back c.args.index lent c.index_refusal-r.ensures c.if-r-ne0.true
+pub returns-in_err-check_index : goal.returns-in_err-check_index
+returns-in_err-check_index c = let lent : Slices = slices c.args.vectors.now c.args.targets.now c.args.edges.now c.args.versions.now c.args.marks.now c.args.pool.now c.args.numbers.now c.args.summary.now in let p = err_from_is_err_and c.from_residual.result c.from_residual.ensures.1 in rw (p.1, p.2) (stands_back c.args.index lent c.check_index.ensures c.in_err-check_index.was)
 
 pub status_of-requires : goal.status_of-requires
-status_of-requires c = let lent : Slices = slices c.args.vectors.now c.args.targets.now c.args.edges.now c.args.versions.now c.args.marks.now c.args.pool.now c.args.numbers.now c.args.summary.now in stands_ready c.args.index lent c.index_refusal-r.ensures c.if-r-ne0.false
+status_of-requires c = let lent : Slices = slices c.args.vectors.now c.args.targets.now c.args.edges.now c.args.versions.now c.args.marks.now c.args.pool.now c.args.numbers.now c.args.summary.now in stands_ready c.args.index lent c.check_index.ensures c.in_ok-check_index.was
 
 pub returns : goal.returns
-returns c = let lent : Slices = slices c.args.vectors.now c.args.targets.now c.args.edges.now c.args.versions.now c.args.marks.now c.args.pool.now c.args.numbers.now c.args.summary.now in stands_on c.args.index lent c.index_refusal-r.ensures c.if-r-ne0.false c.status_of.ensures
+returns c = let lent : Slices = slices c.args.vectors.now c.args.targets.now c.args.edges.now c.args.versions.now c.args.marks.now c.args.pool.now c.args.numbers.now c.args.summary.now in stands_on c.args.index lent c.check_index.ensures c.in_ok-check_index.was c.status_of.ensures

@@ -1,19 +1,15 @@
-use Rattle.index.proofs.Makes.{naming_none, naming_blank, naming_given, naming_bad, naming_done}
+use mathlib.Core.Bool.{not, ◌&&◌}
+use mathlib.Core.Path.{◌∙◌}
+use lib.Dec.{eqb, leb}
+use borrow.Author.Tests.{tests}
+use Rattle.std.proofs.Common.{rules}
+use Rattle.std.proofs.lemmas.Iterator.{YieldsList-from_slice}
+use Rattle.std.proofs.lemmas.Iterator.Search.{any_from_yields_List}
+use Rattle.slots.specs.Store.{blank}
+use Rattle.index.proofs.Makes.{named_any}
 use Rattle.index.proofs.making.names_bad.Goals as goal
-use Rattle.index.proofs.making.names_bad.Goals.{then-t+else-count-t, else-t}
-
-pub loop-i-init : goal.loop-i-init
-loop-i-init c = naming_none _ _
-
-pub returns-then-count-t : goal.returns-then-count-t
-returns-then-count-t c = naming_bad c.loop-i-test.true c.loop-i.invariant c.if-t.true c.if-count-t.true
-
-pub loop-i-preserved : goal.loop-i-preserved
-loop-i-preserved c =
-    elim c.if-t.branch [
-      | then-t+else-count-t w ↦ naming_given c.loop-i-test.true c.loop-i.invariant w.if-t.true w.if-count-t.false
-      | else-t w ↦ naming_blank c.loop-i-test.true c.loop-i.invariant w.if-t.false
-    ]
 
 pub returns : goal.returns
-returns c = naming_done c.loop-i-test.false c.loop-i.invariant
+returns c =
+    let xs = c.args.rows.now in
+    any_from_yields_List (λ t. not (eqb t blank) && leb c.args.count t) _ _ _ c.any.ensures.ran (YieldsList-from_slice xs c.iter.ensures.rest) (λ x b q k. search (rules, tests)) ∙ named_any c.args.count xs

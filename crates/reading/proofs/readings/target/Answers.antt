@@ -1,32 +1,17 @@
 use native.Mathlib.Omega.{arith}
-use Rattle.reading.proofs.Shown.{finding_none, finding_dead, finding_more, finding_here, finding_end, no_row}
+use borrow.Author.Rules.{rules}
+use Rattle.std.proofs.lemmas.Iterator.{YieldsList-from_range}
+use Rattle.std.proofs.lemmas.Iterator.Consumers.{YieldsList-from_filter_map, nth_from_yields_List}
+use Rattle.slots.specs.Store.{Arrays, arrays}
+use Rattle.slots.specs.Inner.Rows.{ref_at}
+use Rattle.reading.proofs.Shown.{no_row, nth_given}
 use Rattle.reading.proofs.readings.target.Goals as goal
-use Rattle.reading.proofs.readings.target.Goals.{in-Some+else-left-eq0, in_default}
 
 pub returns-then-marks-s : goal.returns-then-marks-s
 returns-then-marks-s c = no_row c.args.s c.args.place c.requires c.if-marks-s.true
 
-pub loop-at-init : goal.loop-at-init
-loop-at-init c = (omega arith, finding_none _ _ _ _ _ _ _)
-
-pub live_at-found-requires : goal.live_at-found-requires
-live_at-found-requires c = record { row_shape = c.requires; s_in_bounds = (c.if-marks-s.false, c.loop-at-test.true) }
-
-pub returns-then-left-eq0 : goal.returns-then-left-eq0
-returns-then-left-eq0 c = finding_here c.requires c.if-marks-s.false c.loop-at-test.true c.live_at-found.ensures c.loop-at.invariant.1 c.in-Some.is c.if-left-eq0.true
-
-pub overflow_add-at : goal.overflow_add-at
-overflow_add-at c = omega (arith, c.loop-at-test.true)
-
-pub loop-at-smaller : goal.loop-at-smaller
-loop-at-smaller c = omega (arith, c.loop-at-test.true)
-
-pub loop-at-preserved : goal.loop-at-preserved
-loop-at-preserved c =
-    elim c.match-found.branch [
-      | in-Some+else-left-eq0 w ↦ rw w.left-is (omega (arith, c.loop-at.invariant.0), finding_more c.requires c.if-marks-s.false c.loop-at-test.true c.live_at-found.ensures c.loop-at.invariant.1 w.in-Some.is w.if-left-eq0.false)
-      | in_default w ↦ rw w.left-is (c.loop-at.invariant.0, finding_dead c.requires c.if-marks-s.false c.loop-at-test.true c.live_at-found.ensures c.loop-at.invariant.1 w.in_default.is)
-    ]
-
 pub returns : goal.returns
-returns c = finding_end c.loop-at-test.false c.loop-at.invariant.1
+returns c = λ dim vectors.
+    let a : Arrays = arrays dim c.args.degree vectors c.args.targets.now c.args.edges.now c.args.versions.now c.args.marks.now in
+    nth_given a c.requires c.args.s c.if-marks-s.false c.nth.result c.args.place c.unwrap_or.ensures (nth_from_yields_List c.nth.result _ c.args.place c.nth.ensures.ran
+    (YieldsList-from_filter_map _ (ref_at a c.args.s) (YieldsList-from_range 0 c.args.degree c.args.degree c.filter_map.ensures.source (omega arith)) c.filter_map.ensures.closure (λ x r q k. search rules)))

@@ -1,4 +1,4 @@
-use Rattle.reading.proofs.Finds.{showing_none, showing_small, showing_more, showing_done}
+use Rattle.reading.proofs.Finds.{showing_none, showing_small, showing_more}
 use Rattle.reading.proofs.searching.show.Goals as goal
 
 pub loop-i-init : goal.loop-i-init
@@ -9,6 +9,3 @@ new-c-requires c = rw c.dist_at.ensures (showing_small c.loop-i.invariant c.requ
 
 pub loop-i-preserved : goal.loop-i-preserved
 loop-i-preserved c = showing_more c.loop-i.invariant c.requires c.loop-i-test.true c.dist_at.ensures c.id_at.ensures c.new-c.ensures
-
-pub returns : goal.returns
-returns c = showing_done c.loop-i.invariant c.requires c.loop-i-test.false

@@ -5,6 +5,3 @@ use Rattle.updating.proofs.deleting.delete.Goals as goal
 pub delete_named-requires : goal.delete_named-requires
 unfolding limits
 delete_named-requires c = refl
-
-pub returns : goal.returns
-returns c = c.delete_named.ensures

@@ -1,13 +1,6 @@
-use mathlib.Core.Path.{refl}
 use Rattle.slots.specs.Sizes.{Slices, slices}
-use Rattle.updating.proofs.Named.{names_fit, names_fit_after, deletes_slots, deletes_numbers}
+use Rattle.updating.proofs.Named.{names_fit_after, deletes_slots, deletes_numbers}
 use Rattle.updating.proofs.deleting.delete_named.Goals as goal
-
-pub translate-requires : goal.translate-requires
-translate-requires c = (refl, refl, refl, names_fit c.args.naming c.by_numbers.ensures c.if-by_numbers.true c.requires)
-
-pub slice_bounds-delete_slots-end : goal.slice_bounds-delete_slots-end
-slice_bounds-delete_slots-end c = names_fit_after c.args.naming c.by_numbers.ensures c.if-by_numbers.true c.requires c.translate.auto.slots
 
 pub returns-then-by_numbers : goal.returns-then-by_numbers
 returns-then-by_numbers c = let lent : Slices = slices c.args.vectors.now c.args.targets.now c.args.edges.now c.args.versions.now c.args.marks.now c.args.pool.now c.args.numbers.now c.args.summary.now in deletes_numbers c.args.naming c.args.index lent c.args.names.now c.by_numbers.ensures _ c.if-by_numbers.true (names_fit_after c.args.naming c.by_numbers.ensures c.if-by_numbers.true c.requires c.translate.auto.slots) c.translate.ensures c.delete_slots.ensures

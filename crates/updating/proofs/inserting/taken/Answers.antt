@@ -1,11 +1,9 @@
-use Rattle.updating.proofs.Fills.{taken_live, taken_twice}
+use mathlib.Core.Path.{sym, ◌∙◌}
+use Rattle.numbers.proofs.Taken.{taken_split}
 use Rattle.updating.proofs.inserting.taken.Goals as goal
 
 pub returns-then-any_live : goal.returns-then-any_live
-returns-then-any_live c = taken_live c.args.numbers.now c.args.given.now c.any_live.ensures c.if-any_live.true
+returns-then-any_live c = rw (taken_split c.args.numbers.now c.args.given.now, sym c.any_live.ensures ∙ c.if-any_live.true) c.if-any_live.true
 
-pub repeated-requires : goal.repeated-requires
-repeated-requires c = c.requires.1
-
-pub returns : goal.returns
-returns c = taken_twice c.args.numbers.now c.args.given.now c.any_live.ensures c.if-any_live.false c.repeated.ensures
+pub returns-else-any_live : goal.returns-else-any_live
+returns-else-any_live c = rw (taken_split c.args.numbers.now c.args.given.now, sym c.any_live.ensures ∙ c.if-any_live.false) c.repeated.ensures

@@ -1,5 +1,6 @@
-use Rattle.updating.proofs.Named.{few_names}
+use Rattle.slots.specs.Sizes.{limits}
 use Rattle.updating.proofs.names.by_numbers.Goals as goal
 
-pub returns : goal.returns
-returns c = rw c.in-Numbers.is (few_names c.args.names c.wide.ensures)
+pub returns-in-Numbers : goal.returns-in-Numbers
+unfolding limits
+returns-in-Numbers c = rw c.in-Numbers.is

@@ -1,8 +1,7 @@
-use Rattle.words.proofs.Held.{words_off, words_on}
+use mathlib.Core.Path.{◌∙◌, ap}
+use Rattle.std.specs.Int.{from_bool}
+use Rattle.words.proofs.Held.{words_told}
 use Rattle.words.proofs.index_words.words_from.Goals as goal
 
-pub returns-in-Off : goal.returns-in-Off
-returns-in-Off c = words_off c.args.index c.in-Off.is
-
-pub returns-in-On : goal.returns-in-On
-returns-in-On c = words_on c.args.index c.in-On.is
+pub returns : goal.returns
+returns c = words_told c.args.index (c.from-on.ensures ∙ ap from_bool c.is_some.ensures) c.unwrap_or-s.ensures
