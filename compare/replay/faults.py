@@ -120,7 +120,7 @@ for of in (
 def as_expected(crates):
     folder = os.path.join(crates, "replay")
     with open(os.path.join(folder, "stdin")) as lines:
-        run = subprocess.run(["rt", "try"], cwd=folder, stdin=lines, capture_output=True, text=True)
+        run = subprocess.run(["rt", "try", "--seconds", "300", "--steps", "1000"], cwd=folder, stdin=lines, capture_output=True, text=True)
     if run.returncode and "run=fault" not in run.stderr:  # a fault of the program, such as a difference below 0, is seen: its output is cut short
         sys.exit("replay is not compiled, or does not end")
     with open(os.path.join(folder, "stdout")) as expected:
