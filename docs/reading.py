@@ -1,5 +1,6 @@
 #!/usr/bin/env python3
-"""Prints README's two reading tables, or with --check fails where README has other ones, or docs/CLAIMS.md another number of lines of the first.
+"""Prints README's two reading tables. With --write puts them into README, and the number of lines of the first into docs/CLAIMS.md; with --check fails
+where these have other ones.
 
 The first has the definitions that the theorems for the three demands, on figure numbers and on pruning rest on. It begins with their statements and the `ensures` lines of the functions for
 C, and follows each name through the imports; so it is closed, and a definition reached in a file of no row fails. It does not follow a function's contract
@@ -36,7 +37,7 @@ ROWS = [
     ("functions on lists", "lists/specs/Lists"),
 ]
 BESIDES = [
-    ("contracts of the calls in Rattle and for C", "words/specs index/specs reading/specs updating/specs guarding/specs calls/specs/Runs deletion/specs/Batch vectors/specs/Vector"),
+    ("contracts of the calls in Rattle and for C", "words/specs index/specs reading/specs updating/specs guarding/specs admission/specs/Lent guard/specs/Lent calls/specs/Runs deletion/specs/Batch vectors/specs/Vector"),
     ("further claims", "calls/specs/History calls/specs/Count calls/specs/Reached"),
     ("document 01's examples, and every row of every call, as a table", "calls/specs/Table"),
 ]
@@ -201,13 +202,22 @@ def main():
     out.append("| the words of inner contracts, and laws | all other files of `specs` | %d |" % sum(rest.values()))
 
     text = "\n".join(out)
-    if sys.argv[1:] == ["--check"]:
-        for file, part in ("README.md", text), ("docs/CLAIMS.md", "**{:,} lines**".format(total)):
-            with open(os.path.join(TOP, file)) as document:
-                if part not in document.read():
-                    sys.exit("%s has other numbers" % file)
+    if not sys.argv[1:]:
+        print(text)
         return
-    print(text)
+    places = [
+        ("README.md", r"\| what must be believed \|.*?\n\n\| what may be read besides \|(?:[^\n]|\n\|)*", text),
+        ("docs/CLAIMS.md", r"\*\*[\d,]+ lines\*\*", "**{:,} lines**".format(total)),
+    ]
+    for file, pattern, part in places:
+        path = os.path.join(TOP, file)
+        with open(path) as document:
+            now = document.read()
+        if sys.argv[1:] == ["--write"]:
+            with open(path, "w") as document:
+                document.write(re.sub(pattern, lambda found: part, now, flags=re.S))
+        elif part not in now:
+            sys.exit("%s has other numbers" % file)
 
 
 main()

@@ -1,36 +1,46 @@
 -- The residual entry: the entry, or the first slot that stays. Assumes nothing.
 use Prim.Native.Nat.{ℕ, ◌+◌, ◌-◌, ◌≤◌, ◌<◌}
 use mathlib.Core.Bool.{Bool, true, false, not, cond}
-use mathlib.Core.Path.{◌≡◌, refl, ap, sym, ◌∙◌}
-use mathlib.Core.List.{List, [], ◌∷◌}
-use mathlib.Core.Option.{Option, none, some}
+use mathlib.Core.Path.{◌≡◌, ap, sym, ◌∙◌}
+use mathlib.Core.List.{List, []}
+use mathlib.Core.Option.{some}
+use mathlib.Core.Option as Math
+use Rattle.std.specs.Prelude.{Option, Some, None}
+use Rattle.std.proofs.lemmas.Option.{none-some, same_Some}
 use native.Mathlib.Omega.{arith}
 use borrow.Author.Tests.{not-true}
 use lib.ListN.{length}
-use Rattle.lists.specs.Lists.{All, filter, elem, range}
-use Rattle.lists.proofs.All.{filter_test}
+use Rattle.lists.specs.Lists.{filter, elem, range}
 use Rattle.lists.proofs.Bools.{and_both}
 use Rattle.lists.proofs.Ranges.{range_cons, range_none}
-use Rattle.slots.specs.View.{View, live_slots, emptied}
-use Rattle.slots.specs.Store.{Store, blank, or_blank, is_valid, store_view}
+use Rattle.slots.specs.View.{live_slots, emptied}
+use Rattle.slots.specs.Store.{Store, is_valid, store_view}
 use Rattle.slots.proofs.Places.{live_inside}
 use Rattle.landmarks.specs.Inner.Samples.{remains}
-use Rattle.guard.specs.Guard.{first, stays, residual_entry}
+use Rattle.guard.specs.Guard.{first, residual_entry}
+use Rattle.guard.specs.Lent.{entry_of}
 use Rattle.guard.proofs.Enabling.{enters}
 use Rattle.admission.specs.Inner.Pools.{Entered}
 use Rattle.admission.proofs.Seen.{stays_same}
 
 -- `residual_entry` over a test
-entry_by : (ℕ → Bool) → ℕ → ℕ → Option ℕ
+entry_by : (ℕ → Bool) → ℕ → ℕ → Math.Option ℕ
 entry_by p entry n = cond (p entry) (some entry) (first (filter p (range 0 n)))
 
-entry_same : (b : Store) (ids : List ℕ) → or_blank (entry_by (remains b.arrays.marks ids) b.entry b.capacity) ≡ or_blank (residual_entry (store_view b) (emptied (store_view b) ids))
+entry_same : (b : Store) (ids : List ℕ) → entry_by (remains b.arrays.marks ids) b.entry b.capacity ≡ residual_entry (store_view b) (emptied (store_view b) ids)
 unfolding entry_by residual_entry store_view
-entry_same b ids = ap (λ (p : ℕ → Bool). or_blank (cond (p b.entry) (some b.entry) (first (filter p (range 0 b.capacity))))) (stays_same b ids)
+entry_same b ids = ap (λ (p : ℕ → Bool). cond (p b.entry) (some b.entry) (first (filter p (range 0 b.capacity)))) (stays_same b ids)
 
-entered : (marks ids : List ℕ) (entry : ℕ) {r : ℕ} → r ≡ or_blank (entry_by (remains marks ids) entry (length marks)) → ((r ≡ blank → ⊥) → remains marks ids r ≡ true)
+entered : (marks ids : List ℕ) (entry : ℕ) {r : Option ℕ} → r ≡ entry_of (entry_by (remains marks ids) entry (length marks)) → ((s : ℕ) → r ≡ Some s → remains marks ids s ≡ true)
     → Entered marks ids entry r
-entered marks ids entry {r} e f = record { does = λ b x y z. e ∙ ap (λ (n : ℕ). or_blank (entry_by (remains marks ids) entry n)) (sym y) ∙ rw (← x, ← z) (entry_same b ids); found = f }
+entered marks ids entry {r} e f =
+    record { does = λ b x y z. e ∙ ap (λ (n : ℕ). entry_of (entry_by (remains marks ids) entry n)) (sym y) ∙ rw (← x, ← z) (ap entry_of (entry_same b ids)); found = f }
+
+found_stays : (p : ℕ → Bool) {s : ℕ} → p s ≡ true → (t : ℕ) → Some s ≡ Some t → p t ≡ true
+found_stays p {s} k t e = rw (← same_Some s t e) k
+
+none_found : (p : ℕ → Bool) (t : ℕ) → ◌≡◌ {A = Option ℕ} None (Some t) → p t ≡ true
+none_found p t e = absurd (none-some t e)
 
 -- ---- no slot before s stays
 pub record Passing (p : ℕ → Bool) (n s : ℕ) : Type 0 where
@@ -46,23 +56,23 @@ passing_more {p} {n} {s} f h v e =
 
 -- ---- what is found
 module _ (marks ids : List ℕ) (entry : ℕ) {u : Bool} (v : u ≡ remains marks ids entry) where
-  pub entry_kept : u ≡ true → Entered marks ids entry entry
+  pub entry_kept : u ≡ true → Entered marks ids entry (Some entry)
   unfolding entry_by
-  entry_kept e = let g : remains marks ids entry ≡ true = sym v ∙ e in entered marks ids entry (rw g) (λ _. g)
+  entry_kept e = let g : remains marks ids entry ≡ true = sym v ∙ e in entered marks ids entry (rw g) (found_stays (remains marks ids) g)
 
   module _ (gone : u ≡ false) {s : ℕ} (f : Passing (remains marks ids) (length marks) s) where
     not_kept : remains marks ids entry ≡ false
     not_kept = sym v ∙ gone
 
-    pub passing_found : {t : Bool} → s < length marks → t ≡ remains marks ids s → t ≡ true → Entered marks ids entry s
+    pub passing_found : {t : Bool} → s < length marks → t ≡ remains marks ids s → t ≡ true → Entered marks ids entry (Some s)
     unfolding entry_by
     passing_found h x e =
         let k : remains marks ids s ≡ true = sym x ∙ e in
-        entered marks ids entry (rw (not_kept, ← f.goes, range_cons (length marks) s h, k)) (λ _. k)
+        entered marks ids entry (rw (not_kept, ← f.goes, range_cons (length marks) s h, k)) (found_stays (remains marks ids) k)
 
-    pub passing_done : length marks ≤ s → Entered marks ids entry 4294967295
+    pub passing_done : length marks ≤ s → Entered marks ids entry None
     unfolding entry_by
-    passing_done h = entered marks ids entry (rw (not_kept, ← f.goes, range_none (length marks) s h)) (λ n. absurd (n refl))
+    passing_done h = entered marks ids entry (rw (not_kept, ← f.goes, range_none (length marks) s h)) (none_found (remains marks ids))
 
 -- ---- a slot that stays
 module _ (marks out : List ℕ) (s : ℕ) (e : remains marks out s ≡ true) where
@@ -75,44 +85,16 @@ module _ (marks out : List ℕ) (s : ℕ) (e : remains marks out s ≡ true) whe
   pub remains_out : elem s out ≡ false
   remains_out = not-true (elem s out) (and_both (is_valid marks s) (not (elem s out)) e).1
 
--- ---- the residual entry of a view: none, or a slot that stays
-pub data Entry (p : ℕ → Bool) (o : Option ℕ) : Type 0 where
-  none_stays : o ≡ none → Entry p o
-  one_stays : (s : ℕ) → o ≡ some s → p s ≡ true → Entry p o
+-- ---- what enabling finds: a slot inside
+pub record Found (b : Store) (marks : List ℕ) (r : Option ℕ) : Type 0 where
+  pub slot : ℕ
+  pub is : r ≡ Some slot
+  pub does : residual_entry (store_view b) [] ≡ some slot
+  pub inside : slot < length marks
 
-pub entry_found : (w : View) (deleted : List ℕ) → Entry (stays w deleted) (residual_entry w deleted)
-unfolding residual_entry
-entry_found w deleted = go (stays w deleted w.entry) refl (filter (stays w deleted) (range 0 w.sizes.capacity)) (filter_test (stays w deleted) (range 0 w.sizes.capacity))
-  where
-    go : (b : Bool) → stays w deleted w.entry ≡ b → (l : List ℕ) → All (λ s. stays w deleted s ≡ true) l → Entry (stays w deleted) (cond b (some w.entry) (first l))
-    go true e l h = one_stays w.entry refl e
-    go false e [] h = none_stays refl
-    go false e (s ∷ l) h = one_stays s refl h.0
-
-module _ (b : Store) (out : List ℕ) (few : length b.arrays.marks ≤ 65536) {start : ℕ}
-    (e : start ≡ or_blank (residual_entry (store_view b) (emptied (store_view b) out))) where
-  pub entry_some : (start ≡ blank → ⊥) → residual_entry (store_view b) (emptied (store_view b) out) ≡ some start
-  entry_some h = go (residual_entry (store_view b) (emptied (store_view b) out)) e
-    where
-      go : (o : Option ℕ) → start ≡ or_blank o → o ≡ some start
-      go none g = absurd (h g)
-      go (some s) g = ap some (sym g)
-
-  pub entry_none : start ≡ blank → residual_entry (store_view b) (emptied (store_view b) out) ≡ none
-  entry_none h = go (entry_found (store_view b) (emptied (store_view b) out))
-    where
-      inside : (s : ℕ) → stays (store_view b) (emptied (store_view b) out) s ≡ true → s < length b.arrays.marks
-      inside s k = remains_inside b.arrays.marks out s (ap (λ (p : ℕ → Bool). p s) (stays_same b out) ∙ k)
-
-      go : Entry (stays (store_view b) (emptied (store_view b) out)) (residual_entry (store_view b) (emptied (store_view b) out)) → residual_entry (store_view b) (emptied (store_view b) out) ≡ none
-      go (none_stays g) = g
-      go (one_stays s g k) = absurd (let z : start ≡ s = e ∙ ap or_blank g in omega (arith, z, h, few, inside s k))
-
--- what enabling finds: a slot inside
-pub entered_live : (b : Store) {marks : List ℕ} {entry start : ℕ} → Entered marks [] entry start → b.arrays.marks ≡ marks → b.capacity ≡ length marks → b.entry ≡ entry
-    → length marks ≤ 65536 → entry < length marks → 0 < length (live_slots (store_view b)) → (residual_entry (store_view b) [] ≡ some start) × (start < length marks)
+pub entered_live : (b : Store) {marks : List ℕ} {entry : ℕ} {r : Option ℕ} → Entered marks [] entry r → b.arrays.marks ≡ marks → b.capacity ≡ length marks → b.entry ≡ entry
+    → entry < length marks → 0 < length (live_slots (store_view b)) → Found b marks r
 unfolding store_view emptied
-entered_live b {marks} {entry} {start} f x y z few inside live =
+entered_live b {marks} {entry} {r} f x y z inside live =
     let e = enters (store_view b) (omega (arith, y, z)) live in
-    let s : start ≡ e.slot = f.does b x y z ∙ ap or_blank e.is in
-    (rw s e.is, omega (arith, s, y, e.inside))
+    record { slot = e.slot; is = f.does b x y z ∙ ap entry_of e.is; does = e.is; inside = omega (arith, y, e.inside) }

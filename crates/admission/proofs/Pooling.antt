@@ -8,6 +8,7 @@ use native.Mathlib.Nat.{mul-le-mul, mul-suc}
 use native.Mathlib.Numerals.{add-one}
 use lib.ListN.{length, take, drop, get_or, set, length-append, length-set, drop_of_length-le}
 use lib.Seq.{drop-cons, take-nil}
+use Rattle.std.specs.Prelude.{fold, count_by}
 use Rattle.std.specs.Int.{from_bool}
 use Rattle.lists.specs.Lists.{filter, put_front}
 use Rattle.lists.proofs.Filtered.{count_cons}
@@ -17,8 +18,9 @@ use Rattle.vectors.specs.declared.Space as lent
 use Rattle.slots.specs.Scratch.{size_answer}
 use Rattle.slots.specs.View.{emptied}
 use Rattle.slots.specs.Store.{Store, store_view}
+use Rattle.landmarks.specs.declared.sample.Free.{Free}
 use Rattle.landmarks.specs.Inner.Samples.{remains}
-use Rattle.landmarks.specs.Inner.Choices.{landmarks_by, Selectable, Appended}
+use Rattle.landmarks.specs.Inner.Choices.{landmarks_by, Selectable, Fronted}
 use Rattle.landmarks.proofs.Selecting.{landmarks_few}
 use Rattle.guard.specs.Guard.{config, landmark_pool}
 use Rattle.admission.specs.Inner.Pools.{guard_words, Poolable, Pooled}
@@ -34,16 +36,17 @@ module _ {dim : ℕ} {vectors marks : List ℕ} {entry count multiplier sample :
   pub wanted_most : count * multiplier ≤ 1024
   wanted_most = mul-le-mul f.count_most f.multiplier_most
 
-  pub pool_selectable : {space : lent.Space} → space.dim ≡ dim → space.vectors.now ≡ vectors → {wanted : ℕ} → wanted ≡ count * multiplier → Selectable space marks entry wanted sample pool 0 w
-  pool_selectable d v e =
+  pub pool_selectable : {space : lent.Space} → space.dim ≡ dim → space.vectors.now ≡ vectors → {o : Free} → o.marks.now ≡ marks → o.entry ≡ entry → o.kept.now ≡ [] → {wanted : ℕ}
+      → wanted ≡ count * multiplier → Selectable space o wanted sample pool w
+  pool_selectable d v m s k e =
       record {
-        bytes = rw (d, v) f.bytes;
-        few = f.few;
-        references = record { within = omega arith; inside = tt; entry_inside = f.entry_inside };
+        bytes = rw (d, v, m) f.bytes;
+        few = rw m f.few;
+        references = rw (m, s, k) (f.entry_inside, tt);
         wanted_most = omega (arith, e, wanted_most);
         sample_some = f.sample_some;
         list_long = omega (arith, e, wanted_most, f.pool_long);
-        room = f.room;
+        room = rw m f.room;
       }
 
   some_wanted : max count (count * multiplier) ≡ count * multiplier
@@ -61,10 +64,10 @@ module _ {dim : ℕ} {vectors marks : List ℕ} {entry count multiplier sample :
       (ap (λ (k : ℕ → List ℕ → List ℕ). k (count * multiplier) []) (selects_same b (u ∙ ap length (sym z)) [] entry sample))
 
   pub pooled : {wanted : ℕ} {pool' : List ℕ} {r : ℕ} → wanted ≡ count * multiplier
-      → Appended (landmarks_by (slot_distance (space dim vectors)) (remains marks []) (length marks) entry wanted sample []) 0 pool pool' r
+      → Fronted (landmarks_by (slot_distance (space dim vectors)) (remains marks []) (length marks) entry wanted sample []) pool pool' r
       → Pooled dim vectors marks entry count multiplier sample pool pool' r
   pooled {wanted} {pool'} {r} e g =
-      let k : Appended (landmarks_by (slot_distance (space dim vectors)) (remains marks []) (length marks) entry (count * multiplier) sample []) 0 pool pool' r = rw e at g in
+      let k : Fronted (landmarks_by (slot_distance (space dim vectors)) (remains marks []) (length marks) entry (count * multiplier) sample []) pool pool' r = rw e at g in
       record {
         does = λ b beam x y z u. rw (← pool_is b beam x y z u) k;
         few = omega (arith, k.count, landmarks_few (slot_distance (space dim vectors)) (remains marks []) (length marks) entry (count * multiplier) sample [], wanted_most);
@@ -98,6 +101,14 @@ module _ {p : ℕ → Bool} {l : List ℕ} {c i : ℕ} (f : Counting p l c i) wh
 
   pub counting_done : length l ≤ i → c ≡ length (filter p l)
   counting_done h = omega (arith, rw (drop_of_length-le l h) at f.goes)
+
+-- the library's count of the elements with p, which begins at n
+counted : (p : ℕ → Bool) (n : ℕ) (l : List ℕ) → fold (λ a x. a + cond (p x) 1 0) n l ≡ n + length (filter p l)
+counted p n [] = omega arith
+counted p n (x ∷ l) = omega (arith, counted p (n + cond (p x) 1 0) l, count_cons p x l)
+
+pub count_filtered : (p : ℕ → Bool) (l : List ℕ) → count_by p l ≡ length (filter p l)
+count_filtered p l = omega (arith, counted p 0 l)
 
 -- ---- of a pool those with p, `count` at most: i are looked at, m of them kept
 pub record Keeping (p : ℕ → Bool) (pool : List ℕ) (count : ℕ) (l₀ l : List ℕ) (m i : ℕ) : Type 0 where
@@ -133,11 +144,11 @@ module _ {p : ℕ → Bool} {pool : List ℕ} {count : ℕ} {l₀ l : List ℕ} 
   pub keeping_skip : {t : Bool} → i < length pool → t ≡ p (get_or pool i 0) → t ≡ false → Keeping p pool count l₀ l m (i + 1)
   keeping_skip k v g = record { most = f.most; taken = f.taken; many = f.many; list = f.list; goes = rw (next_one pool i k, sym v ∙ g) at f.goes; size = f.size }
 
-  done : f.taken ≡ take count (filter p pool) → Appended (take count (filter p pool)) 0 l₀ l m
+  done : f.taken ≡ take count (filter p pool) → Fronted (take count (filter p pool)) l₀ l m
   done e = rw (← e) (record { list = f.list; count = f.many })
 
-  pub keeping_full : m ≡ count → Appended (take count (filter p pool)) 0 l₀ l m
+  pub keeping_full : m ≡ count → Fronted (take count (filter p pool)) l₀ l m
   keeping_full e = let z : count - m ≡ 0 = omega arith in done (rw (z, append-nil) at f.goes)
 
-  pub keeping_done : length pool ≤ i → Appended (take count (filter p pool)) 0 l₀ l m
+  pub keeping_done : length pool ≤ i → Fronted (take count (filter p pool)) l₀ l m
   keeping_done h = done (rw (take-nil (count - m), append-nil) at (rw (drop_of_length-le pool h) at f.goes))

@@ -2,120 +2,134 @@
 use Prim.Native.Nat.{ℕ, ◌+◌, ◌-◌, ◌≤◌, ◌<◌}
 use mathlib.Core.Bool.{Bool, true, false, ◌&&◌}
 use mathlib.Core.Path.{◌≡◌, refl, ap, sym, ◌∙◌, subst}
-use mathlib.Core.List.{List, [], ◌∷◌, ◌++◌}
-use mathlib.Core.Option.{some}
+use mathlib.Core.List.{List, [], ◌∷◌, ◌++◌, append_assoc}
+use mathlib.Core.Option.{none, some}
+use mathlib.Core.Option as Math
+use Rattle.std.specs.Prelude.{Option, Some, None}
+use Rattle.std.proofs.lemmas.Option.{none-some, same_Some}
 use native.Mathlib.Omega.{arith}
 use lib.Dec.{eqb, ltb}
-use lib.ListN.{length, take, drop, length-append, length-take}
-use lib.Seq.{take-append_seam, drop-append-add, drop-drop}
+use lib.ListN.{length, take, drop, length-append, length-take, length-drop}
+use lib.Seq.{take-append_seam, drop-append_seam, drop-drop}
 use Rattle.lists.specs.Lists.{All, filter, sorted_set, put_front}
 use Rattle.lists.proofs.All.{all_map, all_append, all_take, filter_test}
+use Rattle.vectors.specs.Vector.{Bytes}
 use Rattle.vectors.specs.Space.{slot_distance, space}
 use Rattle.vectors.specs.declared.Space as lent
 use Rattle.slots.specs.View.{View, emptied}
-use Rattle.slots.specs.Store.{Arrays, Store, blank, or_blank, is_valid, store_view}
-use Rattle.landmarks.specs.Inner.Samples.{remains, References}
-use Rattle.landmarks.specs.Inner.Choices.{landmarks_by, Selectable, Appended}
+use Rattle.slots.specs.Store.{Arrays, Store, is_valid, store_view}
+use Rattle.landmarks.specs.declared.sample.Free.{Free}
+use Rattle.landmarks.specs.Inner.Samples.{remains}
+use Rattle.landmarks.specs.Inner.Choices.{landmarks_by, Selectable, Fronted}
 use Rattle.landmarks.proofs.Selecting.{landmarks_few, landmarks_inside}
 use Rattle.guard.specs.Guard.{Config, config, Report, no_landmarks, stays, residual_entry, select_landmarks, reaches, probe, assess_slots, assess_delete_admission}
+use Rattle.guard.specs.Lent.{entry_of}
 use Rattle.admission.specs.Inner.Pools.{Entered}
 use Rattle.admission.specs.Inner.Trials.{meets, Walks, Tried}
-use Rattle.admission.specs.Inner.Reports.{probe_by, Reports, Assessable, Assessed}
+use Rattle.admission.specs.Inner.Reports.{kept_by, others_by, probe_by, Reports, Assessable, Checkable, Checks, Assessed}
 use Rattle.admission.specs.declared.report.Report as Value
 use Rattle.admission.proofs.Seen.{stays_same, selects_same, reaches_same, reaches_all}
-use Rattle.admission.proofs.Entering.{remains_live, remains_inside, entry_some, entry_none}
+use Rattle.admission.proofs.Entering.{remains_live, remains_inside}
 
 -- ---- the landmarks that are checked
-appended_front : {xs l l' : List ℕ} {r : ℕ} → Appended xs 0 l l' r → take r l' ≡ xs
-appended_front {xs} {l} f = rw (f.count, f.list) (take-append_seam xs (drop (length xs) l))
+front_of : {xs l l' : List ℕ} {r : ℕ} → Fronted xs l l' r → take r l' ≡ xs
+front_of {xs} {l} f = rw (f.count, f.list) (take-append_seam xs (drop (length xs) l))
+
+rest_of : {xs l l' : List ℕ} {r : ℕ} → Fronted xs l l' r → drop r l' ≡ drop (length xs) l
+rest_of {xs} {l} f = rw (f.count, f.list) (drop-append_seam xs (drop (length xs) l))
 
 -- one list behind the other
-front_both : (xs ys l : List ℕ) → put_front (take (length xs) (put_front xs l) ++ ys) (put_front xs l) ≡ put_front (xs ++ ys) l
-front_both xs ys l =
-    let e : take (length xs) (put_front xs l) ≡ xs = take-append_seam xs (drop (length xs) l) in
-    rw (e, length-append xs ys, drop-append-add xs (drop (length xs) l) (length ys), drop-drop (length ys) (length xs) l)
+front_both : (xs ys l : List ℕ) → xs ++ put_front ys (drop (length xs) l) ≡ put_front (xs ++ ys) l
+front_both xs ys l = rw (length-append xs ys, append_assoc, drop-drop (length ys) (length xs) l)
 
 module _ (d : ℕ → ℕ → ℕ) (marks ids : List ℕ) (start sample count : ℕ) (pool : List ℕ) where
   abbrev selects : ℕ → List ℕ → List ℕ
   selects wanted existing = landmarks_by d (remains marks ids) (length marks) start wanted sample existing
 
   abbrev kept : List ℕ
-  kept = take count (filter (remains marks ids) pool)
+  kept = kept_by (remains marks ids) count pool
 
-  abbrev extra : List ℕ
-  extra = selects (count - length kept) kept
+  abbrev others : List ℕ
+  others = others_by (remains marks ids) selects count pool
 
   kept_inside : All (λ s. s < length marks) kept
   kept_inside =
       all_take (λ s. s < length marks) count (filter (remains marks ids) pool)
       (all_map (λ s. remains marks ids s ≡ true) (λ s. s < length marks) (remains_inside marks ids) (filter (remains marks ids) pool) (filter_test (remains marks ids) pool))
 
-  module _ {l l₁ : List ℕ} {k : ℕ} (f : Appended kept 0 l l₁ k) where
+  module _ {l l₁ : List ℕ} {k : ℕ} (f : Fronted kept l l₁ k) where
     pub kept_most : k ≤ count
     kept_most = omega (arith, f.count, length-take count (filter (remains marks ids) pool))
 
-    pub kept_references : start < length marks → count ≤ length l → length l₁ ≡ length l → References (length marks) l₁ k start
-    kept_references h room e = record { within = omega (arith, kept_most); inside = rw (appended_front f) kept_inside; entry_inside = h }
-
-    -- what is known of the checked ones
-    pub record Gathered (l₂ : List ℕ) (m : ℕ) : Type 0 where
-      pub list : l₂ ≡ put_front (kept ++ extra) l
-      pub many : k + m ≡ length (kept ++ extra)
-      pub added : m ≡ length extra
-      pub front : take (k + m) l₂ ≡ kept ++ extra
-      pub few : k + m ≤ count
-      pub inside : All (λ s. s < length marks) (take (k + m) l₂)
-
-    pub gather : {l₂ : List ℕ} {m : ℕ} → Appended (landmarks_by d (remains marks ids) (length marks) start (count - k) sample (take k l₁)) k l₁ l₂ m → Gathered l₂ m
-    gather {l₂} {m} g =
-        let g' : Appended extra (length kept) l₁ l₂ m = rw (appended_front f, f.count) at g in
-        let e : l₂ ≡ put_front (kept ++ extra) l = g'.list ∙ rw f.list (front_both kept extra l) in
-        let n : k + m ≡ length (kept ++ extra) = omega (arith, f.count, g'.count, length-append kept extra) in
-        let t : take (k + m) l₂ ≡ kept ++ extra = rw (n, e) (take-append_seam (kept ++ extra) (drop (length (kept ++ extra)) l)) in
+    pub check_selectable : {w : List ℕ} → Checkable (length marks) start count sample l w → {space : lent.Space} → Bytes space.dim (length marks) space.vectors.now → length marks ≤ 65536
+        → length l₁ ≡ length l → {o : Free} → o.marks.now ≡ marks → o.entry ≡ start → o.kept.now ≡ take k l₁ → {wanted : ℕ} → wanted ≡ count - k → {rest : List ℕ} → rest ≡ drop k l₁
+        → Selectable space o wanted sample rest w
+    check_selectable h y few e {o = o} m s i n j =
         record {
-          list = e;
-          many = n;
+          bytes = rw m y;
+          few = rw m few;
+          references = subst (λ (l : List ℕ). All (λ t. t < length l) (o.entry ∷ o.kept.now)) (sym m) (rw (s, i, front_of f) (h.entry_inside, kept_inside));
+          wanted_most = omega (arith, n, h.count_most);
+          sample_some = h.sample_some;
+          list_long = omega (arith, ap length j, length-drop k l₁, n, e, h.checked_long, kept_most);
+          room = rw m h.room;
+        }
+
+    pub checks : {l₂ rest' : List ℕ} {m n : ℕ} → Fronted (landmarks_by d (remains marks ids) (length marks) start (count - k) sample (take k l₁)) (drop k l₁) rest' m → l₂ ≡ take k l₁ ++ rest' → n ≡ k + m
+        → Checks (length marks) (remains marks ids) selects count pool l l₂ n m
+    checks {l₂} {rest'} {m} {n} g e x =
+        let g' : Fronted others (drop (length kept) l) rest' m = rw (front_of f, rest_of f, f.count) at g in
+        record {
+          list = e ∙ rw (front_of f, g'.list) (front_both kept others l);
+          many = omega (arith, x, f.count, g'.count, length-append kept others);
           added = g'.count;
-          front = t;
-          few = omega (arith, kept_most, f.count, g'.count, landmarks_few d (remains marks ids) (length marks) start (count - length kept) sample kept);
-          inside = rw t (all_append (λ s. s < length marks) kept extra kept_inside (landmarks_inside d (remains marks ids) (length marks) start (count - length kept) sample kept));
+          few = omega (arith, x, kept_most, f.count, g'.count, landmarks_few d (remains marks ids) (length marks) start (count - length kept) sample kept);
+          inside = all_append (λ s. s < length marks) kept others kept_inside (landmarks_inside d (remains marks ids) (length marks) start (count - length kept) sample kept);
         }
 
-    -- the numbers of a report
-    pub probed : {before after : ℕ → Bool} {l₂ lost lost' : List ℕ} {m b r o requested n more : ℕ} {admitted : Bool} → Gathered l₂ m
-        → Tried before after (take (k + m) l₂) lost lost' b r o → admitted ≡ (ltb 0 b && eqb o 0) → n ≡ k + m → more ≡ m
-        → Reports (probe_by (remains marks ids) before after selects count pool requested start) l l₂ lost lost'
-        (record { admitted = admitted; requested = requested; entry = start; checked = n; baseline = b; residual = r; lost = o; supplemental = more })
-    unfolding probe_by
-    probed g h e x y =
-        let t = rw g.front at h in
-        record {
-          admits = e ∙ rw (t.baseline_count, t.lost_count);
-          requests = refl;
-          enters = refl;
-          checks = x ∙ g.many;
-          meets_before = t.baseline_count;
-          meets_after = t.residual_count;
-          loses = t.lost_count;
-          adds = y ∙ g.added;
-          checked_list = g.list;
-          lost_list = t.list;
-        }
+module _ {slots : ℕ} {stays : ℕ → Bool} {select : ℕ → List ℕ → List ℕ} {count : ℕ} {pool l l' : List ℕ} {n more : ℕ} (g : Checks slots stays select count pool l l' n more) where
+  abbrev chosen : List ℕ
+  chosen = kept_by stays count pool ++ others_by stays select count pool
+
+  pub checked_front : take n l' ≡ chosen
+  checked_front = rw (g.many, g.list) (take-append_seam chosen (drop (length chosen) l))
+
+  pub checked_inside : All (λ s. s < slots) (take n l')
+  checked_inside = rw checked_front g.inside
+
+  -- the numbers of a report
+  pub probed : {before after : ℕ → Bool} {lost lost' : List ℕ} {b r o start n' more' : ℕ} {admitted : Bool} → Tried before after (take n l') lost lost' b r o
+      → admitted ≡ (ltb 0 b && eqb o 0) → n' ≡ n → more' ≡ more
+      → Reports (probe_by stays before after select count pool 0 start) l l' lost lost'
+      (record { admitted = admitted; requested = 0; entry = Some start; checked = n'; baseline = b; residual = r; lost = o; supplemental = more' })
+  unfolding probe_by
+  probed h e x y =
+      let t = rw checked_front at h in
+      record {
+        admits = e ∙ rw (t.baseline_count, t.lost_count);
+        requests = refl;
+        enters = refl;
+        checks = x ∙ g.many;
+        meets_before = t.baseline_count;
+        meets_after = t.residual_count;
+        loses = t.lost_count;
+        adds = y ∙ g.added;
+        checked_list = g.list;
+        lost_list = t.list;
+      }
+
+-- how many slots are named stands in a report alone
+pub names : (stays before after : ℕ → Bool) (select : ℕ → List ℕ → List ℕ) (count start : ℕ) (pool : List ℕ) {l l' lost lost' : List ℕ} (requested : ℕ) {v v' : Value.Report}
+    → Reports (probe_by stays before after select count pool 0 start) l l' lost lost' v → v' ≡ record { admitted = v.admitted; requested = requested; entry = v.entry; checked = v.checked; baseline = v.baseline; residual = v.residual; lost = v.lost; supplemental = v.supplemental }
+    → Reports (probe_by stays before after select count pool requested start) l l' lost lost' v'
+unfolding probe_by
+names stays before after select count start pool requested f e =
+    rw e (record { admits = f.admits; requests = refl; enters = f.enters; checks = f.checks; meets_before = f.meets_before; meets_after = f.meets_after; loses = f.loses; adds = f.adds; checked_list = f.checked_list; lost_list = f.lost_list })
 
 -- ---- what is asked
 module _ {a : Arrays} {count sample beam : ℕ} {pool : List ℕ} {pooled : ℕ} {ids checked lost w : List ℕ} (f : Assessable a count sample beam pool pooled ids checked lost w) where
-  pub assess_selectable : {start wanted kept : ℕ} {list : List ℕ} → References (length a.marks) list kept start → wanted ≤ count - kept → kept ≤ count
-      → length list ≡ length checked → {space : lent.Space} → space.dim ≡ a.dim → space.vectors.now ≡ a.vectors → Selectable space a.marks start wanted sample list kept w
-  assess_selectable g h k e d v =
-      record {
-        bytes = rw (d, v) f.bytes;
-        few = f.rows.few;
-        references = g;
-        wanted_most = omega (arith, f.count_most);
-        sample_some = f.sample_some;
-        list_long = omega (arith, f.checked_long);
-        room = f.room;
-      }
+  pub assess_checkable : {start : ℕ} → start < length a.marks → Checkable (length a.marks) start count sample checked w
+  assess_checkable h = record { entry_inside = h; count_most = f.count_most; sample_some = f.sample_some; checked_long = f.checked_long; room = f.room }
 
   pub assess_walks : {start : ℕ} {w' : List ℕ} → start < length a.marks → length w' ≡ length w → Walks a start beam w'
   assess_walks h e = record { entry_inside = h; beam_most = f.beam_most; room = omega (arith, f.room, e) }
@@ -152,10 +166,19 @@ probe_same b whole count multiplier sample beam start pool out {requested} h q =
     ∙ ap (λ (p : ℕ → Bool). probe_by (remains b.arrays.marks out) (meets b.arrays [] beam start) p selects count pool requested start) (sym (reaches_same b whole beam start out h))
     ∙ ap (λ (k : ℕ → List ℕ → List ℕ). probe_by (remains b.arrays.marks out) (meets b.arrays [] beam start) (meets b.arrays out beam start) k count pool requested start) (sym (selects_same b whole out start sample))
 
+-- an entry of the code is that of the view
+entry_none : (o : Math.Option ℕ) {r : Option ℕ} → r ≡ entry_of o → r ≡ None → o ≡ none
+entry_none none e h = refl
+entry_none (some s) e h = absurd (none-some s (sym h ∙ e))
+
+entry_some : (o : Math.Option ℕ) {r : Option ℕ} (s : ℕ) → r ≡ entry_of o → r ≡ Some s → o ≡ some s
+entry_some none s e h = absurd (none-some s (sym e ∙ h))
+entry_some (some t) s e h = ap some (same_Some t s (sym e ∙ h))
+
 -- a report that looks at no landmark, by value
 abbrev pub Blank : Bool → ℕ → Value.Report → Type 0
 Blank admitted requested r =
-    (r.admitted ≡ admitted) × (r.requested ≡ requested) × (r.entry ≡ blank) × (r.checked ≡ 0) × (r.baseline ≡ 0) × (r.residual ≡ 0) × (r.lost ≡ 0) × (r.supplemental ≡ 0)
+    (r.admitted ≡ admitted) × (r.requested ≡ requested) × (r.entry ≡ None) × (r.checked ≡ 0) × (r.baseline ≡ 0) × (r.residual ≡ 0) × (r.lost ≡ 0) × (r.supplemental ≡ 0)
 
 no_reports : (admitted : Bool) (requested : ℕ) (checked lost : List ℕ) {r : Value.Report} → Blank admitted requested r → Reports (no_landmarks admitted requested) checked checked lost lost r
 no_reports admitted requested checked lost h =
@@ -182,41 +205,38 @@ module _ (a : Arrays) (entry count sample beam : ℕ) (pool out : List ℕ) {req
   pub assessed_none : (checked lost : List ℕ) {r : Value.Report} → requested ≡ 0 → Blank true 0 r → Assessed a entry count sample beam pool out checked checked lost lost r
   assessed_none checked lost h k = record { does = λ b multiplier x y z. rw (none_said b multiplier x h) (no_reports true 0 checked lost k) }
 
-  module _ (some_one : requested ≡ 0 → ⊥) {start : ℕ} (few : length a.marks ≤ 65536) (e : Entered a.marks out entry start) where
+  module _ (some_one : requested ≡ 0 → ⊥) {found : Option ℕ} (e : Entered a.marks out entry found) where
     module _ (b : Store) (x : b.arrays ≡ a) (y : b.capacity ≡ length a.marks) (z : b.entry ≡ entry) where
-      few_here : length b.arrays.marks ≤ 65536
-      few_here = rw x few
-
-      entry_is : start ≡ or_blank (residual_entry (store_view b) (emptied (store_view b) out))
+      entry_is : found ≡ entry_of (residual_entry (store_view b) (emptied (store_view b) out))
       entry_is = e.does b (ap (λ (a : Arrays). a.marks) x) y z
 
       whole : b.capacity ≡ length b.arrays.marks
       whole = rw x y
 
-    pub assessed_gone : (checked lost : List ℕ) {r : Value.Report} → start ≡ blank → Blank false requested r → Assessed a entry count sample beam pool out checked checked lost lost r
+    pub assessed_gone : (checked lost : List ℕ) {r : Value.Report} → found ≡ None → Blank false requested r → Assessed a entry count sample beam pool out checked checked lost lost r
     unfolding probe
     assessed_gone checked lost h k =
         record {
           does = λ b multiplier x y z.
-              rw (some_said b multiplier x some_one, entry_none b out (few_here b x y z) (entry_is b x y z) h, ← named b x) (no_reports false requested checked lost k);
+              rw (some_said b multiplier x some_one, entry_none _ (entry_is b x y z) h, ← named b x) (no_reports false requested checked lost k);
         }
 
-    module _ (h : start ≡ blank → ⊥) where
+    module _ {start : ℕ} (h : found ≡ Some start) where
       -- what `probe` makes of the slices
-      abbrev found : Report
-      found = probe_by (remains a.marks out) (meets a [] beam start) (meets a out beam start) (λ wanted existing. landmarks_by (slot_distance (space a.dim a.vectors)) (remains a.marks out) (length a.marks) start wanted sample existing) count pool requested start
+      abbrev looks : Report
+      looks = probe_by (remains a.marks out) (meets a [] beam start) (meets a out beam start) (λ wanted existing. landmarks_by (slot_distance (space a.dim a.vectors)) (remains a.marks out) (length a.marks) start wanted sample existing) count pool requested start
 
       pub start_stays : remains a.marks out start ≡ true
-      start_stays = e.found h
+      start_stays = e.found start h
 
-      probe_said : (b : Store) (multiplier : ℕ) → b.arrays ≡ a → b.capacity ≡ length a.marks → b.entry ≡ entry → Says b multiplier found
+      probe_said : (b : Store) (multiplier : ℕ) → b.arrays ≡ a → b.capacity ≡ length a.marks → b.entry ≡ entry → Says b multiplier looks
       probe_said b multiplier x y z =
           let s : remains b.arrays.marks out start ≡ true = rw x start_stays in
           some_said b multiplier x some_one
-          ∙ ap (probe (store_view b) (config count multiplier sample beam) pool (emptied (store_view b) out)) (entry_some b out (few_here b x y z) (entry_is b x y z) h)
+          ∙ ap (probe (store_view b) (config count multiplier sample beam) pool (emptied (store_view b) out)) (entry_some _ start (entry_is b x y z) h)
           ∙ rw (← x) (probe_same b (whole b x y z) count multiplier sample beam start pool out s (named b x))
 
-      pub assessed_some : {checked checked' lost lost' : List ℕ} {r : Value.Report} → Reports found checked checked' lost lost' r
+      pub assessed_some : {checked checked' lost lost' : List ℕ} {r : Value.Report} → Reports looks checked checked' lost lost' r
           → Assessed a entry count sample beam pool out checked checked' lost lost' r
       assessed_some {checked} {checked'} {lost} {lost'} {r} f =
           record { does = λ b multiplier x y z. subst (λ (report : Report). Reports report checked checked' lost lost' r) (sym (probe_said b multiplier x y z)) f }

@@ -14,7 +14,7 @@ use Rattle.candidates.specs.Candidates.{ids}
 use Rattle.candidates.specs.Inner.Words.{cands}
 use Rattle.slots.specs.Store.{Arrays}
 use Rattle.walk.specs.Inner.Scratch.{near_but, Ready, Found}
-use Rattle.admission.specs.Inner.Trials.{meets, lost_of, Walks, Noted, Tried}
+use Rattle.admission.specs.Inner.Trials.{meets, lost_of, Walks, Tried}
 use Rattle.admission.proofs.Pooling.{Counting, counting_done, next_one}
 
 -- ---- one trial walk
@@ -64,26 +64,30 @@ pub losing_none : (before after : ℕ → Bool) (l : List ℕ) (lost : List ℕ)
 losing_none before after l lost = record { few = omega arith; taken = []; many = refl; list = refl; goes = refl; size = refl }
 
 module _ {before after : ℕ → Bool} {l : List ℕ} {lost₀ lost : List ℕ} {k i : ℕ} (f : Losing before after l lost₀ lost k i) where
-  pub losing_next : {x y : Bool} {lost' : List ℕ} {r : ℕ} → length l ≤ length lost₀ → i < length l → x ≡ before (get_or l i 0) → y ≡ after (get_or l i 0)
-      → Noted (x && not y) k (get_or l i 0) lost lost' r → Losing before after l lost₀ lost' r (i + 1)
-  losing_next {x} {y} {lost'} {r} room j u v g =
-      go (x && not y) g.list g.count (rw (next_one l i j, lost_cons before after (get_or l i 0) (drop (i + 1) l), ← u, ← v) at f.goes)
-    where
-      go : (b : Bool) → lost' ≡ cond b (set lost k (get_or l i 0)) lost → r ≡ k + cond b 1 0
-          → f.taken ++ cond b (get_or l i 0 ∷ lost_of before after (drop (i + 1) l)) (lost_of before after (drop (i + 1) l)) ≡ lost_of before after l
-          → Losing before after l lost₀ lost' r (i + 1)
-      go true a c o =
-          let q : length f.taken < length lost₀ = omega (arith, f.many, f.few) in
-          record {
-            few = omega (arith, f.few);
-            taken = f.taken ++ (get_or l i 0 ∷ []);
-            many = omega (arith, f.many, length-append f.taken (get_or l i 0 ∷ []));
-            list = a ∙ rw (f.list, f.many) (front_snoc f.taken (get_or l i 0) lost₀ q);
-            goes = rw append_assoc o;
-            size = ap length a ∙ length-set lost k (get_or l i 0) ∙ f.size;
-          }
-      go false a c o =
-          record { few = omega (arith, f.few); taken = f.taken; many = omega (arith, f.many); list = a ∙ f.list; goes = o; size = ap length a ∙ f.size }
+  goes_on : i < length l → f.taken ++ cond (before (get_or l i 0) && not (after (get_or l i 0))) (get_or l i 0 ∷ lost_of before after (drop (i + 1) l)) (lost_of before after (drop (i + 1) l)) ≡ lost_of before after l
+  goes_on j = rw (next_one l i j, lost_cons before after (get_or l i 0) (drop (i + 1) l)) at f.goes
+
+  pub losing_take : length l ≤ length lost₀ → i < length l → {x y : Bool} → x ≡ before (get_or l i 0) → y ≡ after (get_or l i 0) → x ≡ true → y ≡ false
+      → Losing before after l lost₀ (set lost k (get_or l i 0)) (k + 1) (i + 1)
+  losing_take room j u v e g =
+      let q : length f.taken < length lost₀ = omega (arith, f.many, f.few) in
+      record {
+        few = omega (arith, f.few);
+        taken = f.taken ++ (get_or l i 0 ∷ []);
+        many = omega (arith, f.many, length-append f.taken (get_or l i 0 ∷ []));
+        list = rw (f.list, f.many) (front_snoc f.taken (get_or l i 0) lost₀ q);
+        goes = rw append_assoc (rw (← u, e, ← v, g) at goes_on j);
+        size = length-set lost k (get_or l i 0) ∙ f.size;
+      }
+
+  losing_skip : i < length l → (before (get_or l i 0) && not (after (get_or l i 0))) ≡ false → Losing before after l lost₀ lost k (i + 1)
+  losing_skip j e = record { few = omega (arith, f.few); taken = f.taken; many = f.many; list = f.list; goes = rw e at goes_on j; size = f.size }
+
+  pub losing_before : i < length l → {x : Bool} → x ≡ before (get_or l i 0) → x ≡ false → Losing before after l lost₀ lost k (i + 1)
+  losing_before j u e = losing_skip j (rw (← u, e))
+
+  pub losing_after : i < length l → {x y : Bool} → x ≡ before (get_or l i 0) → y ≡ after (get_or l i 0) → x ≡ true → y ≡ true → Losing before after l lost₀ lost k (i + 1)
+  losing_after j u v e g = losing_skip j (rw (← u, e, ← v, g))
 
   pub tried : {b r : ℕ} → Counting before l b i → Counting after l r i → length l ≤ i → Tried before after l lost₀ lost b r k
   tried p q h =

@@ -3,21 +3,20 @@ ghost use Rattle.std.specs.Prelude.{◌≤◌, length};
 ghost use Rattle.admission.specs.Inner.Pools.{Entered};
 
 use landmarks::stays;
-use slots::rows::BLANK;
 
-// The entry if it stays when `ids` are deleted, else the lowest slot that does; blank where none does.
-pub fn residual_entry(marks: &[u8], ids: &[u32], entry: u32) -> u32
+// The entry if it stays when `ids` are deleted, else the lowest slot that does.
+pub fn residual_entry(marks: &[u8], ids: &[u32], entry: u32) -> Option<u32>
     requires { length marks.now ≤ 65536 }
     ensures { Entered marks.now ids.now entry result }
 {
     if stays(marks, ids, entry) {
-        return entry;
+        return Some(entry);
     }
     for s in 0..marks.len() {
         let id = s as u32;
         if stays(marks, ids, id) {
-            return id;
+            return Some(id);
         }
     }
-    BLANK
+    None
 }

@@ -8,4 +8,4 @@ mod trials;
 
 pub use entry::residual_entry;
 pub use pool::{landmark_pool, live_landmarks};
-pub use report::{Report, assess_delete_admission};
+pub use report::{Lists, Report, assess_delete_admission};

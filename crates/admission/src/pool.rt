@@ -3,10 +3,11 @@ ghost use Rattle.std.specs.Prelude.{◌≡◌, ◌≤◌, length, take};
 ghost use Rattle.lists.specs.Lists.{filter};
 ghost use Rattle.slots.specs.Store.{is_valid};
 ghost use Rattle.landmarks.specs.Inner.Samples.{remains};
-ghost use Rattle.landmarks.specs.Inner.Choices.{Appended};
+ghost use Rattle.landmarks.specs.Inner.Choices.{Fronted};
 ghost use Rattle.admission.specs.Inner.Pools.{Poolable, Pooled};
 
-use landmarks::{select_landmarks, stays};
+use guard::Config;
+use landmarks::{Free, select_landmarks, stays};
 use slots::marks::is_valid;
 use vectors::Space;
 
@@ -15,17 +16,21 @@ pub fn landmark_pool(
     space: &Space<'_>,
     marks: &[u8],
     entry: u32,
-    count: usize,
-    multiplier: usize,
-    sample: usize,
+    config: Config,
     pool: &mut [u32],
     scratch: &mut [u32],
 ) -> usize
-    requires { Poolable space.now.dim space.now.vectors.now marks.now entry count multiplier sample pool.old scratch.old }
-    ensures { Pooled space.now.dim space.now.vectors.now marks.now entry count multiplier sample pool.old pool.new result }
+    requires { Poolable space.now.dim space.now.vectors.now marks.now entry config.count config.multiplier config.sample pool.old scratch.old }
+    ensures { Pooled space.now.dim space.now.vectors.now marks.now entry config.count config.multiplier config.sample pool.old pool.new result }
 {
-    let wanted = count * multiplier;
-    select_landmarks(space, marks, &[], entry, wanted, sample, pool, 0, scratch)
+    let free = Free {
+        marks,
+        ids: &[],
+        entry,
+        kept: &[],
+    };
+    let wanted = config.count as usize * config.multiplier as usize;
+    select_landmarks(space, &free, wanted, config.sample as usize, pool, scratch)
 }
 
 // How many landmarks of the pool are live.
@@ -33,14 +38,12 @@ pub fn live_landmarks(marks: &[u8], pool: &[u32]) -> u32
     requires { length pool.now ≤ 1024 }
     ensures { result ≡ length (filter (is_valid marks.now) pool.now) }
 {
-    let mut live: u32 = 0;
-    for id in pool {
-        live += u32::from(is_valid(marks, *id as usize));
-    }
-    live
+    let live = pool.iter().filter(|id| is_valid(marks, **id as usize));
+    live.count() as u32
 }
 
-// Writes those landmarks of the pool that stay when `ids` are deleted to a list, `count` at most. Returns how many they are.
+// Writes those landmarks of the pool that stay when `ids` are deleted to the front of a list, `count` at most. Returns how many they are. `count` is a setting: a
+// list of that length would be a part that the caller has to put back.
 pub fn keep_landmarks(
     marks: &[u8],
     ids: &[u32],
@@ -49,7 +52,7 @@ pub fn keep_landmarks(
     list: &mut [u32],
 ) -> usize
     requires { count ≤ length list.old }
-    ensures { Appended (take count (filter (remains marks.now ids.now) pool.now)) 0 list.old list.new result }
+    ensures { Fronted (take count (filter (remains marks.now ids.now) pool.now)) list.old list.new result }
 {
     let mut m: usize = 0;
     for id in pool {

@@ -7,26 +7,34 @@ ghost use Rattle.slots.specs.Lent.{graph_of};
 ghost use Rattle.landmarks.specs.Inner.Samples.{remains};
 ghost use Rattle.landmarks.specs.Inner.Choices.{landmarks_by};
 ghost use Rattle.admission.specs.Inner.Trials.{meets};
-ghost use Rattle.admission.specs.Inner.Reports.{probe_by, Reports, Assessable, Assessed};
+ghost use Rattle.admission.specs.Lent.{SameLists};
+ghost use Rattle.admission.specs.Inner.Reports.{probe_by, Reports, Assessable, Checkable, Checks, Assessed};
 
 use super::entry::residual_entry;
 use super::pool::keep_landmarks;
-use super::trials::run_trials;
-use landmarks::{select_landmarks, stays};
+use super::trials::{Trial, run_trials};
+use guard::Config;
+use landmarks::{Free, select_landmarks, stays};
 use slots::Graph;
-use slots::rows::BLANK;
 
-// A report without its two lists; `entry` is blank where there is none, `checked` and `lost` are how many the lists hold.
+// A report without its two lists: `checked` and `lost` are how many they hold. Without a landmark looked at, it has no entry.
 #[derive(Clone, Copy, Default)]
 pub struct Report {
     pub admitted: bool,
     pub requested: u32,
-    pub entry: u32,
+    pub entry: Option<u32>,
     pub checked: u32,
     pub baseline: u32,
     pub residual: u32,
     pub lost: u32,
     pub supplemental: u32,
+}
+
+// The lists that a report is written to: the landmarks checked, and those lost.
+#[derive(Drop)]
+pub struct Lists<'a> {
+    pub checked: &'a mut [u32],
+    pub lost: &'a mut [u32],
 }
 
 // How many slots the live ones of `ids` are: each is counted where it stands first.
@@ -48,56 +56,63 @@ fn is_admitted(baseline: u32, lost: u32) -> bool
     0 < baseline && lost == 0
 }
 
-// A report that looks at no landmark.
-fn no_landmarks(admitted: bool, requested: u32) -> Report
-    ensures { (result.admitted ≡ admitted) × (result.requested ≡ requested) × (result.entry ≡ 4294967295) × (result.checked ≡ 0) × (result.baseline ≡ 0) × (result.residual ≡ 0) × (result.lost ≡ 0) × (result.supplemental ≡ 0) }
-{
-    Report {
-        admitted,
-        requested,
-        entry: BLANK,
-        ..Report::default()
-    }
-}
-
-// Checks `count` landmarks at most from `start`, for a deletion that names `requested` slots: those of the pool that stay, and others where these are
-// fewer.
-fn probe(
-    graph: &Graph<'_>,
-    start: u32,
-    count: usize,
-    sample: usize,
-    beam: usize,
+// Chooses the landmarks that a report checks: those of the pool that stay when `ids` are deleted, and others where these are fewer. They are written to the front
+// of `checked`. Returns how many they are, and how many of them are others.
+fn check_landmarks(
+    trial: &Trial<'_>,
+    config: Config,
     pool: &[u32],
     ids: &[u32],
-    requested: u32,
     checked: &mut [u32],
-    lost: &mut [u32],
     scratch: &mut [u32],
-) -> Report
-    requires assessable { Assessable (graph_of graph.now) count sample beam pool.now (length pool.now) ids.now checked.old lost.old scratch.old }
-    requires start_in_bounds { (start < length graph.now.rows.marks.now) × (elem start ids.now ≡ false) }
-    ensures { Reports (probe_by (remains graph.now.rows.marks.now ids.now) (meets (graph_of graph.now) [] beam start) (meets (graph_of graph.now) ids.now beam start) (λ wanted existing. landmarks_by (slot_distance (space graph.now.space.dim graph.now.space.vectors.now)) (remains graph.now.rows.marks.now ids.now) (length graph.now.rows.marks.now) start wanted sample existing) count pool.now requested start) checked.old checked.new lost.old lost.new result }
+) -> (usize, usize)
+    requires { Checkable (length trial.now.graph.rows.marks.now) trial.now.entry config.count config.sample checked.old scratch.old }
+    ensures { Checks (length trial.now.graph.rows.marks.now) (remains trial.now.graph.rows.marks.now ids.now) (λ wanted existing. landmarks_by (slot_distance (space trial.now.graph.space.dim trial.now.graph.space.vectors.now)) (remains trial.now.graph.rows.marks.now ids.now) (length trial.now.graph.rows.marks.now) trial.now.entry wanted config.sample existing) config.count pool.now checked.old checked.new result.0 result.1 }
 {
-    let marks = graph.rows.marks;
+    let marks = trial.graph.rows.marks;
+    let count = config.count as usize;
     let kept = keep_landmarks(marks, ids, pool, count, checked);
-    let more = select_landmarks(
-        &graph.space,
+    let (front, rest) = checked.split_at_mut(kept);
+    let free = Free {
         marks,
         ids,
-        start,
+        entry: trial.entry,
+        kept: front,
+    };
+    let more = select_landmarks(
+        &trial.graph.space,
+        &free,
         count - kept,
-        sample,
-        checked,
-        kept,
+        config.sample as usize,
+        rest,
         scratch,
     );
-    let n = kept + more;
-    let t = run_trials(graph, ids, start, beam, &checked[..n], lost, scratch);
+    (kept + more, more)
+}
+
+// The report of trial walks, but for how many slots the deletion names: 0 of them here.
+fn probe(
+    trial: &Trial<'_>,
+    config: Config,
+    pool: &[u32],
+    ids: &[u32],
+    lists: &mut Lists<'_>,
+    scratch: &mut [u32],
+) -> Report
+    requires assessable { Assessable (graph_of trial.now.graph) config.count config.sample trial.now.beam pool.now (length pool.now) ids.now lists.old.checked.now lists.old.lost.now scratch.old }
+    requires start_in_bounds { (trial.now.entry < length trial.now.graph.rows.marks.now) × (elem trial.now.entry ids.now ≡ false) }
+    ensures { Reports (probe_by (remains trial.now.graph.rows.marks.now ids.now) (meets (graph_of trial.now.graph) [] trial.now.beam trial.now.entry) (meets (graph_of trial.now.graph) ids.now trial.now.beam trial.now.entry) (λ wanted existing. landmarks_by (slot_distance (space trial.now.graph.space.dim trial.now.graph.space.vectors.now)) (remains trial.now.graph.rows.marks.now ids.now) (length trial.now.graph.rows.marks.now) trial.now.entry wanted config.sample existing) config.count pool.now 0 trial.now.entry) lists.old.checked.now lists.new.checked.now lists.old.lost.now lists.new.lost.now result × SameLists lists.old lists.new }
+{
+    let checked = &mut *lists.checked;
+    let lost = &mut *lists.lost;
+    let (n, more) = check_landmarks(trial, config, pool, ids, checked, scratch);
+    // Read whole first: by `&checked[..n]` the proof would not know what `lists.checked` is at the end.
+    let list: &[u32] = checked;
+    let t = run_trials(trial, ids, &list[..n], lost, scratch);
     Report {
         admitted: is_admitted(t.baseline, t.lost),
-        requested,
-        entry: start,
+        requested: 0,
+        entry: Some(trial.entry),
         checked: n as u32,
         baseline: t.baseline,
         residual: t.residual,
@@ -106,32 +121,42 @@ fn probe(
     }
 }
 
-// The report on deleting `ids`; the landmarks checked and those lost are written to the front of two lists.
+// The report on deleting `ids`; the landmarks checked and those lost are written to the front of two lists. Seven parameters: an index lends its graph, its
+// entry, its pool and the settings apart, so a struct of them would be made for this call alone. `Assessable` is the whole demand of a report.
 pub fn assess_delete_admission(
     graph: &Graph<'_>,
     entry: u32,
-    count: usize,
-    sample: usize,
-    beam: usize,
+    config: Config,
     pool: &[u32],
     ids: &[u32],
-    checked: &mut [u32],
-    lost: &mut [u32],
+    lists: &mut Lists<'_>,
     scratch: &mut [u32],
 ) -> Report
-    requires { Assessable (graph_of graph.now) count sample beam pool.now (length pool.now) ids.now checked.old lost.old scratch.old }
-    ensures { Assessed (graph_of graph.now) entry count sample beam pool.now ids.now checked.old checked.new lost.old lost.new result }
+    requires { Assessable (graph_of graph.now) config.count config.sample config.beam pool.now (length pool.now) ids.now lists.old.checked.now lists.old.lost.now scratch.old }
+    ensures { Assessed (graph_of graph.now) entry config.count config.sample config.beam pool.now ids.now lists.old.checked.now lists.new.checked.now lists.old.lost.now lists.new.lost.now result × SameLists lists.old lists.new }
 {
     let marks = graph.rows.marks;
     let requested = count_named(marks, ids);
     if requested == 0 {
-        return no_landmarks(true, 0);
+        return Report {
+            admitted: true,
+            ..Report::default()
+        };
     }
-    let start = residual_entry(marks, ids, entry);
-    if start == BLANK {
-        return no_landmarks(false, requested);
+    let Some(start) = residual_entry(marks, ids, entry) else {
+        return Report {
+            requested,
+            ..Report::default()
+        };
+    };
+    let trial = Trial {
+        graph: *graph,
+        entry: start,
+        beam: config.beam as usize,
+    };
+    let report = probe(&trial, config, pool, ids, lists, scratch);
+    Report {
+        requested,
+        ..report
     }
-    probe(
-        graph, start, count, sample, beam, pool, ids, requested, checked, lost, scratch,
-    )
 }

@@ -12,4 +12,3 @@ pub mod Sorting
 pub mod Merging
 pub mod Copying
 pub mod After
-pub mod Pairs

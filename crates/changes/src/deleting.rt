@@ -1,9 +1,9 @@
 // Lines `delete`.
 use deletion::stats_place;
-use index::Refusal;
-use lines::prepare::{State, part, part_mut};
+use index::{DeleteSlices, Refusal};
+use lines::prepare::{Arrays, State, part_mut};
 use text::{Differs, Numbers};
-use updating::{Changed, Naming};
+use updating::{Changed, Deleting, Naming};
 
 // What the names of a delete are.
 pub fn naming(line: &mut Numbers<'_>) -> Result<Naming, Differs> {
@@ -49,37 +49,29 @@ fn expect_deleted(
 pub fn delete(
     line: &mut Numbers<'_>,
     state: &mut State,
-    names: &[u32],
-    vectors: &[u8],
-    targets: &mut [u32],
-    edges: &mut [u16],
-    versions: &mut [u16],
-    marks: &mut [u8],
-    pool: &[u32],
-    numbers: &mut [u32],
-    summary: &mut [u32],
+    arrays: &mut Arrays<'_>,
     scratch: &mut [u32],
 ) -> Result<(), Differs> {
-    let naming = naming(line)?;
-    let beam = line.argument();
-    let degree = line.argument();
     let lent = state.lent;
-    let deleted = updating::delete(
-        state.index,
-        part(vectors, lent.vectors),
-        part_mut(targets, lent.targets),
-        part_mut(edges, lent.edges),
-        part_mut(versions, lent.versions),
-        part_mut(marks, lent.marks),
-        part(pool, lent.pool),
-        part_mut(numbers, lent.numbers),
-        part_mut(summary, lent.summary),
-        part(names, lent.rows),
+    let naming = naming(line)?;
+    let asked = Deleting {
+        names: part_mut(arrays.rows, lent.rows),
         naming,
-        beam,
-        degree,
-        lent.slots.min(1024),
-        part_mut(scratch, lent.words),
-    );
+        repair_beam: line.argument(),
+        repair_degree: line.argument(),
+    };
+    let mut slices = DeleteSlices {
+        vectors: part_mut(arrays.vectors, lent.vectors),
+        targets: part_mut(arrays.targets, lent.targets),
+        edges: part_mut(arrays.edges, lent.edges),
+        versions: part_mut(arrays.versions, lent.versions),
+        marks: part_mut(arrays.marks, lent.marks),
+        pool: part_mut(arrays.pool, lent.pool),
+        numbers: part_mut(arrays.numbers, lent.numbers),
+        summary: part_mut(arrays.summary, lent.summary),
+    };
+    let room = lent.slots.min(1024);
+    let words = part_mut(scratch, lent.words);
+    let deleted = updating::delete(state.index, &mut slices, &asked, room, words);
     expect_deleted(line, state, deleted, scratch)
 }

@@ -1,8 +1,8 @@
 // Lines `insert`.
-use index::Refusal;
-use lines::prepare::{State, part, part_mut};
+use index::{InsertSlices, Refusal};
+use lines::prepare::{Arrays, State, part_mut};
 use text::{Differs, Numbers};
-use updating::Changed;
+use updating::{Changed, Inserting};
 
 // Passes the answer to an insert, which leaves the index with what is inserted, or the former one where it is refused.
 fn expect_inserted(
@@ -26,36 +26,28 @@ fn expect_inserted(
 pub fn insert(
     line: &mut Numbers<'_>,
     state: &mut State,
-    given: &[u8],
-    figures: &[u32],
-    vectors: &mut [u8],
-    targets: &mut [u32],
-    edges: &mut [u16],
-    versions: &[u16],
-    marks: &mut [u8],
-    pool: &[u32],
-    numbers: &mut [u32],
-    summary: &mut [u32],
+    arrays: &mut Arrays<'_>,
     scratch: &mut [u32],
 ) -> Result<(), Differs> {
     let mut slots = [0u32; 1024];
-    let beam = line.argument();
     let lent = state.lent;
-    let inserted = updating::insert(
-        state.index,
-        part_mut(vectors, lent.vectors),
-        part_mut(targets, lent.targets),
-        part_mut(edges, lent.edges),
-        part(versions, lent.versions),
-        part_mut(marks, lent.marks),
-        part(pool, lent.pool),
-        part_mut(numbers, lent.numbers),
-        part_mut(summary, lent.summary),
-        part(given, lent.given),
-        part(figures, lent.figures),
-        beam,
-        part_mut(&mut slots, lent.slots),
-        part_mut(scratch, lent.words),
-    );
+    let asked = Inserting {
+        bytes: part_mut(arrays.given, lent.given),
+        numbers: part_mut(arrays.figures, lent.figures),
+        beam: line.argument(),
+    };
+    let mut slices = InsertSlices {
+        vectors: part_mut(arrays.vectors, lent.vectors),
+        targets: part_mut(arrays.targets, lent.targets),
+        edges: part_mut(arrays.edges, lent.edges),
+        versions: part_mut(arrays.versions, lent.versions),
+        marks: part_mut(arrays.marks, lent.marks),
+        pool: part_mut(arrays.pool, lent.pool),
+        numbers: part_mut(arrays.numbers, lent.numbers),
+        summary: part_mut(arrays.summary, lent.summary),
+    };
+    let room = part_mut(&mut slots, lent.slots);
+    let scratch = part_mut(scratch, lent.words);
+    let inserted = updating::insert(state.index, &mut slices, &asked, room, scratch);
     expect_inserted(line, state, inserted, &slots)
 }

@@ -1,6 +1,6 @@
 // Lines `make`.
-use index::{Index, Refusal};
-use lines::prepare::{State, alpha_of, part, part_mut};
+use index::{Index, Making, NewSlices, Refusal};
+use lines::prepare::{Arrays, State, alpha_of, part_mut};
 use text::{Differs, Numbers};
 
 // Passes the answer to a making, which leaves the new index, or the former one where it is refused.
@@ -22,43 +22,30 @@ fn expect_made(
 pub fn make(
     line: &mut Numbers<'_>,
     state: &mut State,
-    given: &[u8],
-    rows: &[u32],
-    figures: &[u32],
-    vectors: &mut [u8],
-    targets: &mut [u32],
-    edges: &mut [u16],
-    versions: &mut [u16],
-    marks: &mut [u8],
-    pool: &mut [u32],
-    numbers: &mut [u32],
-    summary: &mut [u32],
+    arrays: &mut Arrays<'_>,
 ) -> Result<(), Differs> {
-    let dim = line.argument();
-    let capacity = line.argument();
-    let degree = line.argument();
-    let alpha = alpha_of(line.argument());
-    let entry = line.argument();
-    let count = line.argument();
     let lent = state.lent;
-    let created = index::create(
-        dim,
-        capacity,
-        degree,
-        alpha,
-        entry,
-        count,
-        part(given, lent.given),
-        part(rows, lent.rows),
-        part(figures, lent.figures),
-        part_mut(vectors, lent.vectors),
-        part_mut(targets, lent.targets),
-        part_mut(edges, lent.edges),
-        part_mut(versions, lent.versions),
-        part_mut(marks, lent.marks),
-        part_mut(pool, lent.pool),
-        part_mut(numbers, lent.numbers),
-        part_mut(summary, lent.summary),
-    );
+    let given = Making {
+        dim: line.argument(),
+        capacity: line.argument(),
+        degree: line.argument(),
+        alpha: alpha_of(line.argument()),
+        entry: line.argument(),
+        count: line.argument(),
+        bytes: part_mut(arrays.given, lent.given),
+        rows: part_mut(arrays.rows, lent.rows),
+        numbers: part_mut(arrays.figures, lent.figures),
+    };
+    let mut slices = NewSlices {
+        vectors: part_mut(arrays.vectors, lent.vectors),
+        targets: part_mut(arrays.targets, lent.targets),
+        edges: part_mut(arrays.edges, lent.edges),
+        versions: part_mut(arrays.versions, lent.versions),
+        marks: part_mut(arrays.marks, lent.marks),
+        pool: part_mut(arrays.pool, lent.pool),
+        numbers: part_mut(arrays.numbers, lent.numbers),
+        summary: part_mut(arrays.summary, lent.summary),
+    };
+    let created = index::create(&given, &mut slices);
     expect_made(line, state, created)
 }

@@ -22,13 +22,14 @@ use Rattle.slots.proofs.Places.{live_inside, shape_fits}
 use Rattle.row.specs.Row.{Together, index_of}
 use Rattle.repair.specs.Repair.{Link}
 use Rattle.links.specs.Inner.Linking.{between, Applied}
+use Rattle.links.proofs.Linking.{applied_together}
 use Rattle.links.specs.Inner.Planning.{plan_words, Area, Plans, plans_at}
 use Rattle.deletion.specs.declared.layout.Layout.{Layout}
 use Rattle.deletion.specs.declared.plans.Repair.{Repair}
 use Rattle.deletion.specs.Inner.Layout.{layout_of}
 use Rattle.deletion.specs.Inner.Naming.{Emptied, Inside, cleared, entry_after}
 use Rattle.deletion.specs.Inner.Plans.{Table, RowsTaken, PlansMade}
-use Rattle.deletion.specs.Inner.Acts.{Takeable, Finishable, AllFinished, Repairable, Repaired}
+use Rattle.deletion.specs.Inner.Acts.{Takeable, AllFinished, Repairable, Repaired}
 
 all_by_ids : (P : ℕ → Type 0) (cs : List Candidate) → All P (ids cs) → All (λ c. P c.id) cs
 all_by_ids P [] h = tt
@@ -86,41 +87,55 @@ module _ {a : Arrays} {named w : List ℕ} {p : ℕ} {w₁ : List ℕ} (d : Take
     marked em ee = record { taken = w₁; list = l; rows = r; marks_are = rw taken_stay at em; entry_is = rw taken_stay at ee }
 
 -- ---- the last act
-pub record Finishing (degree : ℕ) (targets₀ edges₀ versions₀ w : List ℕ) (at n : ℕ) (targets edges versions : List ℕ) (k : ℕ) : Type 0 where
-  pub goes : (dim : ℕ) (vectors marks : List ℕ) (alpha : Float) (entry : ℕ) → Inside (length marks) w at n
-      → foldl store_ops.finish (index_of alpha entry (arrays dim degree vectors targets edges versions marks)) (ids (cands w (at + 2 * k) (n - k)))
-      ≡ foldl store_ops.finish (index_of alpha entry (arrays dim degree vectors targets₀ edges₀ versions₀ marks)) (ids (cands w at n))
-  pub targets_long : length targets ≡ length targets₀
-  pub edges_long : length edges ≡ length edges₀
-  pub versions_long : length versions ≡ length versions₀
+-- of the slots of n candidates k are finished: the arrays a₀ have come to a
+pub record Finishing (a₀ : Arrays) (w : List ℕ) (at n : ℕ) (a : Arrays) (k : ℕ) : Type 0 where
+  pub goes : (alpha : Float) (entry : ℕ) → foldl store_ops.finish (index_of alpha entry a) (ids (cands w (at + 2 * k) (n - k))) ≡ foldl store_ops.finish (index_of alpha entry a₀) (ids (cands w at n))
+  pub together : Together a
+  pub marks_long : length a.marks ≡ length a₀.marks
 
-module _ {degree : ℕ} {targets₀ edges₀ versions₀ w : List ℕ} {at n : ℕ} {targets edges versions : List ℕ} {k : ℕ} (f : Finishing degree targets₀ edges₀ versions₀ w at n targets edges versions k) where
-  module _ (b : Finishable degree targets₀ edges₀ versions₀ w at n) (h : k < n) {u : ℕ} (the_slot : u ≡ (cand w (at + 2 * k)).id) where
-    pub finishing_asks : (u * degree + degree ≤ length targets) × (u * degree + degree ≤ length edges) × (u < length versions)
-    finishing_asks =
-        let r = cands_each (λ c. (c.id * degree + degree ≤ length targets₀) × (c.id * degree + degree ≤ length edges₀) × (c.id < length versions₀)) w at n b.each k h in
-        (rw (the_slot, f.targets_long) r.0, rw (the_slot, f.edges_long) r.1, rw (the_slot, f.versions_long) r.2)
+pub finishing_none : (a : Arrays) (w : List ℕ) (at n : ℕ) → Together a → Finishing a w at n a 0
+finishing_none a w at n o =
+    let e : at + 2 * 0 ≡ at = omega arith in
+    let z : n - 0 ≡ n = omega arith in
+    record { goes = λ alpha entry. rw (e, z); together = o; marks_long = refl }
 
-    pub finishing_more : {targets' edges' versions' : List ℕ} → Finished degree targets edges versions u targets' edges' versions'
-        → length targets' ≡ length targets → length edges' ≡ length edges → length versions' ≡ length versions
-        → Finishing degree targets₀ edges₀ versions₀ w at n targets' edges' versions' (k + 1)
+module _ {a₀ : Arrays} {w : List ℕ} {at n : ℕ} {a : Arrays} {k : ℕ} (f : Finishing a₀ w at n a k) where
+  module _ (v : Inside (length a₀.marks) w at n) (h : k < n) {u : ℕ} (the_slot : u ≡ (cand w (at + 2 * k)).id) where
+    slot_in : (cand w (at + 2 * k)).id < length a.marks
+    slot_in = rw f.marks_long (cands_each (λ c. c.id < length a₀.marks) w at n v.each k h)
+
+    pub finishing_asks : (u * a.degree + a.degree ≤ length a.targets) × (u * a.degree + a.degree ≤ length a.edges) × (u < length a.versions)
+    finishing_asks = let r = shape_fits f.together.rows (cand w (at + 2 * k)).id slot_in in rw the_slot (r.0, r.1, rw f.together.rows.versions_long slot_in)
+
+    pub finishing_more : {targets' edges' versions' : List ℕ} → Finished a.degree a.targets a.edges a.versions u targets' edges' versions'
+        → length targets' ≡ length a.targets → length edges' ≡ length a.edges → length versions' ≡ length a.versions
+        → Finishing a₀ w at n (arrays a.dim a.degree a.vectors targets' edges' versions' a.marks) (k + 1)
     finishing_more {targets'} {edges'} {versions'} d lt le lv =
         record {
-          goes = λ dim vectors marks alpha entry v.
-              let s : (cand w (at + 2 * k)).id < length marks = cands_each (λ c. c.id < length marks) w at n v.each k h in
-              let b = index_of alpha entry (arrays dim degree vectors targets edges versions marks) in
-              let y : index_of alpha entry (arrays dim degree vectors targets' edges' versions' marks) ≡ store_ops.finish b (cand w (at + 2 * k)).id =
-              (d.does dim vectors marks).does b refl (rw the_slot s) ∙ ap (store_ops.finish b) the_slot in
-              ap (λ (c : Store). foldl store_ops.finish c (ids (cands w (at + 2 * (k + 1)) (n - (k + 1))))) y ∙ (rw (cands_cons w at n k h) at (f.goes dim vectors marks alpha entry v));
-          targets_long = lt ∙ f.targets_long;
-          edges_long = le ∙ f.edges_long;
-          versions_long = lv ∙ f.versions_long;
+          goes = λ alpha entry.
+              let b = index_of alpha entry a in
+              let y : index_of alpha entry (arrays a.dim a.degree a.vectors targets' edges' versions' a.marks) ≡ store_ops.finish b (cand w (at + 2 * k)).id =
+              (d.does a.dim a.vectors a.marks).does b refl (rw the_slot slot_in) ∙ ap (store_ops.finish b) the_slot in
+              ap (λ (c : Store). foldl store_ops.finish c (ids (cands w (at + 2 * (k + 1)) (n - (k + 1))))) y ∙ (rw (cands_cons w at n k h) at (f.goes alpha entry));
+          together =
+              record {
+                bytes = f.together.bytes;
+                rows =
+                    record {
+                      targets_long = lt ∙ f.together.rows.targets_long;
+                      edges_long = le ∙ f.together.rows.edges_long;
+                      versions_long = lv ∙ f.together.rows.versions_long;
+                      few = f.together.rows.few;
+                    };
+                degree_most = f.together.degree_most;
+              };
+          marks_long = f.marks_long;
         }
 
-  pub finishing_done : k ≡ n → AllFinished degree targets₀ edges₀ versions₀ w at n targets edges versions
+  pub finishing_done : k ≡ n → AllFinished a₀ w at n a
   finishing_done h =
       let z : n - k ≡ 0 = omega arith in
-      record { does = λ dim vectors marks alpha entry v. rw (cands_none w (at + 2 * k) (n - k) z) at (f.goes dim vectors marks alpha entry v) }
+      record { does = λ alpha entry. rw (cands_none w (at + 2 * k) (n - k) z) at (f.goes alpha entry) }
 
 -- ---- the later acts
 -- what links make of the slices that rows were built from
@@ -142,36 +157,28 @@ module _ {a : Arrays} {how : Repair} {w : List ℕ} {at : Layout} {w₁ : List �
   pub made_area : Area a.degree w₁ at.base
   made_area = record { inside = omega (arith, f.area.inside, m.size); below = f.area.below }
 
-  module _ {alpha : Float} {targets edges w₂ : List ℕ}
-      (s : Applied alpha a (plans_at (between a.dim a.vectors) how.degree how.entry w₁ at.stats at.plans at.count) (arrays a.dim a.degree a.vectors targets edges a.versions a.marks) w₁ at.base (plan_words a.degree) w₂) where
+  module _ {a₁ : Arrays} {w₂ : List ℕ} (s : Applied how.alpha a (plans_at (between a.dim a.vectors) how.degree how.entry w₁ at.stats at.plans at.count) a₁ w₁ at.base (plan_words a.degree) w₂) where
     slots_stay : cands w₂ at.from at.count ≡ cands w at.from at.count
     slots_stay =
         cands_agree w₁ w₂ at.from at.count (λ j l h. s.same j (λ q. omega (arith, f.placed, f.makes.table.first, f.makes.table.second)))
         ∙ cands_agree w w₁ at.from at.count (λ j l h. m.same j (omega (arith, f.makes.behind)) (omega (arith, f.makes.table.first)))
 
-    repaired_inside : Inside (length a.marks) w₂ at.from at.count
-    repaired_inside =
-        record {
-          each = subst (λ (cs : List Candidate). All (λ c. c.id < length a.marks) cs) (sym slots_stay) f.makes.inside.each;
-          words = omega (arith, f.makes.inside.words, m.size, s.size);
-        }
+    pub repaired_finish : length a₁.marks ≡ length a.marks → Together a₁ × Inside (length a₁.marks) w₂ at.from at.count
+    repaired_finish e = (
+      applied_together o s,
+      record {
+        each = rw e (subst (λ (cs : List Candidate). All (λ c. c.id < length a.marks) cs) (sym slots_stay) f.makes.inside.each);
+        words = omega (arith, f.makes.inside.words, m.size, s.size);
+      },
+    )
 
-    pub repaired_finish : length targets ≡ length a.targets → length edges ≡ length a.edges → Finishable a.degree targets edges a.versions w₂ at.from at.count
-    repaired_finish lt le =
-        record {
-          each = all_map (λ c. c.id < length a.marks) (λ c. (c.id * a.degree + a.degree ≤ length targets) × (c.id * a.degree + a.degree ≤ length edges) × (c.id < length a.versions))
-              (λ c h. let q = shape_fits o.rows c.id h in (rw lt q.0, rw le q.1, rw o.rows.versions_long h)) (cands w₂ at.from at.count) repaired_inside.each;
-          words = repaired_inside.words;
-        }
-
-    pub repaired : {targets' edges' versions' : List ℕ} → AllFinished a.degree targets edges a.versions w₂ at.from at.count targets' edges' versions'
-        → Repaired alpha a how w at (arrays a.dim a.degree a.vectors targets' edges' versions' a.marks) w₂
+    pub repaired : {a₂ : Arrays} → AllFinished a₁ w₂ at.from at.count a₂ → Repaired a how w at a₂ w₂
     repaired g =
         record {
           made = w₁;
           plan = m;
           does =
-              g.does a.dim a.vectors a.marks alpha how.entry repaired_inside
+              g.does how.alpha how.entry
               ∙ ap₂ (λ (b : Store) (ss : List ℕ). foldl store_ops.finish b ss) (s.does how.entry) (ap ids slots_stay);
           size = s.size ∙ m.size;
           same = λ i h. s.same i (λ q. omega arith);

@@ -249,9 +249,9 @@ module _ {a : Arrays} {entry repair_beam repair_degree : ℕ} {named w : List �
     pub batch_together : Together (with_marks a marks')
     batch_together = together_kept refl refl refl long o.together
 
-    module _ {d : ℕ} (q : d ≡ max 1 repair_degree) where
+    module _ (alpha : Float) {d : ℕ} (q : d ≡ max 1 repair_degree) where
       abbrev how : Repair
-      how = record { entry = e; beam = repair_beam; degree = d }
+      how = record { alpha = alpha; entry = e; beam = repair_beam; degree = d }
 
       pub batch_repairs : Repairable (with_marks a marks') how w₂ at
       batch_repairs =
@@ -274,8 +274,7 @@ module _ {a : Arrays} {entry repair_beam repair_degree : ℕ} {named w : List �
             area = record { inside = omega (arith, o.enough, c.rows.size, c.list.size); below = omega (arith, o.together.rows.few, o.together.degree_most) };
           }
 
-      module _ {alpha : Float} {targets edges versions w₃ : List ℕ}
-          (r : Repaired alpha (with_marks a marks') how w₂ at (arrays a.dim a.degree a.vectors targets edges versions marks') w₃) where
+      module _ {a' : Arrays} {w₃ : List ℕ} (r : Repaired (with_marks a marks') how w₂ at a' w₃) where
         abbrev b : Store
         b = index_of alpha entry a
 
@@ -322,7 +321,7 @@ module _ {a : Arrays} {entry repair_beam repair_degree : ℕ} {named w : List �
             sym (links_in_order b' links (together_shaped batch_together) batch_together.rows.few
             (sources_from a alpha entry marks' how c.taken w₂ r.made at below c.rows r.plan p 0 (omega arith)))
 
-        finished : foldl store_ops.finish (foldl apply_link b' links) slots ≡ index_of alpha e (arrays a.dim a.degree a.vectors targets edges versions marks')
+        finished : foldl store_ops.finish (foldl apply_link b' links) slots ≡ index_of alpha e a'
         finished = sym (r.does ∙ ap (λ (cs : List Candidate). foldl store_ops.finish (foldl apply_link b' links) (ids cs)) stay)
 
         kept : (i : ℕ) → i < p → stats_of r.made at.stats i ≡ stats_of w₃ at.stats i
@@ -334,7 +333,7 @@ module _ {a : Arrays} {entry repair_beam repair_degree : ℕ} {named w : List �
             let x₃ : get_or w₃ (at.stats + 4 * i + 3) 0 ≡ get_or r.made (at.stats + 4 * i + 3) 0 = r.same (at.stats + 4 * i + 3) (omega (arith, z)) in
             rw (x₀, x₁, x₂, x₃)
 
-        pub batch_deleted : BatchDeleted a alpha entry repair_beam repair_degree named (arrays a.dim a.degree a.vectors targets edges versions marks') e p w₃
+        pub batch_deleted : BatchDeleted a alpha entry repair_beam repair_degree named a' e p w₃
         unfolding delete_batch store_ops
         batch_deleted =
             record {
@@ -350,6 +349,10 @@ module _ {a : Arrays} {entry repair_beam repair_degree : ℕ} {named w : List �
                   ∙ ap₂ (λ (s : Store) (ss : List Stats). (s, ss)) (ap (λ (s : Store). foldl store_ops.finish s slots) in_order ∙ finished)
                   (words_agree (stats_of r.made at.stats) (stats_of w₃ at.stats) p 0 (λ i l h. kept i (omega arith)));
             }
+
+-- with the marks that the graph holds then
+pub marked_now : {a : Arrays} {entry : ℕ} {named w : List ℕ} {at : Layout} {e : ℕ} {marks₁ marks' w₂ : List ℕ} → marks' ≡ marks₁ → Marked a entry named w at e marks₁ w₂ → Marked a entry named w at e marks' w₂
+marked_now e m = rw e m
 
 -- the same of every index that has the slices, as many slots as marks
 pub deleted_store : (b : Store) {repair_beam repair_degree : ℕ} {named : List ℕ} {a' : Arrays} {entry' r : ℕ} {w' : List ℕ} → b.capacity ≡ length b.arrays.marks → length a'.marks ≡ length b.arrays.marks

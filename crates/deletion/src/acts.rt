@@ -1,15 +1,21 @@
 // The acts of a delete, in two halves: slots and their rows taken; rows around them repaired, and slots emptied.
-ghost use Rattle.slots.specs.Store.{arrays};
-ghost use Rattle.slots.specs.Lent.{graph_of};
+ghost use Rattle.std.specs.Prelude.{◌<◌, ◌≤◌, length};
+ghost use Rattle.slots.specs.Lent.{graph_of, SameSlices};
 ghost use Rattle.row.specs.Row.{Together};
-ghost use Rattle.deletion.specs.Inner.Acts.{Takeable, Taken, Finishable, AllFinished, Repairable, Repaired};
+ghost use Rattle.links.specs.Inner.Linking.{between, arrays_of, Applied};
+ghost use Rattle.links.specs.Inner.Planning.{plan_words, Area, Plans, plans_at};
+ghost use Rattle.deletion.specs.Lent.{graph_mut_of, SameGraph};
+ghost use Rattle.deletion.specs.Inner.Acts.{Takeable, Taken, Repairable, Repaired};
 
+use super::graph::GraphMut;
 use super::layout::{Layout, lay_out};
 use super::named::take_ids;
 use super::plans::{Repair, make_plans, take_rows};
 use candidates::id_at;
+use distances::Kept;
 use links::{Table, apply_plans};
-use slots::{Graph, Rows, RowsMut, finish};
+use row::Pruner;
+use slots::{Graph, RowsMut, finish};
 use vectors::Space;
 
 // Takes the live ones of `ids`, and their rows to the plans. Returns where they lie.
@@ -23,67 +29,79 @@ pub fn take_slots(graph: &Graph<'_>, ids: &[u32], scratch: &mut [u32]) -> Layout
     at
 }
 
-// The last act on the slots of the layout: the next version, and an empty row.
-fn finish_all(
-    degree: usize,
-    targets: &mut [u32],
-    edges: &mut [u16],
-    versions: &mut [u16],
-    scratch: &[u32],
-    at: Layout,
-)
-    requires { Finishable degree targets.old edges.old versions.old scratch.now at.from at.count }
-    ensures { AllFinished degree targets.old edges.old versions.old scratch.now at.from at.count targets.new edges.new versions.new }
-{
-    for k in 0..at.count {
-        let s = id_at(scratch, at.from, k) as usize;
-        finish(degree, targets, edges, versions, s);
+impl GraphMut<'_> {
+    ghost use Rattle.std.specs.Prelude.{length};
+    ghost use Rattle.row.specs.Row.{Together};
+    ghost use Rattle.deletion.specs.Lent.{graph_mut_of, SameGraph};
+    ghost use Rattle.deletion.specs.Inner.Naming.{Inside};
+    ghost use Rattle.deletion.specs.Inner.Acts.{AllFinished};
+
+    // The last act on the slots of the layout: the next version, and an empty row.
+    fn finish_all(&mut self, scratch: &[u32], at: Layout)
+        requires { Together (graph_mut_of self.old) × Inside (length self.old.marks.now) scratch.now at.from at.count }
+        ensures { AllFinished (graph_mut_of self.old) scratch.now at.from at.count (graph_mut_of self.new) × SameGraph self.old self.new }
+    {
+        for k in 0..at.count {
+            let s = id_at(scratch, at.from, k) as usize;
+            let targets = &mut *self.targets;
+            let edges = &mut *self.edges;
+            let versions = &mut *self.versions;
+            finish(self.degree, targets, edges, versions, s);
+        }
     }
 }
 
-// Makes the plans of the dead slots of the layout, applies their links to the stored rows, and empties the slots.
-pub fn repair_rows(
-    alpha: f32,
+// Applies the links of the plans of the layout to rows beside vectors and marks. A function of its own: where `repair_rows` made the pruner itself, over rows made
+// of the graph's fields, no fact tied the graph's versions afterwards to those before.
+fn link_rows(
     space: &Space<'_>,
-    degree: usize,
-    targets: &mut [u32],
-    edges: &mut [u16],
-    versions: &mut [u16],
+    rows: &mut RowsMut<'_>,
     marks: &[u8],
     how: Repair,
     scratch: &mut [u32],
     at: Layout,
 )
-    requires together { Together (arrays space.now.dim degree space.now.vectors.now targets.old edges.old versions.old marks.now) }
-    requires repairable { Repairable (arrays space.now.dim degree space.now.vectors.now targets.old edges.old versions.old marks.now) how scratch.old at }
-    ensures { Repaired alpha (arrays space.now.dim degree space.now.vectors.now targets.old edges.old versions.old marks.now) how scratch.old at
-        (arrays space.now.dim degree space.now.vectors.now targets.new edges.new versions.new marks.now) scratch.new }
+    requires together { Together (arrays_of space.now rows.old marks.now) }
+    requires linkable { (how.entry < length marks.now) × Plans marks.now scratch.old at.stats at.plans at.count at.base × Area rows.old.degree scratch.old at.base × (how.degree ≤ 16) }
+    ensures { Applied how.alpha (arrays_of space.now rows.old marks.now)
+        (plans_at (between space.now.dim space.now.vectors.now) how.degree how.entry scratch.old at.stats at.plans at.count)
+        (arrays_of space.now rows.new marks.now) scratch.old at.base (plan_words rows.old.degree) scratch.new × SameSlices rows.old rows.new }
 {
-    let graph = Graph {
-        space: *space,
-        rows: Rows {
-            degree,
-            targets,
-            edges,
-            versions,
-            marks,
-        },
-    };
-    make_plans(&graph, how, scratch, at);
-    let mut rows = RowsMut {
-        degree,
-        targets,
-        edges,
-        versions,
+    let mut pruner = Pruner {
+        alpha: how.alpha,
+        kept: Kept::new(*space),
+        rows,
+        marks,
     };
     let table = Table {
+        degree: how.degree,
+        entry: how.entry,
         stats: at.stats,
         plans: at.plans,
         count: at.count,
         base: at.base,
     };
-    apply_plans(
-        alpha, space, &mut rows, marks, how.degree, how.entry, scratch, table,
-    );
-    finish_all(degree, targets, edges, versions, scratch, at);
+    apply_plans(&mut pruner, table, scratch);
+}
+
+// Makes the plans of the dead slots of the layout, applies their links to the stored rows, and empties the slots.
+pub fn repair_rows(graph: &mut GraphMut<'_>, how: Repair, scratch: &mut [u32], at: Layout)
+    requires together { Together (graph_mut_of graph.old) }
+    requires repairable { Repairable (graph_mut_of graph.old) how scratch.old at }
+    ensures { Repaired (graph_mut_of graph.old) how scratch.old at (graph_mut_of graph.new) scratch.new × SameGraph graph.old graph.new }
+{
+    let space = graph.space;
+    let degree = graph.degree;
+    let read = graph.read();
+    make_plans(&read, how, scratch, at);
+    let versions = &mut *graph.versions;
+    let marks = &mut *graph.marks;
+    let mut rows = RowsMut {
+        degree,
+        targets: graph.targets,
+        edges: graph.edges,
+        versions,
+    };
+    link_rows(&space, &mut rows, marks, how, scratch, at);
+    graph.finish_all(scratch, at);
 }

@@ -1,12 +1,11 @@
 // A batch of deletes, in the region `work` of the scratch.
-ghost use Rattle.slots.specs.Store.{arrays};
+ghost use Rattle.deletion.specs.Lent.{graph_mut_of, SameGraph};
 ghost use Rattle.deletion.specs.Batch.{Deletable, BatchDeleted};
 
 use super::acts::{repair_rows, take_slots};
+use super::graph::GraphMut;
 use super::named::{clear, new_entry};
 use super::plans::Repair;
-use slots::{Graph, Rows};
-use vectors::Space;
 
 // How many slots a delete empties, and the entry after it.
 #[derive(Clone, Copy)]
@@ -16,46 +15,28 @@ pub struct Emptied {
 }
 
 // Deletes the live ones of `ids` and repairs the rows around them. Returns how many they are, and the entry after it. Their stats are left in the
-// scratch, four words each.
+// scratch, four words each. A repair degree of 0 acts as 1.
 pub fn delete_batch(
-    alpha: f32,
-    space: &Space<'_>,
-    degree: usize,
-    targets: &mut [u32],
-    edges: &mut [u16],
-    versions: &mut [u16],
-    marks: &mut [u8],
-    entry: u32,
+    graph: &mut GraphMut<'_>,
+    how: Repair,
     ids: &[u32],
-    repair_beam: usize,
-    repair_degree: usize,
     scratch: &mut [u32],
 ) -> Emptied
-    requires { Deletable (arrays space.now.dim degree space.now.vectors.now targets.old edges.old versions.old marks.old) entry repair_beam repair_degree ids.now scratch.old }
-    ensures { BatchDeleted (arrays space.now.dim degree space.now.vectors.now targets.old edges.old versions.old marks.old) alpha entry repair_beam repair_degree ids.now
-        (arrays space.now.dim degree space.now.vectors.now targets.new edges.new versions.new marks.new) result.entry result.count scratch.new }
+    requires { Deletable (graph_mut_of graph.old) how.entry how.beam how.degree ids.now scratch.old }
+    ensures { BatchDeleted (graph_mut_of graph.old) how.alpha how.entry how.beam how.degree ids.now (graph_mut_of graph.new) result.entry result.count scratch.new × SameGraph graph.old graph.new }
 {
-    let graph = Graph {
-        space: *space,
-        rows: Rows {
-            degree,
-            targets,
-            edges,
-            versions,
-            marks,
-        },
-    };
-    let at = take_slots(&graph, ids, scratch);
+    let read = graph.read();
+    let at = take_slots(&read, ids, scratch);
+    let marks = &mut *graph.marks;
     clear(marks, scratch, at);
-    let entry = new_entry(marks, entry, scratch, at);
+    let entry = new_entry(marks, how.entry, scratch, at);
     let how = Repair {
+        alpha: how.alpha,
         entry,
-        beam: repair_beam,
-        degree: repair_degree.max(1),
+        beam: how.beam,
+        degree: how.degree.max(1),
     };
-    repair_rows(
-        alpha, space, degree, targets, edges, versions, marks, how, scratch, at,
-    );
+    repair_rows(graph, how, scratch, at);
     Emptied {
         count: at.count,
         entry,

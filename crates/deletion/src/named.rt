@@ -1,4 +1,4 @@
-// The slots that a delete empties, and what becomes of their marks and the entry.
+// The slots that a delete empties, and what becomes of their marks and the entry. Candidates lie in words that C lends, so a list is a place and a number.
 ghost use Rattle.std.specs.Prelude.{◌≡◌, ◌+◌, ◌*◌, ◌≤◌, length};
 ghost use Rattle.candidates.specs.Candidates as Candidates;
 ghost use Rattle.candidates.specs.Inner.Words.{cands};
@@ -9,7 +9,8 @@ use candidates::{has_id, id_at, keep_first, put, sort_by_distance};
 use slots::kill;
 use slots::marks::is_valid;
 
-// The live ones of `ids`, as candidates at `at`. Returns how many they are.
+// The live ones of `ids`, as candidates at `at`. Returns how many they are. Written by hand: with `filter` and `zip` over the words their number would still have to
+// be counted, so that is no plainer.
 fn gather(ids: &[u32], marks: &[u8], scratch: &mut [u32], at: usize) -> usize
     requires { at + 2 * length ids.now ≤ length scratch.old }
     ensures { Gathered marks.now ids.now scratch.old at result scratch.new }

@@ -1,4 +1,4 @@
-// The plans of a delete: the candidates of each, and its four counts.
+// The plans of a delete: the candidates of each, and its four counts. They lie in words that C lends, so a list is a place and a number.
 ghost use Rattle.std.specs.Prelude.{◌≡◌, ◌+◌, ◌<◌, ◌≤◌, length};
 ghost use Rattle.slots.specs.Lent.{graph_of};
 ghost use Rattle.deletion.specs.Inner.Naming.{Inside};
@@ -12,9 +12,11 @@ use row::live_scored;
 use slots::Graph;
 use walk::search_pool;
 
-// How rows are repaired: walks begin at `entry` and keep `beam` candidates, and a slot is linked with the `degree` nearest of those connected before it.
+// How rows are repaired: walks begin at `entry` and keep `beam` candidates, a slot is linked with the `degree` nearest of those connected before it, and rows are
+// pruned with `alpha`.
 #[derive(Clone, Copy)]
 pub struct Repair {
+    pub alpha: f32,
     pub entry: u32,
     pub beam: usize,
     pub degree: usize,
@@ -33,6 +35,7 @@ pub fn take_rows(graph: &Graph<'_>, scratch: &mut [u32], at: Layout)
 }
 
 // Of the `n` candidates at `at` the slots whose rows hold `id` in its present version, as candidates at `to`. Returns how many they are.
+// Written by hand: the words that are read are those that are written, so no iterator can go over them meanwhile.
 fn recover(graph: &Graph<'_>, id: u32, scratch: &mut [u32], at: usize, n: usize, to: usize) -> usize
     requires { RowsIn (graph_of graph.now) scratch.old at n to }
     ensures { Passed (refers (graph_of graph.now) id) scratch.old at n to result scratch.new }

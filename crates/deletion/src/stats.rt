@@ -1,4 +1,4 @@
-// The stats of a delete: four counts for each slot emptied, first as words, then as records.
+// The stats of a delete: four counts for each slot emptied, first as words, then as records. The words are some of those that C lends, from a place on.
 ghost use Rattle.std.specs.Prelude.{◌≡◌, ◌+◌, ◌*◌, ◌≤◌, length};
 ghost use Rattle.lists.specs.Lists.{put_front};
 ghost use Rattle.deletion.specs.Batch.{record_of, records_of};

@@ -1,9 +1,9 @@
 -- What a run of each exported function does: the proof of `ExportedPerforms`. Assumes nothing.
 use Prim.Native.Nat.{ℕ}
 use mathlib.Core.Bool.{Bool, true, false, cond}
-use mathlib.Core.List.{List, [], map}
+use mathlib.Core.List.{List, [], ◌∷◌, map}
 use mathlib.Core.Logic.{◌⊎◌, inl, inr, ⊎_elim}
-use mathlib.Core.Option.{some}
+use mathlib.Core.Option.{Option, none, some}
 use mathlib.Core.Path.{◌≡◌, refl, sym, ap, ◌∙◌, subst}
 use lib.Dec.{eqb}
 use lib.Ieee.{Float}
@@ -13,9 +13,11 @@ use Rattle.lists.specs.Lists.{range}
 use Rattle.lists.proofs.Ranges.{length_range}
 use Rattle.vectors.specs.Distance.{f32}
 use Rattle.candidates.specs.Candidates.{Candidate}
-use Rattle.slots.specs.Store.{Store, store_view}
+use Rattle.slots.specs.Store.{Store, or_blank, store_view}
 use Rattle.calls.specs.Calls.{Making, Search, Insert, Delete, Operation, create, read, read_vector, search, insert, delete, Answer, refused, created, alpha, vector, refused_as, Assess, enable, assess, guarded_delete}
 use Rattle.guard.specs.Guard.{Config, config, off, on}
+use Rattle.guard.specs.Guard as Guard
+use Rattle.guard.specs.Lent.{entry_of}
 use Rattle.admission.specs.declared.report.Report.{Report}
 use Rattle.calls.specs.Calls as Answers
 use Rattle.calls.specs.Outputs.{no_outputs, written}
@@ -50,8 +52,8 @@ use Rattle.guarding.specs.Guarded.{guarded_outputs, guarded_as, index_kept}
 use Rattle.guarding.specs.declared.Status.{Status}
 use Rattle.guarding.specs.declared.Enabled.{Enabled}
 use Rattle.guarding.specs.Guarding.{standing_as, enabled_as, enabled_index, report_outputs, numbers_of, assessed_as}
-use Rattle.words.specs.GuardWords.{report_words}
-use Rattle.exported.specs.Performs.{value_held, state_in, call_in, put, Rewrites, by_create, by_insert, by_delete, by_enable, by_guarded_delete, Gives, Untouched, Performs, ExportedPerforms}
+use Rattle.words.specs.GuardWords.{flag, report_words}
+use Rattle.exported.specs.Performs.{value_held, state_in, call_in, numbers, put, Rewrites, by_create, by_insert, by_delete, by_enable, by_guarded_delete, Gives, Untouched, Performs, ExportedPerforms}
 
 -- ---- the index that words hold
 
@@ -69,7 +71,7 @@ same_value w =
     λ i. record { sizes = (value_held w).sizes; entry = get_or w 4 0; live = get_or w 5 0; guard = g i }
   where
     go : (b : Bool)
-        → guard_of (cond b None (Some (record { count = get_or w 7 0; multiplier = get_or w 8 0; sample = get_or w 9 0; beam = get_or w 10 0; pool = get_or w 11 0 })))
+        → guard_of (cond b None (Some (record { config = record { count = get_or w 7 0; multiplier = get_or w 8 0; sample = get_or w 9 0; beam = get_or w 10 0 }; pool = get_or w 11 0 })))
         ≡ cond b off (on (config (get_or w 7 0) (get_or w 8 0) (get_or w 9 0) (get_or w 10 0)) (get_or w 11 0))
     go true = refl
     go false = refl
@@ -391,6 +393,26 @@ unfolding put refused_as
 performs_status c =
     performs_looking (λ a h. elim h [ ]) (standing_as c.answer) c.does.meets (standing_tells _ c.answer c.told) (λ n. refl)
 
+-- the words of a report's numbers
+report_told : (r : Guard.Report) → report_words (numbers_of r) ≡ numbers r
+unfolding report_words
+report_told r = go r.entry
+  where
+    go : (o : Option ℕ)
+        → report_words (record {
+          admitted = r.admitted;
+          requested = r.requested;
+          entry = entry_of o;
+          checked = length r.checked;
+          baseline = r.baseline;
+          residual = r.residual;
+          lost = length r.lost;
+          supplemental = r.supplemental;
+        })
+        ≡ flag r.admitted ∷ r.requested ∷ or_blank o ∷ length r.checked ∷ r.baseline ∷ r.residual ∷ length r.lost ∷ r.supplemental ∷ []
+    go none = refl
+    go (some s) = refl
+
 module _ {lent : Memory} {a : Assess} {checked checked' lost lost' scratch scratch' place place' : List ℕ} {status : ℕ}
     (c : AssessesWords lent.words lent.slices a (report_outputs checked lost) scratch (report_outputs checked' lost') scratch' place place' status) where
   assess_tells : (r : Result Report Refusal) → (status, place') ≡ Given.put (map_ok report_words r) place → ((n : Report) → r ≡ Ok n → n ≡ numbers_of c.does.report)
@@ -398,7 +420,7 @@ module _ {lent : Memory} {a : Assess} {checked checked' lost lost' scratch scrat
       → (status, in_guard place' (report_outputs checked' lost')) ≡ put (assessed_as r c.does.report) (in_guard place (report_outputs checked lost))
   unfolding put written assessed_as report_words
   assess_tells (Ok n) e h o =
-      let w = ap (λ x. x.1) e ∙ ap report_words (h n refl) in
+      let w = ap (λ x. x.1) e ∙ ap report_words (h n refl) ∙ report_told c.does.report in
       λ i. ((e i).0, in_guard (w i) (o i))
   assess_tells (Err k) e h o = λ i. ((e i).0, in_guard (e i).1 (o i))
 
@@ -484,10 +506,10 @@ module _ {lent left : Memory} {a : Delete} {stats stats' : List Stats} {checked 
   guarded_tells (Ok (Applied d v)) ts e w g h o =
       let many : length ts ≡ d.count = ap length (w d v refl) ∙ length-map (range 0 d.count) (stats_of scratch' (stats_at (index_of lent.words).capacity)) ∙ length_range 0 d.count in
       let f = ap (λ x. x.1.1) e ∙ sym many in
-      let p = ap (λ x. x.1.2) e ∙ ap report_words (g d v refl) in
+      let p = ap (λ x. x.1.2) e ∙ ap report_words (g d v refl) ∙ report_told c.does.report in
       λ i. ((e i).0, places (f i) (f32 0) 0 [] (p i) (o i))
   guarded_tells (Ok (Deferred v)) ts e w g h o =
-      let p = ap (λ x. x.1.2) e ∙ ap report_words (h v refl) in
+      let p = ap (λ x. x.1.2) e ∙ ap report_words (h v refl) ∙ report_told c.does.report in
       λ i. ((e i).0, places (e i).1.1 (f32 0) 0 [] (p i) (o i))
   guarded_tells (Err k) ts e w g h o = λ i. ((e i).0, places (e i).1.1 (f32 0) 0 [] (e i).1.2 (o i))
 

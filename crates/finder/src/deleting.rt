@@ -2,15 +2,17 @@
 ghost use Rattle.std.specs.Prelude.{map};
 ghost use Rattle.slots.specs.Sizes.{slices};
 ghost use Rattle.deletion.specs.Batch.{stats_in};
-ghost use Rattle.updating.specs.declared.Naming.TheVariants.{Slots, Numbers};
+ghost use Rattle.updating.specs.declared.names.Naming.TheVariants.{Slots, Numbers};
 ghost use Rattle.updating.specs.Delete.{deleting, stats_outputs};
 ghost use Rattle.words.specs.Given.{DeletesWords};
 
 use deletion::{DeleteStats, write_stats};
-use updating::Naming;
+use index::DeleteSlices;
+use updating::{Deleting, Naming};
 use words::delete_words;
 
 // Deletes the live ones of `ids` and repairs the rows around them; writes the stats of each to the front of `stats`, the index's words and how many they are.
+#[tactic(auto, using(words::proofs::Emptied::deletes_words))]
 #[unsafe(no_mangle)]
 pub extern "C" fn finder_delete(
     words: &mut [u32; 12],
@@ -31,8 +33,7 @@ pub extern "C" fn finder_delete(
 ) -> u32
     ensures { DeletesWords words.old (slices vectors.now targets.old edges.old versions.old marks.old pool.now numbers.old summary.old) (deleting ids.now Slots repair_beam repair_degree) (stats_outputs (map stats_in stats.old)) scratch.old words.new (slices vectors.now targets.new edges.new versions.new marks.new pool.now numbers.new summary.new) (stats_outputs (map stats_in stats.new)) scratch.new found.old found.new result }
 {
-    let left = delete_words(
-        words,
+    let mut slices = DeleteSlices {
         vectors,
         targets,
         edges,
@@ -41,19 +42,21 @@ pub extern "C" fn finder_delete(
         pool,
         numbers,
         summary,
-        ids,
-        Naming::Slots,
+    };
+    let asked = Deleting {
+        names: ids,
+        naming: Naming::Slots,
         repair_beam,
         repair_degree,
-        stats.len(),
-        scratch,
-        found,
-    );
+    };
+    let room = stats.len();
+    let left = delete_words(words, &mut slices, &asked, room, scratch, found);
     write_stats(stats, scratch, left.at, left.count);
     left.status
 }
 
 // The same, of the slots that carry the numbers `names`.
+#[tactic(auto, using(words::proofs::Emptied::deletes_words))]
 #[unsafe(no_mangle)]
 pub extern "C" fn finder_delete_numbers(
     words: &mut [u32; 12],
@@ -74,8 +77,7 @@ pub extern "C" fn finder_delete_numbers(
 ) -> u32
     ensures { DeletesWords words.old (slices vectors.now targets.old edges.old versions.old marks.old pool.now numbers.old summary.old) (deleting names.now Numbers repair_beam repair_degree) (stats_outputs (map stats_in stats.old)) scratch.old words.new (slices vectors.now targets.new edges.new versions.new marks.new pool.now numbers.new summary.new) (stats_outputs (map stats_in stats.new)) scratch.new found.old found.new result }
 {
-    let left = delete_words(
-        words,
+    let mut slices = DeleteSlices {
         vectors,
         targets,
         edges,
@@ -84,14 +86,15 @@ pub extern "C" fn finder_delete_numbers(
         pool,
         numbers,
         summary,
+    };
+    let asked = Deleting {
         names,
-        Naming::Numbers,
+        naming: Naming::Numbers,
         repair_beam,
         repair_degree,
-        stats.len(),
-        scratch,
-        found,
-    );
+    };
+    let room = stats.len();
+    let left = delete_words(words, &mut slices, &asked, room, scratch, found);
     write_stats(stats, scratch, left.at, left.count);
     left.status
 }

@@ -4,9 +4,13 @@ ghost use Rattle.guard.specs.Guard.{config};
 ghost use Rattle.guarding.specs.Guarding.{assessing, report_outputs};
 ghost use Rattle.words.specs.Given.{StandsWords, EnablesWords, AssessesWords};
 
+use admission::Lists;
+use guard::Config;
+use index::{EnableSlices, Slices};
 use words::{index_from, put_enabled, put_report, put_status};
 
 // Enables the guard, which may be on already, and writes the words of the index and the guard's status.
+#[tactic(auto, using(words::proofs::Guarded::enabled_number, words::proofs::Guarded::enables_words))]
 #[unsafe(no_mangle)]
 pub extern "C" fn finder_guard_enable(
     words: &mut [u32; 12],
@@ -28,8 +32,7 @@ pub extern "C" fn finder_guard_enable(
     ensures { EnablesWords words.old (slices vectors.now targets.now edges.now versions.now marks.now pool.old numbers.now summary.now) (config landmark_count multiplier sample beam) scratch.old words.new (slices vectors.now targets.now edges.now versions.now marks.now pool.new numbers.now summary.now) scratch.new status.old status.new result }
 {
     let held = index_from(words);
-    let answer = guarding::enable_guard(
-        held,
+    let mut slices = EnableSlices {
         vectors,
         targets,
         edges,
@@ -38,12 +41,14 @@ pub extern "C" fn finder_guard_enable(
         pool,
         numbers,
         summary,
-        landmark_count,
+    };
+    let config = Config {
+        count: landmark_count,
         multiplier,
         sample,
         beam,
-        scratch,
-    );
+    };
+    let answer = guarding::enable_guard(held, &mut slices, config, scratch);
     put_enabled(answer, words, status)
 }
 
@@ -63,10 +68,17 @@ pub extern "C" fn finder_guard_status(
 ) -> u32
     ensures { StandsWords words.now (slices vectors.now targets.now edges.now versions.now marks.now pool.now numbers.now summary.now) status.old status.new result }
 {
-    let held = index_from(words);
-    let answer = guarding::guard_status(
-        held, vectors, targets, edges, versions, marks, pool, numbers, summary,
-    );
+    let slices = Slices {
+        vectors,
+        targets,
+        edges,
+        versions,
+        marks,
+        pool,
+        numbers,
+        summary,
+    };
+    let answer = guarding::guard_status(index_from(words), &slices);
     put_status(answer, status)
 }
 
@@ -91,9 +103,17 @@ pub extern "C" fn finder_assess(
     ensures { AssessesWords words.now (slices vectors.now targets.now edges.now versions.now marks.now pool.now numbers.now summary.now) (assessing ids.now) (report_outputs checked.old lost.old) scratch.old (report_outputs checked.new lost.new) scratch.new report.old report.new result }
 {
     let held = index_from(words);
-    let answer = guarding::assess_delete(
-        held, vectors, targets, edges, versions, marks, pool, numbers, summary, ids, checked, lost,
-        scratch,
-    );
+    let slices = Slices {
+        vectors,
+        targets,
+        edges,
+        versions,
+        marks,
+        pool,
+        numbers,
+        summary,
+    };
+    let mut lists = Lists { checked, lost };
+    let answer = guarding::assess_delete(held, &slices, ids, &mut lists, scratch);
     put_report(answer, report)
 }

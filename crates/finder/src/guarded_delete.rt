@@ -2,17 +2,20 @@
 ghost use Rattle.std.specs.Prelude.{map};
 ghost use Rattle.slots.specs.Sizes.{slices};
 ghost use Rattle.deletion.specs.Batch.{stats_in};
-ghost use Rattle.updating.specs.declared.Naming.TheVariants.{Slots, Numbers};
+ghost use Rattle.updating.specs.declared.names.Naming.TheVariants.{Slots, Numbers};
 ghost use Rattle.updating.specs.Delete.{deleting};
 ghost use Rattle.guarding.specs.Guarded.{guarded_outputs};
 ghost use Rattle.words.specs.Given.{GuardsWords};
 
+use admission::Lists;
 use deletion::{DeleteStats, write_stats};
-use updating::Naming;
-use words::guarded_words;
+use index::DeleteSlices;
+use updating::{Deleting, Naming};
+use words::{Written, guarded_words};
 
 // Deletes the live ones of `ids` if the guard admits it, which the report says; writes the report's numbers, the landmarks checked and lost, and how many
 // slots are emptied; where it is applied, also the stats of each to the front of `stats` and the index's words.
+#[tactic(auto, using(words::proofs::Applied::guards_words))]
 #[unsafe(no_mangle)]
 pub extern "C" fn finder_guarded_delete(
     words: &mut [u32; 12],
@@ -36,8 +39,7 @@ pub extern "C" fn finder_guarded_delete(
 ) -> u32
     ensures { GuardsWords words.old (slices vectors.now targets.old edges.old versions.old marks.old pool.now numbers.old summary.old) (deleting ids.now Slots repair_beam repair_degree) (guarded_outputs (map stats_in stats.old) checked.old lost.old) scratch.old words.new (slices vectors.now targets.new edges.new versions.new marks.new pool.now numbers.new summary.new) (guarded_outputs (map stats_in stats.new) checked.new lost.new) scratch.new found.old found.new report.old report.new result }
 {
-    let left = guarded_words(
-        words,
+    let mut slices = DeleteSlices {
         vectors,
         targets,
         edges,
@@ -46,22 +48,27 @@ pub extern "C" fn finder_guarded_delete(
         pool,
         numbers,
         summary,
-        ids,
-        Naming::Slots,
+    };
+    let asked = Deleting {
+        names: ids,
+        naming: Naming::Slots,
         repair_beam,
         repair_degree,
-        stats.len(),
-        checked,
-        lost,
-        scratch,
+    };
+    let room = stats.len();
+    let mut lists = Lists { checked, lost };
+    let mut written = Written {
+        words,
         found,
         report,
-    );
+    };
+    let left = guarded_words(&mut written, &mut slices, &asked, room, &mut lists, scratch);
     write_stats(stats, scratch, left.at, left.count);
     left.status
 }
 
 // The same, of the slots that carry the numbers `names`.
+#[tactic(auto, using(words::proofs::Applied::guards_words))]
 #[unsafe(no_mangle)]
 pub extern "C" fn finder_guarded_delete_numbers(
     words: &mut [u32; 12],
@@ -85,8 +92,7 @@ pub extern "C" fn finder_guarded_delete_numbers(
 ) -> u32
     ensures { GuardsWords words.old (slices vectors.now targets.old edges.old versions.old marks.old pool.now numbers.old summary.old) (deleting names.now Numbers repair_beam repair_degree) (guarded_outputs (map stats_in stats.old) checked.old lost.old) scratch.old words.new (slices vectors.now targets.new edges.new versions.new marks.new pool.now numbers.new summary.new) (guarded_outputs (map stats_in stats.new) checked.new lost.new) scratch.new found.old found.new report.old report.new result }
 {
-    let left = guarded_words(
-        words,
+    let mut slices = DeleteSlices {
         vectors,
         targets,
         edges,
@@ -95,17 +101,21 @@ pub extern "C" fn finder_guarded_delete_numbers(
         pool,
         numbers,
         summary,
+    };
+    let asked = Deleting {
         names,
-        Naming::Numbers,
+        naming: Naming::Numbers,
         repair_beam,
         repair_degree,
-        stats.len(),
-        checked,
-        lost,
-        scratch,
+    };
+    let room = stats.len();
+    let mut lists = Lists { checked, lost };
+    let mut written = Written {
+        words,
         found,
         report,
-    );
+    };
+    let left = guarded_words(&mut written, &mut slices, &asked, room, &mut lists, scratch);
     write_stats(stats, scratch, left.at, left.count);
     left.status
 }

@@ -3,6 +3,8 @@ ghost use Rattle.slots.specs.Sizes.{slices};
 ghost use Rattle.updating.specs.Insert.{inserting, insert_outputs};
 ghost use Rattle.words.specs.Given.{InsertsWords};
 
+use index::InsertSlices;
+use updating::Inserting;
 use words::{index_from, put_changed};
 
 // Inserts the vectors of `bytes` with the numbers `given` into the lowest free slots, which go to the front of `slots`; writes the index's words and how many they are.
@@ -27,9 +29,21 @@ pub extern "C" fn finder_insert(
     ensures { InsertsWords words.old (slices vectors.old targets.old edges.old versions.now marks.old pool.now numbers.old summary.old) (inserting bytes.now given.now beam) (insert_outputs slots.old) scratch.old words.new (slices vectors.new targets.new edges.new versions.now marks.new pool.now numbers.new summary.new) (insert_outputs slots.new) scratch.new found.old found.new result }
 {
     let held = index_from(words);
-    let answer = updating::insert(
-        held, vectors, targets, edges, versions, marks, pool, numbers, summary, bytes, given, beam,
-        slots, scratch,
-    );
+    let mut slices = InsertSlices {
+        vectors,
+        targets,
+        edges,
+        versions,
+        marks,
+        pool,
+        numbers,
+        summary,
+    };
+    let asked = Inserting {
+        bytes,
+        numbers: given,
+        beam,
+    };
+    let answer = updating::insert(held, &mut slices, &asked, slots, scratch);
     put_changed(answer, words, found)
 }

@@ -4,6 +4,7 @@ ghost use Rattle.slots.specs.Sizes.{slices};
 ghost use Rattle.index.specs.Create.{making};
 ghost use Rattle.words.specs.Given.{SizesScratch, CreatesWords};
 
+use index::{Making, NewSlices};
 use words::{put, put_created};
 
 // 10,000 for each major version, 100 for each minor one and 1 for each patch.
@@ -26,6 +27,7 @@ pub extern "C" fn finder_scratch_words(dim: u32, capacity: u32, degree: u32, siz
 }
 
 // Makes an index of the given vectors, rows and numbers in the eight lent slices, and writes its words.
+#[tactic(auto, using(words::proofs::Told::made_number, words::proofs::Told::creates_words))]
 #[unsafe(no_mangle)]
 pub extern "C" fn finder_create(
     dim: u32,
@@ -49,9 +51,26 @@ pub extern "C" fn finder_create(
 ) -> u32
     ensures { CreatesWords (making dim capacity degree alpha entry count bytes.now rows.now given.now) (slices vectors.old targets.old edges.old versions.old marks.old pool.old numbers.old summary.old) (slices vectors.new targets.new edges.new versions.new marks.new pool.new numbers.new summary.new) words.old words.new result }
 {
-    let made = index::create(
-        dim, capacity, degree, alpha, entry, count, bytes, rows, given, vectors, targets, edges,
-        versions, marks, pool, numbers, summary,
-    );
-    put_created(made, words)
+    let asked = Making {
+        dim,
+        capacity,
+        degree,
+        alpha,
+        entry,
+        count,
+        bytes,
+        rows,
+        numbers: given,
+    };
+    let mut slices = NewSlices {
+        vectors,
+        targets,
+        edges,
+        versions,
+        marks,
+        pool,
+        numbers,
+        summary,
+    };
+    put_created(index::create(&asked, &mut slices), words)
 }

@@ -3,6 +3,7 @@ ghost use Rattle.slots.specs.Sizes.{slices};
 ghost use Rattle.reading.specs.declared.Reading.TheVariants.{Dim, Capacity, Degree, Alpha, Entry, Live, Mark, Version, Number, Target};
 ghost use Rattle.words.specs.Given.{ReadsNumber, ReadsAlpha, ReadsLength};
 
+use index::Slices;
 use reading::Reading;
 use words::{index_from, put_alpha, read_number, read_value};
 
@@ -22,8 +23,7 @@ pub extern "C" fn finder_dim(
 ) -> u32
     ensures { ReadsNumber words.now (slices vectors.now targets.now edges.now versions.now marks.now pool.now numbers.now summary.now) Dim value.old value.new result }
 {
-    read_number(
-        words,
+    let slices = Slices {
         vectors,
         targets,
         edges,
@@ -32,9 +32,8 @@ pub extern "C" fn finder_dim(
         pool,
         numbers,
         summary,
-        Reading::Dim,
-        value,
-    )
+    };
+    read_number(words, &slices, Reading::Dim, value)
 }
 
 // The capacity.
@@ -53,8 +52,7 @@ pub extern "C" fn finder_capacity(
 ) -> u32
     ensures { ReadsNumber words.now (slices vectors.now targets.now edges.now versions.now marks.now pool.now numbers.now summary.now) Capacity value.old value.new result }
 {
-    read_number(
-        words,
+    let slices = Slices {
         vectors,
         targets,
         edges,
@@ -63,9 +61,8 @@ pub extern "C" fn finder_capacity(
         pool,
         numbers,
         summary,
-        Reading::Capacity,
-        value,
-    )
+    };
+    read_number(words, &slices, Reading::Capacity, value)
 }
 
 // The degree.
@@ -84,8 +81,7 @@ pub extern "C" fn finder_degree(
 ) -> u32
     ensures { ReadsNumber words.now (slices vectors.now targets.now edges.now versions.now marks.now pool.now numbers.now summary.now) Degree value.old value.new result }
 {
-    read_number(
-        words,
+    let slices = Slices {
         vectors,
         targets,
         edges,
@@ -94,9 +90,8 @@ pub extern "C" fn finder_degree(
         pool,
         numbers,
         summary,
-        Reading::Degree,
-        value,
-    )
+    };
+    read_number(words, &slices, Reading::Degree, value)
 }
 
 // The entry.
@@ -115,8 +110,7 @@ pub extern "C" fn finder_entry(
 ) -> u32
     ensures { ReadsNumber words.now (slices vectors.now targets.now edges.now versions.now marks.now pool.now numbers.now summary.now) Entry value.old value.new result }
 {
-    read_number(
-        words,
+    let slices = Slices {
         vectors,
         targets,
         edges,
@@ -125,9 +119,8 @@ pub extern "C" fn finder_entry(
         pool,
         numbers,
         summary,
-        Reading::Entry,
-        value,
-    )
+    };
+    read_number(words, &slices, Reading::Entry, value)
 }
 
 // The live count.
@@ -146,8 +139,7 @@ pub extern "C" fn finder_live(
 ) -> u32
     ensures { ReadsNumber words.now (slices vectors.now targets.now edges.now versions.now marks.now pool.now numbers.now summary.now) Live value.old value.new result }
 {
-    read_number(
-        words,
+    let slices = Slices {
         vectors,
         targets,
         edges,
@@ -156,9 +148,8 @@ pub extern "C" fn finder_live(
         pool,
         numbers,
         summary,
-        Reading::Live,
-        value,
-    )
+    };
+    read_number(words, &slices, Reading::Live, value)
 }
 
 // The mark of a slot: 1 if it is live, else 0.
@@ -178,8 +169,7 @@ pub extern "C" fn finder_mark(
 ) -> u32
     ensures { ReadsNumber words.now (slices vectors.now targets.now edges.now versions.now marks.now pool.now numbers.now summary.now) (Mark slot) value.old value.new result }
 {
-    read_number(
-        words,
+    let slices = Slices {
         vectors,
         targets,
         edges,
@@ -188,9 +178,8 @@ pub extern "C" fn finder_mark(
         pool,
         numbers,
         summary,
-        Reading::Mark(slot),
-        value,
-    )
+    };
+    read_number(words, &slices, Reading::Mark(slot), value)
 }
 
 // The version of a slot.
@@ -210,8 +199,7 @@ pub extern "C" fn finder_slot_version(
 ) -> u32
     ensures { ReadsNumber words.now (slices vectors.now targets.now edges.now versions.now marks.now pool.now numbers.now summary.now) (Version slot) value.old value.new result }
 {
-    read_number(
-        words,
+    let slices = Slices {
         vectors,
         targets,
         edges,
@@ -220,9 +208,8 @@ pub extern "C" fn finder_slot_version(
         pool,
         numbers,
         summary,
-        Reading::Version(slot),
-        value,
-    )
+    };
+    read_number(words, &slices, Reading::Version(slot), value)
 }
 
 // The figure number of a slot.
@@ -242,8 +229,7 @@ pub extern "C" fn finder_number(
 ) -> u32
     ensures { ReadsNumber words.now (slices vectors.now targets.now edges.now versions.now marks.now pool.now numbers.now summary.now) (Number slot) value.old value.new result }
 {
-    read_number(
-        words,
+    let slices = Slices {
         vectors,
         targets,
         edges,
@@ -252,9 +238,8 @@ pub extern "C" fn finder_number(
         pool,
         numbers,
         summary,
-        Reading::Number(slot),
-        value,
-    )
+    };
+    read_number(words, &slices, Reading::Number(slot), value)
 }
 
 // The target with `place` live ones before it in a slot's row; blank past the last.
@@ -275,8 +260,7 @@ pub extern "C" fn finder_target(
 ) -> u32
     ensures { ReadsNumber words.now (slices vectors.now targets.now edges.now versions.now marks.now pool.now numbers.now summary.now) (Target slot place) value.old value.new result }
 {
-    read_number(
-        words,
+    let slices = Slices {
         vectors,
         targets,
         edges,
@@ -285,12 +269,12 @@ pub extern "C" fn finder_target(
         pool,
         numbers,
         summary,
-        Reading::Target(slot, place),
-        value,
-    )
+    };
+    read_number(words, &slices, Reading::Target(slot, place), value)
 }
 
 // Alpha.
+#[tactic(auto, using(words::proofs::Told::reads_alpha))]
 #[unsafe(no_mangle)]
 pub extern "C" fn finder_alpha(
     words: &[u32; 12],
@@ -306,8 +290,7 @@ pub extern "C" fn finder_alpha(
 ) -> u32
     ensures { ReadsAlpha words.now (slices vectors.now targets.now edges.now versions.now marks.now pool.now numbers.now summary.now) value.old value.new result }
 {
-    let read = read_value(
-        words,
+    let slices = Slices {
         vectors,
         targets,
         edges,
@@ -316,8 +299,8 @@ pub extern "C" fn finder_alpha(
         pool,
         numbers,
         summary,
-        Reading::Alpha,
-    );
+    };
+    let read = read_value(words, &slices, Reading::Alpha);
     put_alpha(read, value)
 }
 
@@ -337,9 +320,15 @@ pub extern "C" fn finder_vector(
 ) -> usize
     ensures { ReadsLength words.now (slices vectors.now targets.now edges.now versions.now marks.now pool.now numbers.now summary.now) slot result }
 {
-    let held = index_from(words);
-    let part = reading::read_vector(
-        held, vectors, targets, edges, versions, marks, pool, numbers, summary, slot,
-    );
-    part.len()
+    let slices = Slices {
+        vectors,
+        targets,
+        edges,
+        versions,
+        marks,
+        pool,
+        numbers,
+        summary,
+    };
+    reading::read_vector(index_from(words), &slices, slot).len()
 }

@@ -3,6 +3,8 @@ ghost use Rattle.slots.specs.Sizes.{slices};
 ghost use Rattle.reading.specs.Search.{searching, search_outputs};
 ghost use Rattle.words.specs.Given.{SearchesWords};
 
+use index::Slices;
+use reading::{Found, Searching};
 use words::{index_from, put};
 
 // The `k` nearest that the walk from the entry finds: their slots, distances and figure numbers, and how many they are.
@@ -29,8 +31,7 @@ pub extern "C" fn finder_search(
     ensures { SearchesWords words.now (slices vectors.now targets.now edges.now versions.now marks.now pool.now numbers.now summary.now) (searching query.now k beam) (search_outputs slots.old dists.old found_numbers.old) scratch.old (search_outputs slots.new dists.new found_numbers.new) scratch.new found.old found.new result }
 {
     let held = index_from(words);
-    let answer = reading::search(
-        held,
+    let slices = Slices {
         vectors,
         targets,
         edges,
@@ -39,13 +40,13 @@ pub extern "C" fn finder_search(
         pool,
         numbers,
         summary,
-        query,
-        k,
-        beam,
+    };
+    let asked = Searching { query, k, beam };
+    let mut lists = Found {
         slots,
         dists,
-        found_numbers,
-        scratch,
-    );
+        numbers: found_numbers,
+    };
+    let answer = reading::search(held, &slices, &asked, &mut lists, scratch);
     put(answer, found)
 }

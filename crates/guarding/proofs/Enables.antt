@@ -1,7 +1,7 @@
 -- Enabling the guard: what the code decides, chooses and answers is what the definitions say. Assumes nothing.
-use Prim.Native.Nat.{ℕ, ◌≤◌, ◌<◌}
+use Prim.Native.Nat.{ℕ, max, ◌≤◌, ◌<◌}
 use mathlib.Core.Bool.{Bool, true, false, not, ◌||◌}
-use mathlib.Core.Path.{◌≡◌, refl, sym, ap, ◌∙◌}
+use mathlib.Core.Path.{◌≡◌, refl, sym, ap, ◌∙◌, subst}
 use mathlib.Core.List.{List, [], ◌∷◌}
 use mathlib.Core.Option.{some}
 use native.Mathlib.Omega.{arith}
@@ -14,11 +14,12 @@ use Rattle.slots.specs.Sizes.{Slices, Lengths, lengths_of, limits, sizes_ok, alp
 use Rattle.slots.specs.Scratch.{size_answer}
 use Rattle.slots.specs.View.{View, live_slots}
 use Rattle.slots.specs.Store.{Store, store_view, store_ops}
-use Rattle.guard.specs.Guard.{Config, config, normalized, on, pool_of, residual_entry, landmark_pool}
+use Rattle.guard.specs.Lent.{config_of}
+use Rattle.guard.specs.Guard.{Config, normalized, on, pool_of, residual_entry, landmark_pool}
 use Rattle.admission.specs.Inner.Pools.{Entered, Poolable, Pooled}
 use Rattle.admission.proofs.Entering.{entered_live}
 use Rattle.index.specs.declared.Index.{Index}
-use Rattle.index.specs.declared.Settings.{Settings}
+use Rattle.guard.specs.declared.Config as lent
 use Rattle.calls.specs.Calls.{Call, enable, standing, refused_as}
 use Rattle.calls.specs.Outputs.{no_outputs, written}
 use Rattle.calls.specs.Refusals.{Test, first_of, guard_fault, config_over, new_pool, index_tests, tests}
@@ -29,22 +30,23 @@ use Rattle.calls.proofs.Tests.{first_none, or_neither}
 use Rattle.calls.proofs.Enabling.{one_live}
 use Rattle.index.specs.Index.{guard_of, state_of}
 use Rattle.numbers.specs.Numbers.{labels_ok}
-use Rattle.index.specs.Inner.Deciding.{Labels, labels_of, Decided, Passed}
+use Rattle.index.specs.Inner.Deciding.{Decided, Passed}
 use Rattle.index.proofs.Decide.{decided_before, decided_after, turned_back, let_through, own_none, passed, passed_marks, passed_bytes, step_back, step_on}
 use Rattle.guarding.specs.declared.Status.{Status}
 use Rattle.index.specs.declared.Refusal.{Refusal}
 use Rattle.index.specs.declared.Refusal.TheVariants as Refused
 use Rattle.index.specs.Refusal.{number_of}
-use Rattle.std.specs.Prelude.{Result, Ok, Err}
+use Rattle.std.specs.Prelude.{Option, Result, Ok, Err}
+use Rattle.std.specs.Option.{unwrap_or}
 use Rattle.guarding.specs.Guarding.{status_of, enabled_as, enabled_index, Enables}
-use Rattle.guarding.specs.Inner.Testing.{enable_tests, Normal, guarded_index, with_pool, Stood}
+use Rattle.guarding.specs.Inner.Testing.{enable_tests, guarded_index, with_pool, Stood}
 use Rattle.guarding.proofs.Shared.{pool_most, guard_room}
 
 -- ---- rows 7, 8, 12 and 13
 
-module _ {index : Index} {lent : Lengths} {looked : Labels} (c : Config) (scratch : ℕ) {A : Type 0} {r : Result A Refusal} (d : Decided index lent looked false [] r) where
+module _ {index : Index} {s : Slices} (c : Config) (scratch : ℕ) {A : Type 0} {r : Result A Refusal} (d : Decided index s false [] r) where
   abbrev Turns : Result A Refusal → Type 0
-  Turns k = Decided index lent looked false (enable_tests index c scratch) k
+  Turns k = Decided index s false (enable_tests index c scratch) k
 
   pub turns_before : {x : Refusal} → r ≡ Err x → Turns (Err x)
   turns_before z = decided_before d _ z
@@ -54,11 +56,11 @@ module _ {index : Index} {lent : Lengths} {looked : Labels} (c : Config) (scratc
       pub turns_over : o ≡ true → Turns (Err Refused.Limits)
       turns_over t = decided_after d _ _ z (rw (sym k ∙ t))
 
-      module _ {s : Bool} (f : o ≡ false) (h : s ≡ ltb scratch (size_answer index.capacity)) where
-        pub turns_short : s ≡ true → Turns (Err Refused.Scratch)
+      module _ {q : Bool} (f : o ≡ false) (h : q ≡ ltb scratch (size_answer index.capacity)) where
+        pub turns_short : q ≡ true → Turns (Err Refused.Scratch)
         turns_short t = decided_after d _ _ z (rw (sym k ∙ f, sym h ∙ t))
 
-        module _ (t : s ≡ false) where
+        module _ (t : q ≡ false) where
           pub turns_empty : index.live ≡ 0 → Turns (Err Refused.NoneLive)
           turns_empty e = decided_after d _ _ z (rw (sym k ∙ f, sym h ∙ t, eq-eqb index.live 0 e))
 
@@ -111,9 +113,9 @@ own_same v c live a b e h =
 
 -- ---- settings that are stored have no fault
 
-fault_free : (c : Config) {s : Settings} {n : ℕ} → config_over limits c ≡ false → Normal c s → n ≤ 1024 → guard_fault limits (on (config s.count s.multiplier s.sample s.beam) n) ≡ false
-unfolding guard_fault limits
-fault_free c {s} {n} o e h =
+fault_free : (c : Config) {n : ℕ} → config_over limits c ≡ false → n ≤ 1024 → guard_fault limits (on (normalized c) n) ≡ false
+unfolding guard_fault limits normalized
+fault_free c {n} o h =
     let o₁ = ltb 64 c.landmark_count in
     let o₂ = ltb 16 c.multiplier in
     let o₃ = ltb 65536 c.sample_size in
@@ -122,20 +124,25 @@ fault_free c {s} {n} o e h =
     let q = or_neither (o₁ || o₂) o₃ p.0 in
     let t = or_neither o₁ o₂ q.0 in
     rw (
-      ne_eqb s.count 0 (λ i. omega (arith, e.count_is)),
-      ne_eqb s.multiplier 0 (λ i. omega (arith, e.multiplier_is)),
-      ne_eqb s.sample 0 (λ i. omega (arith, e.sample_is)),
-      ne_eqb s.beam 0 (λ i. omega (arith, e.beam_is)),
-      le-ltb 64 s.count (omega (arith, e.count_is, ltb-false 64 c.landmark_count t.0)),
-      le-ltb 16 s.multiplier (omega (arith, e.multiplier_is, ltb-false 16 c.multiplier t.1)),
-      le-ltb 65536 s.sample (omega (arith, e.sample_is, ltb-false 65536 c.sample_size q.1)),
-      le-ltb 1024 s.beam (omega (arith, e.beam_is, ltb-false 1024 c.beam p.1)),
+      ne_eqb (max 1 c.landmark_count) 0 (λ i. omega (arith, i)),
+      ne_eqb (max 1 c.multiplier) 0 (λ i. omega (arith, i)),
+      ne_eqb (max 1 c.sample_size) 0 (λ i. omega (arith, i)),
+      ne_eqb (max 1 c.beam) 0 (λ i. omega (arith, i)),
+      le-ltb 64 (max 1 c.landmark_count) (omega (arith, ltb-false 64 c.landmark_count t.0)),
+      le-ltb 16 (max 1 c.multiplier) (omega (arith, ltb-false 16 c.multiplier t.1)),
+      le-ltb 65536 (max 1 c.sample_size) (omega (arith, ltb-false 65536 c.sample_size q.1)),
+      le-ltb 1024 (max 1 c.beam) (omega (arith, ltb-false 1024 c.beam p.1)),
       le-ltb 1024 n h,
     )
 
 -- ---- enabling
 
-module _ (index : Index) (s : Slices) (c : Config) (scratch : List ℕ) {A : Type 0} {r : Result A Refusal} (d : Decided index (lengths_of s) (labels_of s) false (enable_tests index c (length scratch)) r) where
+-- of slices that are read as s₀
+module _ (index : Index) {s₀ s : Slices} (same : s₀ ≡ s) (c : Config) (scratch : List ℕ) {A : Type 0} {r : Result A Refusal}
+    (d₀ : Decided index s₀ false (enable_tests index c (length scratch)) r) where
+  d : Decided index s false (enable_tests index c (length scratch)) r
+  d = subst (λ (x : Slices). Decided index x false (enable_tests index c (length scratch)) r) same d₀
+
   abbrev before : State Store
   before = state_of index s
 
@@ -176,14 +183,30 @@ module _ (index : Index) (s : Slices) (c : Config) (scratch : List ℕ) {A : Typ
     pub marks_few : length s.marks ≤ 65536
     marks_few = omega (arith, passed_marks able, able.capacity_high)
 
-    module _ {start : ℕ} (e : Entered s.marks [] index.entry start) where
+    -- the residual entry: the code's other case does not come up
+    module _ {e : Option ℕ} (f : Entered s.marks [] index.entry e) {start : ℕ} (se : start ≡ unwrap_or e index.entry) where
       entered : (residual_entry (store_view before.graph) [] ≡ some start) × (start < length s.marks)
       unfolding state_of
       entered =
-          entered_live before.graph e refl (sym (passed_marks able)) refl marks_few (omega (arith, passed_marks able, able.entry_inside))
-          (omega (arith, able.live_right, eqb-false index.live 0 own.2))
+          let k =
+          entered_live before.graph f refl (sym (passed_marks able)) refl (omega (arith, passed_marks able, able.entry_inside))
+          (omega (arith, able.live_right, eqb-false index.live 0 own.2)) in
+          let is : start ≡ k.slot = se ∙ ap (λ x. unwrap_or x index.entry) k.is in
+          rw is (k.does, k.inside)
 
-      module _ {t : Settings} (m : Normal c t) where
+      module _ {t : lent.Config} (m : config_of t ≡ normalized c) where
+        count_is : t.count ≡ max 1 c.landmark_count
+        unfolding normalized
+        count_is = ap (λ x. x.landmark_count) m
+
+        multiplier_is : t.multiplier ≡ max 1 c.multiplier
+        unfolding normalized
+        multiplier_is = ap (λ x. x.multiplier) m
+
+        sample_is : t.sample ≡ max 1 c.sample_size
+        unfolding normalized
+        sample_is = ap (λ x. x.sample_size) m
+
         pub pool_ready : Poolable index.dim s.vectors s.marks start t.count t.multiplier t.sample s.pool scratch
         unfolding limits
         pool_ready =
@@ -195,10 +218,10 @@ module _ (index : Index) (s : Slices) (c : Config) (scratch : List ℕ) {A : Typ
               bytes = passed_bytes able;
               few = marks_few;
               entry_inside = entered.1;
-              count_most = omega (arith, m.count_is, ltb-false 64 c.landmark_count q.0);
-              multiplier_some = omega (arith, m.multiplier_is);
-              multiplier_most = omega (arith, m.multiplier_is, ltb-false 16 c.multiplier q.1);
-              sample_some = omega (arith, m.sample_is);
+              count_most = omega (arith, count_is, ltb-false 64 c.landmark_count q.0);
+              multiplier_some = omega (arith, multiplier_is);
+              multiplier_most = omega (arith, multiplier_is, ltb-false 16 c.multiplier q.1);
+              sample_some = omega (arith, sample_is);
               pool_long = pool_most able;
               room = guard_room able scratch own.1;
             }
@@ -207,9 +230,9 @@ module _ (index : Index) (s : Slices) (c : Config) (scratch : List ℕ) {A : Typ
           abbrev new : List ℕ
           new = new_pool (store_view before.graph) c
 
-          chosen_is : landmark_pool (store_view before.graph) (config t.count t.multiplier t.sample t.beam) start ≡ new
-          unfolding new_pool normalized
-          chosen_is = rw (m.count_is, m.multiplier_is, m.sample_is, m.beam_is, entered.0)
+          chosen_is : landmark_pool (store_view before.graph) (config_of t) start ≡ new
+          unfolding new_pool
+          chosen_is = rw (m, entered.0)
 
           words_are : pool' ≡ put_front new s.pool
           unfolding state_of
@@ -222,15 +245,19 @@ module _ (index : Index) (s : Slices) (c : Config) (scratch : List ℕ) {A : Typ
           front : take n pool' ≡ new
           front = rw (many, words_are) (take-append_seam new (drop (length new) s.pool))
 
-          module _ {i : Index} (ie : i ≡ guarded_index index t n) where
-            pub status_ready : length pool' ≡ length s.pool → (guard_fault limits (guard_of i.guard) ≡ false) × (length pool' ≡ limits.pool)
+          -- of slices with that pool, which are read as s₂
+          module _ {i : Index} (ie : i ≡ guarded_index index t n) {s₂ : Slices} (read : s₂ ≡ with_pool s pool') where
+            pub status_ready : length pool' ≡ length s.pool → (guard_fault limits (guard_of i.guard) ≡ false) × (length s₂.pool ≡ limits.pool)
             unfolding guard_of
-            status_ready l = (rw ie (fault_free c own.0 m g.few), l ∙ able.pool_long)
+            status_ready l = (rw (ie, m) (fault_free c own.0 g.few), ap (λ (x : Slices). length x.pool) read ∙ l ∙ able.pool_long)
 
-            module _ {now : Status} (f : Stood (guard_of i.guard) s.marks pool' now) where
+            module _ {now : Status} (h₀ : Stood (guard_of i.guard) s₂.marks s₂.pool now) where
+              h : Stood (guard_of i.guard) s.marks pool' now
+              h = subst (λ (x : Slices). Stood (guard_of i.guard) x.marks x.pool now) read h₀
+
               performed : (state_of i (with_pool s pool'), standing (status_of now)) ≡ perform stored before (enable c)
-              unfolding perform with_guard stored store_ops store_view state_of guard_of pool_of normalized
-              performed = rw (f.does (store_view before.graph) refl, ie, front, words_are, many, m.count_is, m.multiplier_is, m.sample_is, m.beam_is)
+              unfolding perform with_guard stored store_ops store_view state_of guard_of pool_of
+              performed = rw (h.does (store_view before.graph) refl, ie, m, front, words_are, many)
 
               not_refused : (k : ℕ) → refusal stored before call ≡ some k → ⊥
               unfolding refusal

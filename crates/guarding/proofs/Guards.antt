@@ -1,17 +1,16 @@
 -- A guarded delete: what the code decides, reports and writes is what the definitions say. Assumes nothing.
-use Prim.Native.Nat.{ℕ, ◌+◌, ◌-◌, ◌*◌, ◌≤◌, min}
-use mathlib.Core.Bool.{Bool, true, false, ◌&&◌, ◌||◌}
+use Prim.Native.Nat.{ℕ, ◌+◌, ◌*◌, ◌≤◌, min}
+use mathlib.Core.Bool.{Bool, true, false, ◌||◌}
 use mathlib.Core.Path.{◌≡◌, refl, sym, ap, ◌∙◌, subst}
 use mathlib.Core.List.{List, [], ◌∷◌, map}
 use mathlib.Core.Option.{Option, none, some}
 use native.Mathlib.Omega.{arith}
 use borrow.Author.Tests.{ltb-false}
-use lib.Dec.{ltb, leb}
-use lib.ListN.{length, take, replicate, length-replicate}
-use lib.Seq.{length-take-le}
+use lib.Dec.{ltb}
+use lib.ListN.{length, replicate, length-replicate}
 use Rattle.lists.specs.Lists.{range, put_front}
-use Rattle.slots.specs.Sizes.{Slices, slices, lengths_of, limits, alpha_ok}
-use Rattle.slots.specs.Store.{Store, store_view, store_ops, arrays}
+use Rattle.slots.specs.Sizes.{Slices, limits, alpha_ok}
+use Rattle.slots.specs.Store.{Store, store_view, store_ops}
 use Rattle.slots.proofs.Live.{MarksFit, store_marking}
 use Rattle.repair.specs.Delete.{Stats}
 use Rattle.repair.proofs.Count.{sizes_after_delete}
@@ -29,15 +28,13 @@ use Rattle.calls.specs.Step.{slots_of, named, deletion, refusal, perform, guarde
 use Rattle.calls.specs.Runs.{lent_of, slices_of, call_of, run_refusal}
 use Rattle.calls.proofs.Tests.{first_none, or_neither, index_finds}
 use Rattle.calls.proofs.Labelled.{same_guarded, same_guarded_refusal}
-use Rattle.index.specs.Index.{state_of}
-use Rattle.index.specs.Inner.Deciding.{labels_of, Passed}
+use Rattle.index.specs.Index.{state_of, arrays_of}
+use Rattle.index.specs.Inner.Deciding.{Passed}
 use Rattle.index.proofs.Decide.{shared_none, passed_none, passed_marks, step_back, step_on}
 use Rattle.numbers.specs.Inner.Listed.{Struck}
-use Rattle.updating.specs.Inner.Emptying.{slot_delete, fewer, are_numbers, Translated}
-use Rattle.updating.specs.declared.Naming.{Naming}
-use Rattle.updating.specs.Delete.{deleting}
-use Rattle.updating.proofs.Named.{as_they_are, as_slots, from_first}
-use Rattle.updating.proofs.Empties.{delete_able, strike_able, state_left}
+use Rattle.updating.specs.Inner.Emptying.{slot_delete, fewer, BySlots}
+use Rattle.updating.proofs.Named.{same_named, slots_asked}
+use Rattle.updating.proofs.Empties.{delete_able, strike_able, fewer_fits, state_left}
 use Rattle.guarding.specs.declared.Guarded.{Guarded}
 use Rattle.guarding.specs.declared.Guarded.TheVariants.{Applied, Deferred}
 use Rattle.index.specs.declared.Refusal.{Refusal}
@@ -70,7 +67,11 @@ module _ (index : Index) (s : Slices) (ids : List ℕ) (beam degree room : ℕ) 
   abbrev report : Guard.Report
   report = report_of (shown stored (state_of index s)) ids
 
-  module _ {checked' lost' scratch₁ : List ℕ} {r : Result Report Refusal} (t : Tested index s wrong over ids checked lost scratch checked' lost' scratch₁ r) where
+  -- of slices that are read as s₀
+  module _ {s₀ : Slices} (same : s₀ ≡ s) {checked' lost' scratch₁ : List ℕ} {r : Result Report Refusal} (t₀ : Tested index s₀ wrong over ids checked lost scratch checked' lost' scratch₁ r) where
+    t : Tested index s wrong over ids checked lost scratch checked' lost' scratch₁ r
+    t = subst (λ (x : Slices). Tested index x wrong over ids checked lost scratch checked' lost' scratch₁ r) same t₀
+
     -- for a list of that room, by the tests as the definitions have them
     with_list : {q : Result Report Refusal} → r ≡ q → (before : List Stats) → length before ≡ room
         → Tested index s (ltb (length before) (length ids) || ltb (min (length checked) (length lost)) limits.landmarks) (delete_over limits a) ids checked lost scratch checked' lost' scratch₁ q
@@ -135,7 +136,7 @@ module _ (index : Index) (s : Slices) (ids : List ℕ) (beam degree room : ℕ) 
           }
 
       pub guards_able : length scratch₁ ≡ length scratch
-          → Deletable (arrays index.dim index.degree s.vectors s.targets s.edges s.versions s.marks) index.entry beam degree ids scratch₁
+          → Deletable (arrays_of index s) index.entry beam degree ids scratch₁
           × (length s.numbers ≡ length s.marks) × (index.live ≤ length s.summary)
       guards_able k =
           let d = (subst (λ (x : Result Report Refusal). Tested index s wrong over ids checked lost scratch checked' lost' scratch₁ x) e t).decided in
@@ -143,33 +144,34 @@ module _ (index : Index) (s : Slices) (ids : List ℕ) (beam degree room : ℕ) 
           let f = strike_able passes ids beam degree in
           (delete_able passes ids beam degree scratch₁ (sym o ∙ p.0) (rw k p.1), f.0, f.1)
 
-      module _ {targets' edges' versions' marks' numbers' summary' scratch' : List ℕ} {entry' n : ℕ}
-          (b : BatchDeleted (arrays index.dim index.degree s.vectors s.targets s.edges s.versions s.marks) index.alpha index.entry beam degree ids
-          (arrays index.dim index.degree s.vectors targets' edges' versions' marks') entry' n scratch'
-          × Struck marks' s.numbers s.summary index.live numbers' summary')
-          (lm : length marks' ≡ length s.marks) where
+      -- of the slices that the batch leaves
+      module _ (s' : Slices) {scratch' : List ℕ} {entry' n : ℕ} (b : BatchDeleted (arrays_of index s) index.alpha index.entry beam degree ids (arrays_of index s') entry' n scratch')
+          (k : Struck s'.marks s.numbers s.summary index.live s'.numbers s'.summary) where
+        pub guards_few : n ≤ index.live
+        guards_few = (fewer_fits passes ids beam degree s' b k).0
+
         enough : n ≤ room
         enough =
             let d = (subst (λ (x : Result Report Refusal). Tested index s wrong over ids checked lost scratch checked' lost' scratch₁ x) e t).decided in
-            let k = (or_neither (ltb room (length ids)) _ (sym w ∙ lists_right index s wrong over scratch d refl)).0 in
-            omega (arith, b.0.few, ltb-false room (length ids) k)
+            let q = (or_neither (ltb room (length ids)) _ (sym w ∙ lists_right index s wrong over scratch d refl)).0 in
+            omega (arith, b.few, ltb-false room (length ids) q)
 
         inside : length scratch₁ ≡ length scratch → length scratch' ≡ length scratch₁ → stats_at index.capacity + 4 * n ≤ length scratch'
-        inside k l = let d = (guards_able k).0 in omega (arith, rw (passed_marks passes) at d.enough, b.0.few, d.ids_most, l)
+        inside q l = let d = (guards_able q).0 in omega (arith, rw (passed_marks passes) at d.enough, b.few, d.ids_most, l)
 
-        pub guards_applied : {c : Changed} → length scratch₁ ≡ length scratch → length scratch' ≡ length scratch₁ → v.admitted ≡ true → c ≡ fewer index entry' n
-            → Guards index s a room checked lost scratch (slices s.vectors targets' edges' versions' marks' s.pool numbers' summary') checked' lost' scratch' (Ok (Applied c v))
+        pub guards_applied : {c : Changed} → s'.pool ≡ s.pool → length scratch₁ ≡ length scratch → length scratch' ≡ length scratch₁ → v.admitted ≡ true → c ≡ fewer index entry' n
+            → Guards index s a room checked lost scratch s' checked' lost' scratch' (Ok (Applied c v))
         unfolding perform guarded guarded_as index_kept written call_of slices_of run_refusal state_of stored slots_of
-        guards_applied {c} k ls f e =
+        guards_applied {c} p q ls f e =
             let g = reports in
-            let u = state_left passes ids beam degree b.0 b.1 lm (ap (λ x. x.index) e) in
+            let u = state_left passes ids beam degree s' b k p (ap (λ x. x.index) e) in
             record {
               report = report;
               stats = map (stats_of scratch' (stats_at index.capacity)) (range 0 n);
               numbers_applied = λ d x h. let j : v ≡ x = cc in sym j ∙ numbers_are g;
               numbers_deferred = λ w h. cc;
               words = λ d x h. ap (λ (y : ℕ). map (stats_of scratch' (stats_at index.capacity)) (range 0 y)) (many d x h);
-              there = λ d x h. omega (arith, many d x h, inside k ls);
+              there = λ d x h. omega (arith, many d x h, inside q ls);
               fits = λ d x h. omega (arith, many d x h, enough);
               meets = λ before l. record {
                 does =
@@ -195,44 +197,33 @@ accepted w lent a e =
     let wrong = ltb lent.room.stats (length a.names) || lists_short limits lent.room in
     ((first_none 7 (delete_over limits a) after (index_finds lent.slices (shown stored w) wrong rest e).own).0, shared_none lent.slices (shown stored w) wrong rest e)
 
--- a guarded delete by one list of names is that by another that names the same slots
-renamed : {index : Index} {s : Slices} {a b : Delete} {room : ℕ} {checked lost scratch : List ℕ} {s' : Slices} {checked' lost' scratch' : List ℕ} {r : Result Guarded Refusal}
-    → length b.names ≡ length a.names → b.repair_beam ≡ a.repair_beam → b.repair_degree ≡ a.repair_degree
-    → (delete_over limits a ≡ false → first_of (index_tests limits (lengths_of s) (shown stored (state_of index s)) false []) ≡ none → named (state_of index s) b ≡ named (state_of index s) a)
-    → Guards index s b room checked lost scratch s' checked' lost' scratch' r → Guards index s a room checked lost scratch s' checked' lost' scratch' r
+-- the guarded delete by slots is the one by names, of slices that are read as s₀
+pub guards_named : {index : Index} {s₀ s : Slices} {a b : Delete} {room : ℕ} {checked lost scratch : List ℕ} {s' : Slices} {checked' lost' scratch' : List ℕ} {r : Result Guarded Refusal}
+    → s₀ ≡ s → BySlots index s₀ a b → Guards index s (slot_delete b.names b.repair_beam b.repair_degree) room checked lost scratch s' checked' lost' scratch' r
+    → Guards index s a room checked lost scratch s' checked' lost' scratch' r
 unfolding call_of run_refusal slices_of state_of
-renamed {index} {s} {a} {b} long beam degree same d = record {
-  report = d.report;
-  stats = d.stats;
-  numbers_applied = d.numbers_applied;
-  numbers_deferred = d.numbers_deferred;
-  words = d.words;
-  there = d.there;
-  fits = d.fits;
-  meets = λ before l.
-      let m = d.meets before l in
-      let w = state_of index s in
-      record {
-        does = m.does ∙ same_guarded w _ a b long beam degree (λ e. let k = accepted w _ a e in same k.0 k.1);
-        writes = m.writes;
-        keeps = λ n e. m.keeps n (same_guarded_refusal w _ a b long beam degree ∙ e);
-      };
-}
-
-module _ (naming : Naming) (index : Index) (s : Slices) (names : List ℕ) {beam degree room : ℕ} {checked lost scratch : List ℕ} {s' : Slices} {checked' lost' scratch' : List ℕ} {r : Result Guarded Refusal} {q : Bool}
-    (e : q ≡ (are_numbers naming && leb (length names) limits.ids)) where
-  pub guards_slots : q ≡ false → Guards index s (slot_delete names beam degree) room checked lost scratch s' checked' lost' scratch' r
-      → Guards index s (deleting names naming beam degree) room checked lost scratch s' checked' lost' scratch' r
-  guards_slots f d = renamed refl refl refl (λ over n. as_they_are (state_of index s) names naming beam degree e f over) d
-
-  -- of the part of some slots that begins with the first
-  pub guards_numbers : (slots : List ℕ) → q ≡ true → length names ≤ length slots → Translated index (lengths_of s) (labels_of s) names slots
-      → Guards index s (slot_delete (take (length names - 0) slots) beam degree) room checked lost scratch s' checked' lost' scratch' r
-      → Guards index s (deleting names naming beam degree) room checked lost scratch s' checked' lost' scratch' r
-  unfolding state_of
-  guards_numbers slots t room t' d =
-      renamed (ap length (from_first names slots) ∙ length-take-le (length names) slots room) refl refl
-      (λ over n. as_slots (state_of index s) names naming beam degree e (take (length names - 0) slots) t (from_first names slots ∙ t'.does s refl refl n)) d
+guards_named {index} {s = s} {a} {b} {room} {checked} {lost} {scratch} {s'} {checked'} {lost'} {scratch'} {r} same k₀ by =
+    let k = subst (λ (x : Slices). BySlots index x a b) same k₀ in
+    let d = subst (λ (x : Delete). Guards index s x room checked lost scratch s' checked' lost' scratch' r) (slots_asked k) by in
+    let w = state_of index s in
+    let beam = ap (λ (x : Delete). x.repair_beam) k.rest in
+    let degree = ap (λ (x : Delete). x.repair_degree) k.rest in
+    record {
+      report = d.report;
+      stats = d.stats;
+      numbers_applied = d.numbers_applied;
+      numbers_deferred = d.numbers_deferred;
+      words = d.words;
+      there = d.there;
+      fits = d.fits;
+      meets = λ before l.
+          let m = d.meets before l in
+          record {
+            does = m.does ∙ same_guarded w _ a b k.many beam degree (λ e. let h = accepted w _ a e in same_named k h.0 h.1);
+            writes = m.writes;
+            keeps = λ n e. m.keeps n (same_guarded_refusal w _ a b k.many beam degree ∙ e);
+          };
+    }
 
 -- ---- the new index's alpha: the one that was accepted
 

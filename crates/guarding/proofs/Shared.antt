@@ -9,8 +9,9 @@ use lib.Dec.{eqb, ltb}
 use lib.ListN.{length, take}
 use Rattle.slots.specs.Sizes.{Slices, limits}
 use Rattle.slots.specs.Scratch.{size_answer}
-use Rattle.slots.specs.Store.{store_ops, arrays}
-use Rattle.guard.specs.Guard.{config, on, pool_of}
+use Rattle.slots.specs.Store.{store_ops}
+use Rattle.guard.specs.Guard.{on, pool_of}
+use Rattle.guard.specs.Lent.{config_of}
 use Rattle.guard.specs.Guard as Guards
 use Rattle.admission.specs.Inner.Pools.{guard_words}
 use Rattle.admission.specs.Inner.Reports.{Reports, Assessable, Assessed}
@@ -21,24 +22,25 @@ use Rattle.calls.specs.State.{stored, shown}
 use Rattle.calls.specs.Step.{report_by, report_of}
 use Rattle.calls.proofs.Tests.{or_neither}
 use Rattle.index.specs.declared.Index.{Index}
-use Rattle.index.specs.declared.Settings.{Settings}
+use Rattle.index.specs.declared.Guard.{Guard}
 use Rattle.std.specs.Prelude.{Option, Some}
-use Rattle.index.specs.Index.{guard_of, state_of}
+use Rattle.index.specs.Index.{guard_of, state_of, arrays_of}
 use Rattle.index.specs.Inner.Deciding.{Passed}
 use Rattle.index.proofs.Decide.{passed_rows, passed_marks, passed_bytes}
 use Rattle.guarding.specs.Guarding.{numbers_of}
 
 -- ---- settings without a fault
 
-pub record Sound (s : Settings) : Type 0 where
-  pub count_most : s.count ≤ 64
-  pub sample_some : 0 < s.sample
-  pub beam_most : s.beam ≤ 1024
-  pub pool_most : s.pool ≤ 1024
+pub record Sound (g : Guard) : Type 0 where
+  pub count_most : g.config.count ≤ 64
+  pub sample_some : 0 < g.config.sample
+  pub beam_most : g.config.beam ≤ 1024
+  pub pool_most : g.pool ≤ 1024
 
-sound : (s : Settings) → guard_fault limits (on (config s.count s.multiplier s.sample s.beam) s.pool) ≡ false → Sound s
+sound : (g : Guard) → guard_fault limits (on (config_of g.config) g.pool) ≡ false → Sound g
 unfolding guard_fault limits
-sound s e =
+sound g e =
+    let s = g.config in
     let z₁ = eqb s.count 0 in
     let z₂ = eqb s.multiplier 0 in
     let z₃ = eqb s.sample 0 in
@@ -47,7 +49,7 @@ sound s e =
     let o₂ = ltb 16 s.multiplier in
     let o₃ = ltb 65536 s.sample in
     let o₄ = ltb 1024 s.beam in
-    let a = or_neither (z₁ || z₂ || z₃ || z₄ || (o₁ || o₂ || o₃ || o₄)) (ltb 1024 s.pool) e in
+    let a = or_neither (z₁ || z₂ || z₃ || z₄ || (o₁ || o₂ || o₃ || o₄)) (ltb 1024 g.pool) e in
     let b = or_neither (z₁ || z₂ || z₃ || z₄) (o₁ || o₂ || o₃ || o₄) a.0 in
     let zs = or_neither (z₁ || z₂ || z₃) z₄ b.0 in
     let z = or_neither (z₁ || z₂) z₃ zs.0 in
@@ -57,12 +59,12 @@ sound s e =
       count_most = ltb-false 64 s.count (or_neither o₁ o₂ o.0).0;
       sample_some = omega (arith, eqb-false s.sample 0 z.1);
       beam_most = ltb-false 1024 s.beam os.1;
-      pool_most = ltb-false 1024 s.pool a.1;
+      pool_most = ltb-false 1024 g.pool a.1;
     }
 
-pub sound_on : (g : Option Settings) {s : Settings} → g ≡ Some s → guard_fault limits (guard_of g) ≡ false → Sound s
+pub sound_on : (o : Option Guard) {g : Guard} → o ≡ Some g → guard_fault limits (guard_of o) ≡ false → Sound g
 unfolding guard_of
-sound_on g {s} e f = sound s (rw e at f)
+sound_on o {g} e f = sound g (rw e at f)
 
 -- ---- an index that passed
 
@@ -79,10 +81,10 @@ module _ {index : Index} {s : Slices} (able : Passed index s) where
 
   -- ---- the report of a guard that is on
 
-  module _ {t : Settings} (e : index.guard ≡ Some t) (ids : List ℕ) where
+  module _ {t : Guard} (e : index.guard ≡ Some t) (ids : List ℕ) where
     pub assessable : (checked lost scratch : List ℕ) → length ids ≤ 256 → 64 ≤ min (length checked) (length lost)
         → ltb (length scratch) (size_answer index.capacity) ≡ false
-        → Assessable (arrays index.dim index.degree s.vectors s.targets s.edges s.versions s.marks) t.count t.sample t.beam s.pool t.pool ids checked lost scratch
+        → Assessable (arrays_of index s) t.config.count t.config.sample t.config.beam s.pool t.pool ids checked lost scratch
     assessable checked lost scratch few long room =
         let g = sound_on index.guard e able.guard_right in
         record {
@@ -99,10 +101,10 @@ module _ {index : Index} {s : Slices} (able : Passed index s) where
         }
 
     pub reported : {checked checked' lost lost' : List ℕ} {n : Report}
-        → Assessed (arrays index.dim index.degree s.vectors s.targets s.edges s.versions s.marks) index.entry t.count t.sample t.beam (take t.pool s.pool) ids checked checked' lost lost' n
+        → Assessed (arrays_of index s) index.entry t.config.count t.config.sample t.config.beam (take t.pool s.pool) ids checked checked' lost lost' n
         → Reports (report_of (shown stored (state_of index s)) ids) checked checked' lost lost' n
     unfolding shown stored store_ops state_of report_by guard_of pool_of
-    reported f = rw e (f.does (state_of index s).graph t.multiplier refl (sym (passed_marks able)) refl)
+    reported f = rw e (f.does (state_of index s).graph t.config.multiplier refl (sym (passed_marks able)) refl)
 
 pub numbers_are : {report : Guards.Report} {checked checked' lost lost' : List ℕ} {n : Report} → Reports report checked checked' lost lost' n → n ≡ numbers_of report
 numbers_are g = λ i. record {

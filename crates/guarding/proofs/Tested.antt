@@ -6,20 +6,19 @@ use mathlib.Core.List.{List, [], ◌∷◌}
 use mathlib.Core.Option.{none, some}
 use lib.Dec.{ltb}
 use lib.ListN.{length, take}
-use Rattle.slots.specs.Sizes.{Slices, Lengths, lengths_of, limits}
+use Rattle.slots.specs.Sizes.{Slices, lengths_of, limits}
 use Rattle.slots.specs.Scratch.{size_answer}
-use Rattle.slots.specs.Store.{arrays}
 use Rattle.admission.specs.Inner.Reports.{Reports, Assessable}
 use Rattle.admission.specs.Inner.Reports as Reporting
 use Rattle.admission.specs.declared.report.Report.{Report}
 use Rattle.index.specs.declared.Index.{Index}
-use Rattle.index.specs.declared.Settings.{Settings}
+use Rattle.index.specs.declared.Guard.{Guard}
 use Rattle.calls.specs.Refusals.{first_of, index_tests, is_off}
 use Rattle.calls.specs.State.{stored, shown}
 use Rattle.calls.specs.Step.{report_of}
 use Rattle.calls.proofs.Tests.{first_none}
-use Rattle.index.specs.Index.{guard_of, state_of}
-use Rattle.index.specs.Inner.Deciding.{Labels, labels_of, Decided, Passed}
+use Rattle.index.specs.Index.{guard_of, state_of, arrays_of}
+use Rattle.index.specs.Inner.Deciding.{Decided, Passed}
 use Rattle.index.proofs.Decide.{decided_before, decided_after, turned_back, let_through, own_none, not_wrong, passed}
 use Rattle.index.specs.declared.Refusal.{Refusal}
 use Rattle.index.specs.declared.Refusal.TheVariants as Refused
@@ -33,9 +32,9 @@ use Rattle.guarding.proofs.Shared.{assessable, reported}
 
 -- ---- rows 7, 8 and 11
 
-module _ {index : Index} {lent : Lengths} {looked : Labels} {wrong : Bool} (over : Bool) (scratch : ℕ) {A : Type 0} {r : Result A Refusal} (d : Decided index lent looked wrong [] r) where
-  abbrev Turns : Result Settings Refusal → Type 0
-  Turns k = Decided index lent looked wrong (report_tests index over scratch) k
+module _ {index : Index} {s : Slices} {wrong : Bool} (over : Bool) (scratch : ℕ) {A : Type 0} {r : Result A Refusal} (d : Decided index s wrong [] r) where
+  abbrev Turns : Result Guard Refusal → Type 0
+  Turns k = Decided index s wrong (report_tests index over scratch) k
 
   pub turns_before : {x : Refusal} → r ≡ Err x → Turns (Err x)
   turns_before z = decided_before d _ z
@@ -53,21 +52,22 @@ module _ {index : Index} {lent : Lengths} {looked : Labels} {wrong : Bool} (over
         unfolding guard_of is_off
         turns_off k = decided_after d _ _ z (rw (f, sym h ∙ t, k))
 
-        turns_none : {s : Settings} → index.guard ≡ Some s → Turns (Ok s)
+        turns_none : {g : Guard} → index.guard ≡ Some g → Turns (Ok g)
         unfolding guard_of is_off
         turns_none k = decided_after d _ _ z (rw (f, sym h ∙ t, k))
 
-        -- the settings, or row 11
-        pub turns_last : {k : Result Settings Refusal} → k ≡ ok_or index.guard Refused.GuardOff → Turns k × IfOk k (λ s. index.guard ≡ Some s)
-        turns_last e = subst (λ x. Turns x × IfOk x (λ s. index.guard ≡ Some s)) (sym e) (go index.guard refl)
+        -- the guard, or row 11
+        pub turns_last : {k : Result Guard Refusal} → k ≡ ok_or index.guard Refused.GuardOff → Turns k × IfOk k (λ g. index.guard ≡ Some g)
+        turns_last e = subst (λ x. Turns x × IfOk x (λ g. index.guard ≡ Some g)) (sym e) (go index.guard refl)
           where
-            go : (g : Opt Settings) → index.guard ≡ g → Turns (ok_or g Refused.GuardOff) × IfOk (ok_or g Refused.GuardOff) (λ s. index.guard ≡ Some s)
+            go : (g : Opt Guard) → index.guard ≡ g → Turns (ok_or g Refused.GuardOff) × IfOk (ok_or g Refused.GuardOff) (λ g. index.guard ≡ Some g)
             go None q = (turns_off q, tt)
             go (Some s) q = (turns_none q, q)
 
 -- ---- the report
 
-module _ (index : Index) (s : Slices) (wrong over : Bool) (scratch : List ℕ) {A : Type 0} {r : Result A Refusal} (d : Decided index (lengths_of s) (labels_of s) wrong (report_tests index over (length scratch)) r) where
+module _ (index : Index) (s : Slices) (wrong over : Bool) (scratch : List ℕ) {A : Type 0} {r : Result A Refusal}
+    (d : Decided index s wrong (report_tests index over (length scratch)) r) where
   abbrev short : Bool
   short = ltb (length scratch) (size_answer index.capacity)
 
@@ -79,7 +79,7 @@ module _ (index : Index) (s : Slices) (wrong over : Bool) (scratch : List ℕ) {
 
   pub tested_back : (ids checked lost : List ℕ) {x : Refusal} → r ≡ Err x → Tested index s wrong over ids checked lost scratch checked lost scratch (Err x)
   tested_back ids checked lost n =
-      record { decided = record { does = λ w e h. sym (ap turned n) ∙ d.does w e h }; back = λ e h. (refl, refl, refl); on = λ v e. cc }
+      record { decided = record { does = sym (ap turned n) ∙ d.does }; back = λ e h. (refl, refl, refl); on = λ v e. cc }
 
   module _ {u : A} (z : r ≡ Ok u) where
     pub able : Passed index s
@@ -97,18 +97,18 @@ module _ (index : Index) (s : Slices) (wrong over : Bool) (scratch : List ℕ) {
         let e = first_none 7 over ((8, short) ∷ (11, idle) ∷ []) (own_none index s d z) in
         (e.0, (first_none 8 short ((11, idle) ∷ []) e.1).0)
 
-    module _ {t : Settings} (e : index.guard ≡ Some t) (ids checked lost : List ℕ) where
+    module _ {t : Guard} (e : index.guard ≡ Some t) (ids checked lost : List ℕ) where
       pub tested_ready : Testable wrong over ids checked lost
-          → Assessable (arrays index.dim index.degree s.vectors s.targets s.edges s.versions s.marks) t.count t.sample t.beam s.pool t.pool ids checked lost scratch
+          → Assessable (arrays_of index s) t.config.count t.config.sample t.config.beam s.pool t.pool ids checked lost scratch
       unfolding limits
       tested_ready q = assessable able e ids checked lost scratch (q.few own.0) (q.long lists_right) own.1
 
       pub tested_on : {checked' lost' scratch' : List ℕ} {n : Report}
-          → Reporting.Assessed (arrays index.dim index.degree s.vectors s.targets s.edges s.versions s.marks) index.entry t.count t.sample t.beam (take t.pool s.pool) ids checked checked' lost lost' n
+          → Reporting.Assessed (arrays_of index s) index.entry t.config.count t.config.sample t.config.beam (take t.pool s.pool) ids checked checked' lost lost' n
           → Tested index s wrong over ids checked lost scratch checked' lost' scratch' (Ok n)
       tested_on {checked'} {lost'} {n = n} f =
           record {
-            decided = record { does = λ w i h. sym (ap turned z) ∙ d.does w i h };
+            decided = record { does = sym (ap turned z) ∙ d.does };
             back = λ m h. cc;
             on = λ v h. subst (λ x. Reports (report_of (shown stored (state_of index s)) ids) checked checked' lost lost' x) (ok_is h) (reported able e ids f);
           }

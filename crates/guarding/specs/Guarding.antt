@@ -1,9 +1,9 @@
 -- What the guard's calls give. What is left has a prime. Assumes nothing.
 use Rattle.std.specs.Prelude.{ℕ, List, [], ◌≡◌, length, Result, Ok, Err}
 use Rattle.slots.specs.Sizes.{Slices}
-use Rattle.slots.specs.Store.{or_blank}
 use Rattle.guard.specs.Guard.{Config}
 use Rattle.guard.specs.Guard as Guards
+use Rattle.guard.specs.Lent.{entry_of}
 use Rattle.admission.specs.declared.report.Report.{Report}
 use Rattle.index.specs.declared.Index.{Index}
 use Rattle.guarding.specs.declared.Status.{Status}
@@ -67,13 +67,13 @@ assessing ids = record { ids = ids }
 abbrev pub report_outputs : List ℕ → List ℕ → Outputs
 report_outputs checked lost = record { slots = []; dists = []; numbers = []; stats = []; checked = checked; lost = lost }
 
--- a report without its lists: how many they hold; no entry is blank
+-- a report without its lists: how many they hold
 abbrev pub numbers_of : Guards.Report → Report
 numbers_of r =
     record {
       admitted = r.admitted;
       requested = r.requested;
-      entry = or_blank r.entry;
+      entry = entry_of r.entry;
       checked = length r.checked;
       baseline = r.baseline;
       residual = r.residual;

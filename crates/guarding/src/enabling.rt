@@ -1,51 +1,45 @@
 // Enabling the guard.
 ghost use Rattle.std.specs.Prelude.{false, ◌≡◌, max, length};
-ghost use Rattle.slots.specs.Sizes.{slices};
-ghost use Rattle.guard.specs.Guard.{config};
+ghost use Rattle.guard.specs.Guard.{normalized};
+ghost use Rattle.guard.specs.Lent.{config_of};
 ghost use Rattle.admission.specs.Inner.Pools.{Poolable, Pooled};
-ghost use Rattle.index.specs.Index.{lengths_in};
-ghost use Rattle.index.specs.Inner.Deciding.{labels, Decided};
+ghost use Rattle.index.specs.Lent.{slices_of, enable_slices_of, SameEnableSlices};
+ghost use Rattle.index.specs.Inner.Deciding.{Decided};
 ghost use Rattle.guarding.specs.Guarding.{Enables};
-ghost use Rattle.guarding.specs.Inner.Testing.{enable_tests, Normal, guarded_index};
+ghost use Rattle.guarding.specs.Inner.Testing.{enable_tests, guarded_index};
 
 use super::Enabled;
 use super::statuses::status_of;
 use admission::{landmark_pool, residual_entry};
+use guard::Config;
 use index::refusals::{check_index, config_over, scratch_short};
-use index::{Index, Lengths, Refusal, Settings};
+use index::{EnableSlices, Guard, Index, Refusal, Slices};
 use vectors::Space;
 
-// The settings as they act, a 0 as 1, without a pool yet.
-fn normalized(count: u32, multiplier: u32, sample: u32, beam: u32) -> Settings
-    ensures { Normal (config count multiplier sample beam) result }
+// The settings as they act, a 0 as 1.
+#[tactic(auto, unfolding(guard::specs::Guard::normalized))]
+fn normalized(config: Config) -> Config
+    ensures { config_of result ≡ normalized (config_of config) }
 {
-    Settings {
-        count: count.max(1),
-        multiplier: multiplier.max(1),
-        sample: sample.max(1),
-        beam: beam.max(1),
-        pool: 0,
+    Config {
+        count: config.count.max(1),
+        multiplier: config.multiplier.max(1),
+        sample: config.sample.max(1),
+        beam: config.beam.max(1),
     }
 }
 
 // Whether one of rows 1, 2, 3, 6, 7, 8, 12 and 13 turns enabling back: the first; the live count decides 12 and 13.
 fn check_enable(
     index: Index,
-    lent: Lengths,
-    marks: &[u8],
-    numbers: &[u32],
-    summary: &[u32],
-    count: u32,
-    multiplier: u32,
-    sample: u32,
-    beam: u32,
+    slices: &Slices<'_>,
+    config: Config,
     scratch: usize,
 ) -> Result<(), Refusal>
-    requires { (lent.marks ≡ length marks.now) × (lent.numbers ≡ length numbers.now) × (lent.summary ≡ length summary.now) }
-    ensures { Decided index (lengths_in lent) (labels marks.now numbers.now summary.now) false (enable_tests index (config count multiplier sample beam) scratch) result }
+    ensures { Decided index (slices_of slices.now) false (enable_tests index (config_of config) scratch) result }
 {
-    check_index(index, lent, marks, numbers, summary, false)?;
-    if config_over(count, multiplier, sample, beam) {
+    check_index(index, slices, false)?;
+    if config_over(config) {
         return Err(Refusal::Limits);
     }
     if scratch_short(index.capacity, scratch) {
@@ -60,44 +54,33 @@ fn check_enable(
     Ok(())
 }
 
-// The landmark pool, written to the front of its slice. Returns its length.
+// The landmark pool, written to the front of its slice. Returns its length. Seven parameters: with all slices in one struct, or a `Space` of its own made by
+// the caller, the proof did not close, since the check's borrow rules do not cover a struct of some lent slices beside another that is written.
 fn choose_pool(
-    index: Index,
-    settings: Settings,
+    dim: u32,
     vectors: &[u8],
     marks: &[u8],
     start: u32,
+    config: Config,
     pool: &mut [u32],
     scratch: &mut [u32],
 ) -> usize
-    requires { Poolable index.dim vectors.now marks.now start settings.count settings.multiplier settings.sample pool.old scratch.old }
-    ensures { Pooled index.dim vectors.now marks.now start settings.count settings.multiplier settings.sample pool.old pool.new result }
+    requires { Poolable dim vectors.now marks.now start config.count config.multiplier config.sample pool.old scratch.old }
+    ensures { Pooled dim vectors.now marks.now start config.count config.multiplier config.sample pool.old pool.new result }
 {
     let space = Space {
-        dim: index.dim as usize,
+        dim: dim as usize,
         vectors,
     };
-    landmark_pool(
-        &space,
-        marks,
-        start,
-        settings.count as usize,
-        settings.multiplier as usize,
-        settings.sample as usize,
-        pool,
-        scratch,
-    )
+    landmark_pool(&space, marks, start, config, pool, scratch)
 }
 
 // An index whose guard is on, with a pool of `n` landmarks.
-fn with_guard(index: Index, settings: Settings, n: u32) -> Index
-    ensures { result ≡ guarded_index index settings n }
+fn with_guard(index: Index, config: Config, n: u32) -> Index
+    ensures { result ≡ guarded_index index config n }
 {
     Index {
-        guard: Some(Settings {
-            pool: n,
-            ..settings
-        }),
+        guard: Some(Guard { config, pool: n }),
         ..index
     }
 }
@@ -105,49 +88,26 @@ fn with_guard(index: Index, settings: Settings, n: u32) -> Index
 // Enables the guard, which may be on already: its landmarks are chosen anew.
 pub fn enable_guard(
     index: Index,
-    vectors: &[u8],
-    targets: &[u32],
-    edges: &[u16],
-    versions: &[u16],
-    marks: &[u8],
-    pool: &mut [u32],
-    numbers: &[u32],
-    summary: &[u32],
-    count: u32,
-    multiplier: u32,
-    sample: u32,
-    beam: u32,
+    slices: &mut EnableSlices<'_>,
+    config: Config,
     scratch: &mut [u32],
 ) -> Result<Enabled, Refusal>
-    ensures { Enables index (slices vectors.now targets.now edges.now versions.now marks.now pool.old numbers.now summary.now) (config count multiplier sample beam) scratch.old
-        (slices vectors.now targets.now edges.now versions.now marks.now pool.new numbers.now summary.now) scratch.new result }
+    ensures { Enables index (enable_slices_of slices.old) (config_of config) scratch.old (enable_slices_of slices.new) scratch.new result × SameEnableSlices slices.old slices.new }
 {
-    let lent = Lengths {
-        vectors: vectors.len(),
-        targets: targets.len(),
-        edges: edges.len(),
-        versions: versions.len(),
-        marks: marks.len(),
-        pool: pool.len(),
-        numbers: numbers.len(),
-        summary: summary.len(),
-    };
-    check_enable(
-        index,
-        lent,
-        marks,
-        numbers,
-        summary,
-        count,
-        multiplier,
-        sample,
-        beam,
-        scratch.len(),
-    )?;
-    let settings = normalized(count, multiplier, sample, beam);
-    let start = residual_entry(marks, &[], index.entry);
-    let n = choose_pool(index, settings, vectors, marks, start, pool, scratch);
-    let new = with_guard(index, settings, n as u32);
-    let status = status_of(new.guard, marks, pool);
+    check_enable(index, &slices.read(), config, scratch.len())?;
+    let config = normalized(config);
+    let start = residual_entry(slices.marks, &[], index.entry).unwrap_or(index.entry);
+    let pool = &mut *slices.pool;
+    let n = choose_pool(
+        index.dim,
+        slices.vectors,
+        slices.marks,
+        start,
+        config,
+        pool,
+        scratch,
+    );
+    let new = with_guard(index, config, n as u32);
+    let status = status_of(new.guard, &slices.read());
     Ok(Enabled { index: new, status })
 }

@@ -15,7 +15,7 @@ pub use statuses::guard_status;
 use updating::Changed;
 
 // The status of a guard; all 0 where it is off.
-#[derive(Clone, Copy)]
+#[derive(Clone, Copy, Default)]
 pub struct Status {
     pub enabled: bool,
     pub pool: u32,

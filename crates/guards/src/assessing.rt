@@ -1,8 +1,8 @@
 // Lines `assess`.
 use super::reports::expect_report;
-use admission::Report;
+use admission::{Lists, Report};
 use index::Refusal;
-use lines::prepare::{State, part, part_mut};
+use lines::prepare::{Arrays, State, part, part_mut};
 use text::{Differs, Numbers};
 
 // Passes the answer to an assessment.
@@ -25,34 +25,19 @@ fn expect_assessed(
 pub fn assess(
     line: &mut Numbers<'_>,
     state: State,
-    ids: &[u32],
-    vectors: &[u8],
-    targets: &[u32],
-    edges: &[u16],
-    versions: &[u16],
-    marks: &[u8],
-    pool: &[u32],
-    numbers: &[u32],
-    summary: &[u32],
+    arrays: &Arrays<'_>,
     scratch: &mut [u32],
 ) -> Result<(), Differs> {
     let mut checked = [0u32; 1024];
     let mut lost = [0u32; 1024];
     let lent = state.lent;
-    let assessed = guarding::assess_delete(
-        state.index,
-        part(vectors, lent.vectors),
-        part(targets, lent.targets),
-        part(edges, lent.edges),
-        part(versions, lent.versions),
-        part(marks, lent.marks),
-        part(pool, lent.pool),
-        part(numbers, lent.numbers),
-        part(summary, lent.summary),
-        part(ids, lent.rows),
-        part_mut(&mut checked, lent.slots),
-        part_mut(&mut lost, lent.dists),
-        part_mut(scratch, lent.words),
-    );
+    let slices = arrays.slices(lent);
+    let ids = part(arrays.rows, lent.rows);
+    let mut lists = Lists {
+        checked: part_mut(&mut checked, lent.slots),
+        lost: part_mut(&mut lost, lent.dists),
+    };
+    let scratch = part_mut(scratch, lent.words);
+    let assessed = guarding::assess_delete(state.index, &slices, ids, &mut lists, scratch);
     expect_assessed(line, assessed, &checked, &lost)
 }

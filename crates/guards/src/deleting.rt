@@ -1,10 +1,12 @@
 // Lines `guarded`.
 use super::reports::expect_report;
+use admission::Lists;
 use changes::{expect_emptied, naming};
 use guarding::Guarded;
-use index::Refusal;
-use lines::prepare::{State, part, part_mut};
+use index::{DeleteSlices, Refusal};
+use lines::prepare::{Arrays, State, part_mut};
 use text::{Differs, Numbers};
+use updating::Deleting;
 
 // Passes the answer to a guarded delete, which leaves the index without what is deleted, or the former one where it is deferred or refused.
 fn expect_guarded(
@@ -34,41 +36,42 @@ fn expect_guarded(
 pub fn delete(
     line: &mut Numbers<'_>,
     state: &mut State,
-    names: &[u32],
-    vectors: &[u8],
-    targets: &mut [u32],
-    edges: &mut [u16],
-    versions: &mut [u16],
-    marks: &mut [u8],
-    pool: &[u32],
-    numbers: &mut [u32],
-    summary: &mut [u32],
+    arrays: &mut Arrays<'_>,
     scratch: &mut [u32],
 ) -> Result<(), Differs> {
     let mut checked = [0u32; 1024];
     let mut lost = [0u32; 1024];
-    let naming = naming(line)?;
-    let beam = line.argument();
-    let degree = line.argument();
     let lent = state.lent;
+    let naming = naming(line)?;
+    let asked = Deleting {
+        names: part_mut(arrays.rows, lent.rows),
+        naming,
+        repair_beam: line.argument(),
+        repair_degree: line.argument(),
+    };
+    let mut slices = DeleteSlices {
+        vectors: part_mut(arrays.vectors, lent.vectors),
+        targets: part_mut(arrays.targets, lent.targets),
+        edges: part_mut(arrays.edges, lent.edges),
+        versions: part_mut(arrays.versions, lent.versions),
+        marks: part_mut(arrays.marks, lent.marks),
+        pool: part_mut(arrays.pool, lent.pool),
+        numbers: part_mut(arrays.numbers, lent.numbers),
+        summary: part_mut(arrays.summary, lent.summary),
+    };
+    let mut lists = Lists {
+        checked: part_mut(&mut checked, lent.slots),
+        lost: part_mut(&mut lost, lent.dists),
+    };
+    let room = lent.slots.min(1024);
+    let words = part_mut(scratch, lent.words);
     let guarded = guarding::guarded_delete(
         state.index,
-        part(vectors, lent.vectors),
-        part_mut(targets, lent.targets),
-        part_mut(edges, lent.edges),
-        part_mut(versions, lent.versions),
-        part_mut(marks, lent.marks),
-        part(pool, lent.pool),
-        part_mut(numbers, lent.numbers),
-        part_mut(summary, lent.summary),
-        part(names, lent.rows),
-        naming,
-        beam,
-        degree,
-        lent.slots.min(1024),
-        part_mut(&mut checked, lent.slots),
-        part_mut(&mut lost, lent.dists),
-        part_mut(scratch, lent.words),
+        &mut slices,
+        &asked,
+        room,
+        &mut lists,
+        words,
     );
     expect_guarded(line, state, guarded, &checked, &lost, scratch)
 }

@@ -1,8 +1,9 @@
 // Lines `enable`.
 use super::statuses::expect_status;
+use guard::Config;
 use guarding::Enabled;
-use index::Refusal;
-use lines::prepare::{State, part, part_mut};
+use index::{EnableSlices, Refusal};
+use lines::prepare::{Arrays, State, part_mut};
 use text::{Differs, Numbers};
 
 // Passes the answer to enabling, which leaves the index with its guard on, or the former one where it is refused.
@@ -28,36 +29,27 @@ fn expect_enabled(
 pub fn enable(
     line: &mut Numbers<'_>,
     state: &mut State,
-    vectors: &[u8],
-    targets: &[u32],
-    edges: &[u16],
-    versions: &[u16],
-    marks: &[u8],
-    pool: &mut [u32],
-    numbers: &[u32],
-    summary: &[u32],
+    arrays: &mut Arrays<'_>,
     scratch: &mut [u32],
 ) -> Result<(), Differs> {
-    let count = line.argument();
-    let multiplier = line.argument();
-    let sample = line.argument();
-    let beam = line.argument();
+    let config = Config {
+        count: line.argument(),
+        multiplier: line.argument(),
+        sample: line.argument(),
+        beam: line.argument(),
+    };
     let lent = state.lent;
-    let enabled = guarding::enable_guard(
-        state.index,
-        part(vectors, lent.vectors),
-        part(targets, lent.targets),
-        part(edges, lent.edges),
-        part(versions, lent.versions),
-        part(marks, lent.marks),
-        part_mut(pool, lent.pool),
-        part(numbers, lent.numbers),
-        part(summary, lent.summary),
-        count,
-        multiplier,
-        sample,
-        beam,
-        part_mut(scratch, lent.words),
-    );
-    expect_enabled(line, state, enabled, pool)
+    let mut slices = EnableSlices {
+        vectors: part_mut(arrays.vectors, lent.vectors),
+        targets: part_mut(arrays.targets, lent.targets),
+        edges: part_mut(arrays.edges, lent.edges),
+        versions: part_mut(arrays.versions, lent.versions),
+        marks: part_mut(arrays.marks, lent.marks),
+        pool: part_mut(arrays.pool, lent.pool),
+        numbers: part_mut(arrays.numbers, lent.numbers),
+        summary: part_mut(arrays.summary, lent.summary),
+    };
+    let scratch = part_mut(scratch, lent.words);
+    let enabled = guarding::enable_guard(state.index, &mut slices, config, scratch);
+    expect_enabled(line, state, enabled, arrays.pool)
 }

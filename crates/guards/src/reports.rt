@@ -1,8 +1,9 @@
 // The numbers and the lists of a report.
 use admission::Report;
+use slots::rows::BLANK;
 use text::{Differs, Numbers};
 
-// Passes the eight numbers of a report, the landmarks checked and those lost.
+// Passes the eight numbers of a report, blank for no entry, the landmarks checked and those lost.
 pub fn expect_report(
     line: &mut Numbers<'_>,
     r: Report,
@@ -12,7 +13,7 @@ pub fn expect_report(
     line.expect_all(&[
         u32::from(r.admitted),
         r.requested,
-        r.entry,
+        r.entry.unwrap_or(BLANK),
         r.checked,
         r.baseline,
         r.residual,

@@ -1,20 +1,20 @@
 -- The tests that calls share: what the code finds is what the table says, and what follows. Assumes nothing.
 use Prim.Native.Nat.{ℕ, ◌≤◌, ◌<◌}
 use mathlib.Core.Bool.{Bool, true, false, not, ◌&&◌, ◌||◌}
-use mathlib.Core.Path.{◌≡◌, refl, sym, ap, ◌∙◌, subst}
+use mathlib.Core.Path.{◌≡◌, refl, sym, ap, ◌∙◌}
 use mathlib.Core.List.{List, [], ◌∷◌}
-use mathlib.Core.Option.{Option, none, some}
+use mathlib.Core.Option.{none, some}
 use native.Mathlib.Omega.{arith}
 use borrow.Author.Tests.{leb-true, ltb-true, ltb-false, eqb-true, not-true, not-false, lt-leb, le-leb}
 use lib.Ieee.{Float}
-use lib.ListN.{length, replicate, length-replicate}
+use lib.ListN.{length}
 use lib.Dec.{eqb, ltb, leb}
 use Rattle.lists.proofs.Bools.{and_both}
 use Rattle.vectors.specs.Distance.{f32}
 use Rattle.lists.specs.Lists.{filter, range}
 use Rattle.lists.proofs.Filter.{filter_length}
 use Rattle.lists.proofs.Ranges.{length_range}
-use Rattle.slots.specs.Sizes.{Sizes, Slices, slices, Lengths, lengths_of, limits, within, sizes_ok, alpha_ok, exact, lengths_ok}
+use Rattle.slots.specs.Sizes.{Sizes, Slices, Lengths, lengths_of, limits, within, sizes_ok, alpha_ok, exact, lengths_ok}
 use Rattle.slots.specs.Scratch.{size_answer}
 use Rattle.vectors.specs.Vector.{Bytes}
 use Rattle.slots.specs.View.{View, live_slots}
@@ -35,7 +35,7 @@ use Rattle.calls.specs.Refusals.{Test, first_of, index_tests, tests, guard_fault
 use Rattle.calls.specs.State.{State, stored, shown}
 use Rattle.calls.specs.Step.{perform, refusal, settle, step}
 use Rattle.index.specs.Index.{words_for, sizes, sizes_of, guard_of, state_of}
-use Rattle.index.specs.Inner.Deciding.{Labels, labels_of, Decided, Passed}
+use Rattle.index.specs.Inner.Deciding.{index_fault, Decided, Passed}
 use Rattle.calls.proofs.Tests.{or_neither, passed_lengths}
 
 -- ---- numbers
@@ -110,7 +110,7 @@ lengths_compared z n m e =
 
 -- ---- the shared tests, one after the other
 
--- the four tests of an index; the last one over n marks
+-- the first three tests of an index
 abbrev bad₁ : Index → Bool
 bad₁ index = not (sizes_ok limits (sizes_of index))
 
@@ -120,65 +120,58 @@ bad₂ index = not (alpha_ok index.alpha)
 abbrev bad₃ : Index → Lengths → Bool
 bad₃ index n = not (lengths_ok limits (sizes_of index) n)
 
-abbrev bad₆ : Index → Labels → ℕ → Bool
-bad₆ index l n =
-    not (eqb index.live (length (filter (is_valid l.marks) (range 0 n)))) || not (ltb index.entry index.capacity) || guard_fault limits (guard_of index.guard)
-    || not (labels_ok (is_valid l.marks) n index.live l.numbers l.summary)
-
 abbrev four : Bool → Bool → Bool → Bool → List Test → List Test
 four q₁ q₂ q₃ q₆ rest = (1, q₁) ∷ (2, q₂) ∷ (3, q₃) ∷ (6, q₆) ∷ rest
 
-abbrev decides : Index → Lengths → Labels → Bool → List Test → Option ℕ
-decides index lent looked wrong rest = first_of (four (bad₁ index) (bad₂ index) (bad₃ index lent || wrong) (bad₆ index looked index.capacity) rest)
-
--- these decide: the lengths lent are those of slices with these contents
-decided : (index : Index) (lent : Lengths) (looked : Labels) {wrong : Bool} {rest : List Test} {A : Type 0} {r : Result A Refusal}
-    → (lent.marks ≡ length looked.marks → back r ≡ decides index lent looked wrong rest) → Decided index lent looked wrong rest r
+-- these decide
+decided : {index : Index} {s : Slices} {wrong : Bool} {rest : List Test} {A : Type 0} {r : Result A Refusal}
+    → back r ≡ first_of (four (bad₁ index) (bad₂ index) (bad₃ index (lengths_of s) || wrong) (index_fault index s index.capacity) rest) → Decided index s wrong rest r
 unfolding index_tests shown stored store_ops store_view state_of
-decided index lent looked {wrong} {rest} {A} {r} f =
-    record { does = λ s e h. subst (λ l. back r ≡ decides index lent l wrong rest) (sym h) (f (sym (ap (λ n. n.marks) e) ∙ ap (λ l. length l.marks) h)) }
+decided e = record { does = e }
 
 -- where the lengths are right, there are as many marks as slots
-marked : (index : Index) (lent : Lengths) (looked : Labels) {r₆ : Bool} → bad₃ index lent ≡ false → r₆ ≡ bad₆ index looked (length looked.marks) → lent.marks ≡ length looked.marks
-    → r₆ ≡ bad₆ index looked index.capacity
-marked index lent looked h sound k =
-    let m : lent.marks ≡ index.capacity = ap (λ l. l.marks) (passed_lengths (sizes_of index) lent (not-false (lengths_ok limits (sizes_of index) lent) h)) in
-    rw (sym k ∙ m) at sound
+marked : (index : Index) (s : Slices) {r₆ : Bool} → bad₃ index (lengths_of s) ≡ false → r₆ ≡ index_fault index s (length s.marks) → r₆ ≡ index_fault index s index.capacity
+marked index s h sound =
+    let m : length s.marks ≡ index.capacity = ap (λ l. l.marks) (passed_lengths (sizes_of index) (lengths_of s) (not-false (lengths_ok limits (sizes_of index) (lengths_of s)) h)) in
+    rw m at sound
 
-module _ {index : Index} {lent : Lengths} {looked : Labels} {wrong r₁ : Bool} {A : Type 0}
+-- the lengths that are looked at are those of the slices
+too_long : (index : Index) (s : Slices) {r₃ : Bool} {lent : Lengths} → ((alpha : Float) → r₃ ≡ not (lengths_ok limits (sizes index.dim index.capacity index.degree alpha) lent))
+    → lent ≡ lengths_of s → r₃ ≡ bad₃ index (lengths_of s)
+too_long index s long alike = long index.alpha ∙ ap (λ n. bad₃ index n) alike
+
+module _ {index : Index} {s : Slices} {wrong r₁ : Bool} {A : Type 0}
     (sized : (alpha : Float) → r₁ ≡ not (sizes_ok limits (sizes index.dim index.capacity index.degree alpha))) where
-  pub decided_sizes : r₁ ≡ true → Decided index lent looked wrong [] {A = A} (Err Refused.Sizes)
-  decided_sizes t₁ = decided index lent looked (λ k. rw (sym (sized index.alpha) ∙ t₁))
+  pub decided_sizes : r₁ ≡ true → Decided index s wrong [] {A = A} (Err Refused.Sizes)
+  decided_sizes t₁ = decided (rw (sym (sized index.alpha) ∙ t₁))
 
   module _ {r₂ : Bool} (t₁ : r₁ ≡ false) (grown : r₂ ≡ not (alpha_ok index.alpha)) where
-    pub decided_alpha : r₂ ≡ true → Decided index lent looked wrong [] {A = A} (Err Refused.Alpha)
-    decided_alpha t₂ = decided index lent looked (λ k. rw (sym (sized index.alpha) ∙ t₁, sym grown ∙ t₂))
+    pub decided_alpha : r₂ ≡ true → Decided index s wrong [] {A = A} (Err Refused.Alpha)
+    decided_alpha t₂ = decided (rw (sym (sized index.alpha) ∙ t₁, sym grown ∙ t₂))
 
-    module _ {r₃ : Bool} (t₂ : r₂ ≡ false) (long : (alpha : Float) → r₃ ≡ not (lengths_ok limits (sizes index.dim index.capacity index.degree alpha) lent)) where
-      pub decided_lengths : r₃ ≡ true → Decided index lent looked wrong [] {A = A} (Err Refused.Lengths)
-      decided_lengths t₃ = decided index lent looked (λ k. rw (sym (sized index.alpha) ∙ t₁, sym grown ∙ t₂, sym (long index.alpha) ∙ t₃))
+    module _ {r₃ : Bool} {lent : Lengths} (t₂ : r₂ ≡ false) (long : (alpha : Float) → r₃ ≡ not (lengths_ok limits (sizes index.dim index.capacity index.degree alpha) lent))
+        (alike : lent ≡ lengths_of s) where
+      pub decided_lengths : r₃ ≡ true → Decided index s wrong [] {A = A} (Err Refused.Lengths)
+      decided_lengths t₃ = decided (rw (sym (sized index.alpha) ∙ t₁, sym grown ∙ t₂, sym (too_long index s long alike) ∙ t₃))
 
       module _ (t₃ : r₃ ≡ false) where
-        pub decided_wrong : wrong ≡ true → Decided index lent looked wrong [] {A = A} (Err Refused.Lengths)
-        decided_wrong t = decided index lent looked (λ k. rw (sym (sized index.alpha) ∙ t₁, sym grown ∙ t₂, sym (long index.alpha) ∙ t₃, t))
+        pub decided_wrong : wrong ≡ true → Decided index s wrong [] {A = A} (Err Refused.Lengths)
+        decided_wrong t = decided (rw (sym (sized index.alpha) ∙ t₁, sym grown ∙ t₂, sym (too_long index s long alike) ∙ t₃, t))
 
-        module _ {r₆ : Bool} (t : wrong ≡ false) (sound : r₆ ≡ bad₆ index looked (length looked.marks)) where
-          pub decided_index : r₆ ≡ true → Decided index lent looked wrong [] {A = A} (Err Refused.Index)
-          decided_index t₆ =
-              decided index lent looked (λ k. rw (sym (sized index.alpha) ∙ t₁, sym grown ∙ t₂, sym (long index.alpha) ∙ t₃, t, sym (marked index lent looked (sym (long index.alpha) ∙ t₃) sound k) ∙ t₆))
+        module _ {r₆ : Bool} (t : wrong ≡ false) (sound : r₆ ≡ index_fault index s (length s.marks)) where
+          pub decided_index : r₆ ≡ true → Decided index s wrong [] {A = A} (Err Refused.Index)
+          decided_index t₆ = decided (rw (sym (sized index.alpha) ∙ t₁, sym grown ∙ t₂, sym (too_long index s long alike) ∙ t₃, t, sym (marked index s (sym (too_long index s long alike) ∙ t₃) sound) ∙ t₆))
 
-          pub decided_none : {a : A} → r₆ ≡ false → Decided index lent looked wrong [] (Ok a)
-          decided_none t₆ =
-              decided index lent looked (λ k. rw (sym (sized index.alpha) ∙ t₁, sym grown ∙ t₂, sym (long index.alpha) ∙ t₃, t, sym (marked index lent looked (sym (long index.alpha) ∙ t₃) sound k) ∙ t₆))
+          pub decided_none : {a : A} → r₆ ≡ false → Decided index s wrong [] (Ok a)
+          decided_none t₆ = decided (rw (sym (sized index.alpha) ∙ t₁, sym grown ∙ t₂, sym (too_long index s long alike) ∙ t₃, t, sym (marked index s (sym (too_long index s long alike) ∙ t₃) sound) ∙ t₆))
 
 -- where the lengths are right, numbers and summary are as many as marks
-pub lent_alike : (dim capacity degree : ℕ) (lent : Lengths) {r : Bool} {m n k : ℕ} → ((alpha : Float) → r ≡ not (lengths_ok limits (sizes dim capacity degree alpha) lent)) → r ≡ false
-    → (lent.marks ≡ m) × (lent.numbers ≡ n) × (lent.summary ≡ k) → (n ≡ m) × (k ≡ m)
-lent_alike dim capacity degree lent long t h =
-    let z = sizes dim capacity degree (f32 1) in
-    let e = passed_lengths z lent (not-false (lengths_ok limits z lent) (sym (long (f32 1)) ∙ t)) in
-    let a = ap (λ l. l.marks) e in
-    (sym h.1 ∙ ap (λ l. l.numbers) e ∙ sym a ∙ h.0, sym h.2 ∙ ap (λ l. l.summary) e ∙ sym a ∙ h.0)
+pub lent_alike : (index : Index) (s : Slices) {r₃ : Bool} {lent : Lengths} → ((alpha : Float) → r₃ ≡ not (lengths_ok limits (sizes index.dim index.capacity index.degree alpha) lent))
+    → lent ≡ lengths_of s → r₃ ≡ false → (length s.numbers ≡ length s.marks) × (length s.summary ≡ length s.marks)
+lent_alike index s long alike t₃ =
+    let e = passed_lengths (sizes_of index) (lengths_of s) (not-false (lengths_ok limits (sizes_of index) (lengths_of s)) (sym (too_long index s long alike) ∙ t₃)) in
+    let m = ap (λ l. l.marks) e in
+    (ap (λ l. l.numbers) e ∙ sym m, ap (λ l. l.summary) e ∙ sym m)
 
 -- as many are live as there are marks at most
 pub live_few : (marks : List ℕ) {live : ℕ} → live ≡ length (filter (is_valid marks) (range 0 (length marks))) → live ≤ length marks
@@ -208,24 +201,20 @@ first_four false false true q₆ rest e = e
 first_four false false false true rest e = e
 first_four false false false false rest e = cc
 
-module _ {index : Index} {lent : Lengths} {looked : Labels} {wrong : Bool} {A : Type 0} {r₁ : Result A Refusal} (d : Decided index lent looked wrong [] r₁) where
-  pub decided_before : {B : Type 0} (rest : List Test) {e : Refusal} → r₁ ≡ Err e → Decided index lent looked wrong rest {A = B} (Err e)
+module _ {index : Index} {s : Slices} {wrong : Bool} {A : Type 0} {r₁ : Result A Refusal} (d : Decided index s wrong [] r₁) where
+  pub decided_before : {B : Type 0} (rest : List Test) {e : Refusal} → r₁ ≡ Err e → Decided index s wrong rest {A = B} (Err e)
   unfolding index_tests shown stored store_ops store_view state_of
-  decided_before rest z =
-      record { does = λ s e h. first_four (bad₁ index) (bad₂ index) (bad₃ index lent || wrong) (bad₆ index (labels_of s) index.capacity) rest (ap back (sym z) ∙ d.does s e h) }
+  decided_before rest z = record { does = first_four (bad₁ index) (bad₂ index) (bad₃ index (lengths_of s) || wrong) (index_fault index s index.capacity) rest (ap back (sym z) ∙ d.does) }
 
   -- and where none of those does they decide
-  pub decided_after : {B : Type 0} (rest : List Test) (r : Result B Refusal) {a : A} → r₁ ≡ Ok a → back r ≡ first_of rest → Decided index lent looked wrong rest r
+  pub decided_after : {B : Type 0} (rest : List Test) (r : Result B Refusal) {a : A} → r₁ ≡ Ok a → back r ≡ first_of rest → Decided index s wrong rest r
   unfolding index_tests shown stored store_ops store_view state_of
   decided_after rest r z k =
-      record {
-        does = λ s e h.
-            let f = (none_of (bad₁ index) (bad₂ index) (bad₃ index lent || wrong) (bad₆ index (labels_of s) index.capacity) [] (ap back (sym z) ∙ d.does s e h)).0 in
-            rw (f.one, f.two, f.three, f.six) k;
-      }
+      let f = (none_of (bad₁ index) (bad₂ index) (bad₃ index (lengths_of s) || wrong) (index_fault index s index.capacity) [] (ap back (sym z) ∙ d.does)).0 in
+      record { does = rw (f.one, f.two, f.three, f.six) k }
 
 -- an index of which none of the four holds: all that a call may rest on
-four_passed : (index : Index) (s : Slices) (wrong : Bool) → Four (bad₁ index) (bad₂ index) (bad₃ index (lengths_of s) || wrong) (bad₆ index (labels_of s) index.capacity) → Passed index s
+four_passed : (index : Index) (s : Slices) (wrong : Bool) → Four (bad₁ index) (bad₂ index) (bad₃ index (lengths_of s) || wrong) (index_fault index s index.capacity) → Passed index s
 unfolding store_view state_of
 four_passed index s wrong f =
     let m = sizes_of index in
@@ -288,17 +277,17 @@ pub passed_none : (index : Index) (s : Slices) (wrong : Bool) (rest : List Test)
 unfolding index_tests shown stored store_ops store_view state_of
 passed_none index s wrong rest h = four_passed index s wrong (none_of _ _ _ _ rest (sym h)).0
 
-module _ (index : Index) (s : Slices) {wrong : Bool} {rest : List Test} {A : Type 0} {r : Result A Refusal} (d : Decided index (lengths_of s) (labels_of s) wrong rest r) where
+module _ (index : Index) (s : Slices) {wrong : Bool} {rest : List Test} {A : Type 0} {r : Result A Refusal} (d : Decided index s wrong rest r) where
   -- the number of an error is the number given
   pub turned_back : {e : Refusal} → r ≡ Err e → first_of (index_tests limits (lengths_of s) (shown stored (state_of index s)) wrong rest) ≡ some (number_of e)
-  turned_back z = sym (d.does s refl refl) ∙ ap back z
+  turned_back z = sym d.does ∙ ap back z
 
   module _ {a : A} (z : r ≡ Ok a) where
     -- where there is none, no test holds
     pub let_through : first_of (index_tests limits (lengths_of s) (shown stored (state_of index s)) wrong rest) ≡ none
-    let_through = sym (d.does s refl refl) ∙ ap back z
+    let_through = sym d.does ∙ ap back z
 
-    none_found : Four (bad₁ index) (bad₂ index) (bad₃ index (lengths_of s) || wrong) (bad₆ index (labels_of s) index.capacity) × (none ≡ first_of rest)
+    none_found : Four (bad₁ index) (bad₂ index) (bad₃ index (lengths_of s) || wrong) (index_fault index s index.capacity) × (none ≡ first_of rest)
     unfolding index_tests shown stored store_ops store_view state_of
     none_found = none_of _ _ _ _ rest (sym let_through)
 
@@ -313,44 +302,6 @@ module _ (index : Index) (s : Slices) {wrong : Bool} {rest : List Test} {A : Typ
     pub passed : Passed index s
     passed = four_passed index s wrong none_found.0
 
--- before a call's own tests: the slices that were looked at pass, whatever the other slices hold
-module _ (index : Index) {lent : Lengths} {looked : Labels} {wrong : Bool} (long : lent.marks ≡ length looked.marks) (so_many : lent.numbers ≡ length looked.numbers)
-    (as_many : lent.summary ≡ length looked.summary) {A : Type 0} {r : Result A Refusal} {a : A} (d : Decided index lent looked wrong [] r) (z : r ≡ Ok a) where
-  abbrev some_slices : Slices
-  some_slices =
-      slices (replicate lent.vectors 0) (replicate lent.targets 0) (replicate lent.edges 0) (replicate lent.versions 0) looked.marks (replicate lent.pool 0)
-      looked.numbers looked.summary
-
-  zeros : (n : ℕ) → n ≡ length (replicate {A = ℕ} n 0)
-  zeros n = sym (length-replicate {A = ℕ} n 0)
-
-  so_long : lent ≡ lengths_of some_slices
-  so_long = λ i. record {
-    vectors = zeros lent.vectors i;
-    targets = zeros lent.targets i;
-    edges = zeros lent.edges i;
-    versions = zeros lent.versions i;
-    marks = long i;
-    pool = zeros lent.pool i;
-    numbers = so_many i;
-    summary = as_many i;
-  }
-
-  pub decided_passed : Passed index some_slices
-  decided_passed = passed index some_slices (subst (λ n. Decided index n looked wrong [] r) so_long d) z
-
-  -- the numbers can be looked up
-  pub decided_listed : Listed looked.numbers looked.summary index.live
-  unfolding store_view state_of
-  decided_listed = let p = decided_passed in labelled_listed p.labelled p.live_right p.numbers_long p.capacity_high
-
-  pub decided_not_wrong : wrong ≡ false
-  decided_not_wrong = not_wrong index some_slices (subst (λ n. Decided index n looked wrong [] r) so_long d) z
-
-  pub decided_live : index.live ≡ length (filter (is_valid looked.marks) (range 0 index.capacity))
-  unfolding store_view state_of
-  decided_live = decided_passed.live_right
-
 -- what the functions on rows and on vectors ask
 module _ {index : Index} {s : Slices} (p : Passed index s) where
   pub passed_rows : RowShape index.degree s.targets s.edges s.versions s.marks
@@ -364,6 +315,15 @@ module _ {index : Index} {s : Slices} (p : Passed index s) where
   pub passed_bytes : Bytes index.dim (length s.marks) s.vectors
   unfolding state_of
   passed_bytes = record { long = rw p.shaped.marks_long p.shaped.vectors_long; small = p.dim_high }
+
+  -- the numbers can be looked up
+  pub passed_listed : Listed s.numbers s.summary index.live
+  unfolding store_view state_of
+  passed_listed = labelled_listed p.labelled p.live_right p.numbers_long p.capacity_high
+
+  pub passed_live : index.live ≡ length (filter (is_valid s.marks) (range 0 index.capacity))
+  unfolding store_view state_of
+  passed_live = p.live_right
 
 -- ---- one call, turned back or not
 

@@ -19,8 +19,7 @@ use Rattle.numbers.specs.Inner.Listed.{Apart, Summarized}
 use Rattle.numbers.proofs.Kept.{made_distinct}
 use Rattle.slots.specs.Inner.Making.{Room, New}
 use Rattle.slots.proofs.New.{Accepted, agree_new}
-use Rattle.index.specs.declared.Index.{Index}
-use Rattle.std.specs.Prelude.{None, Result, Ok, Err}
+use Rattle.std.specs.Prelude.{Result, Ok, Err}
 use Rattle.index.specs.declared.Refusal.{Refusal}
 use Rattle.index.specs.declared.Refusal.TheVariants as Refused
 use Rattle.index.specs.Refusal.{turned_back}
@@ -29,8 +28,10 @@ use Rattle.calls.specs.Calls.{Making}
 use Rattle.calls.specs.Refusals.{first_of, names_given, entry_given, making_tests}
 use Rattle.calls.specs.State.{stored, plain, made}
 use Rattle.index.specs.Index.{sizes, guard_of, state_of}
-use Rattle.index.specs.Create.{Creates}
-use Rattle.index.specs.Inner.Making.{making_of, NumberRoom, NewNumbers}
+use Rattle.guard.specs.Guard.{off}
+use Rattle.index.specs.declared.making.Making as lent
+use Rattle.index.specs.Create.{making_of, Creates}
+use Rattle.index.specs.Inner.Making.{fresh_index, NumberRoom, NewNumbers}
 use Rattle.index.specs.Inner.Deciding.{Judged}
 use Rattle.index.proofs.Decide.{ltb_leb, sized as sized_ranges}
 use Rattle.calls.proofs.Tests.{lengths_made, capacity_within, numbers_given, accepted}
@@ -116,25 +117,23 @@ module _ {given numbers summary : List ℕ} (k : NumberRoom given numbers summar
   }
 
 -- what is written, with the new index by value, is what making makes
-made_new : {index : Index} {bytes rows given : List ℕ} {s : Slices} → index.guard ≡ None
-    → Accepted (sizes index.dim index.capacity index.degree index.alpha) index.live bytes rows index.entry
-    → New index.dim index.capacity index.degree index.live bytes rows s.vectors s.targets s.edges s.versions s.marks s.pool
-    → length given ≡ index.live → NewNumbers given index.capacity s.numbers s.summary
-    → state_of index s ≡ made stored (making_of index bytes rows given)
+made_new : (g : lent.Making) {s : Slices} → let m = making_of g in Accepted m.sizes m.count m.bytes m.rows m.entry
+    → New g.dim g.capacity g.degree g.count m.bytes m.rows s.vectors s.targets s.edges s.versions s.marks s.pool
+    → length m.numbers ≡ m.count → NewNumbers m.numbers g.capacity s.numbers s.summary
+    → state_of (fresh_index g) s ≡ made stored m
 unfolding state_of made stored plain new_plain store_ops store_view guard_of
-made_new {index} {bytes} {rows} {given} {s} g ok w many k =
-    let m = making_of index bytes rows given in
-    let z = sizes index.dim index.capacity index.degree index.alpha in
-    let same = (agree_new z index.live bytes rows index.entry ok).same in
+made_new g {s} ok w many k =
+    let m = making_of g in
+    let same = (agree_new m.sizes m.count m.bytes m.rows m.entry ok).same in
     let v = store_view (stored.new m) in
-    let numbers : s.numbers ≡ given ++ replicate (index.capacity - index.live) 0 = subst (λ n. s.numbers ≡ given ++ replicate (index.capacity - n) 0) many k.numbers_new in
-    let live : (t : ℕ) → v.live t ≡ ltb t (length given) = λ t. ap (λ (u : View). u.live t) same ∙ ap (ltb t) (sym many) in
-    let summary : s.summary ≡ summary_of v.live v.sizes.capacity (given ++ replicate (index.capacity - index.live) 0) =
-    subst (λ l. s.summary ≡ summary_of v.live index.capacity l) numbers (k.summary_new v.live live) in
+    let numbers : s.numbers ≡ m.numbers ++ replicate (g.capacity - m.count) 0 = subst (λ n. s.numbers ≡ m.numbers ++ replicate (g.capacity - n) 0) many k.numbers_new in
+    let live : (t : ℕ) → v.live t ≡ ltb t (length m.numbers) = λ t. ap (λ (u : View). u.live t) same ∙ ap (ltb t) (sym many) in
+    let summary : s.summary ≡ summary_of v.live v.sizes.capacity (m.numbers ++ replicate (g.capacity - m.count) 0) =
+    subst (λ l. s.summary ≡ summary_of v.live g.capacity l) numbers (k.summary_new v.live live) in
     λ i. record {
-      graph = record { arrays = w.does index.alpha i; capacity = index.capacity; alpha = index.alpha; entry = index.entry };
+      graph = record { arrays = w.does g.alpha i; capacity = g.capacity; alpha = g.alpha; entry = g.entry };
       live = sym (stored_given m ok) i;
-      guard = ap guard_of g i;
+      guard = off;
       pool = w.pool_empty i;
       numbers = numbers i;
       summary = summary i;
@@ -142,9 +141,10 @@ made_new {index} {bytes} {rows} {given} {s} g ok w many k =
 
 -- ---- what the answer says
 
-module _ {m : Making} (s : Slices) {A : Type 0} {r : Result A Refusal} (j : Judged m (lengths_of s) r) where
+-- the lengths that are judged are those of the slices
+module _ {m : Making} (s : Slices) {seen : Slices} {lent : Lengths} {A : Type 0} {r : Result A Refusal} (long : lent ≡ lengths_of seen) (same : seen ≡ s) (j : Judged m lent r) where
   judged_none : {a : A} → r ≡ Ok a → first_of (making_tests limits (lengths_of s) m) ≡ none
-  judged_none z = sym j.does ∙ ap turned_back z
+  judged_none z = ap (λ n. first_of (making_tests limits n m)) (ap lengths_of (sym same) ∙ sym long) ∙ sym j.does ∙ ap turned_back z
 
   -- one that is not has the room for what it writes
   pub creates_room : {a : A} → r ≡ Ok a
@@ -182,17 +182,17 @@ module _ {m : Making} (s : Slices) {A : Type 0} {r : Result A Refusal} (j : Judg
       }
 
 -- and what it writes is the new index
-pub creates_done : {index : Index} {bytes rows given : List ℕ} (before after : Slices) {A : Type 0} {r : Result A Refusal} {a : A}
-    → Judged (making_of index bytes rows given) (lengths_of before) r → r ≡ Ok a → index.guard ≡ None
-    → New index.dim index.capacity index.degree index.live bytes rows after.vectors after.targets after.edges after.versions after.marks after.pool
-    → NewNumbers given (length before.numbers) after.numbers after.summary
-    → Creates (making_of index bytes rows given) before after (Ok index)
-creates_done {index} {bytes} {rows} {given} before after j z g w k =
-    let m = making_of index bytes rows given in
-    let h = judged_none before j z in
+pub creates_done : (g : lent.Making) (before after : Slices) {seen : Slices} {n : Lengths} {A : Type 0} {r : Result A Refusal} {a : A} → let m = making_of g in
+    n ≡ lengths_of seen → seen ≡ before → Judged m n r → r ≡ Ok a
+    → New g.dim g.capacity g.degree g.count m.bytes m.rows after.vectors after.targets after.edges after.versions after.marks after.pool
+    → NewNumbers m.numbers (length before.numbers) after.numbers after.summary
+    → Creates m before after (Ok (fresh_index g))
+creates_done g before after long same j z w k =
+    let m = making_of g in
+    let h = judged_none before long same j z in
     let n = ap (λ x. x.numbers) (lengths_made _ m h) in
-    let new = made_new g (accepted _ m h) w (numbers_given _ m h).0 (subst (λ n. NewNumbers given n after.numbers after.summary) n k) in
+    let new = made_new g (accepted _ m h) w (numbers_given _ m h).0 (subst (λ n. NewNumbers m.numbers n after.numbers after.summary) n k) in
     record {
       back = λ n q. cc;
-      done = λ i q. let k : i ≡ index = cc in record { accepted = h; new = ap (λ k. state_of k after) k ∙ new };
+      done = λ i q. let k : i ≡ fresh_index g = cc in record { accepted = h; new = ap (λ k. state_of k after) k ∙ new };
     }

@@ -5,6 +5,7 @@ use Rattle.slots.specs.Sizes.{Slices, lengths_of, limits}
 use Rattle.slots.specs.Store.{Store}
 use Rattle.index.specs.declared.Index.{Index}
 use Rattle.index.specs.declared.Refusal.{Refusal}
+use Rattle.index.specs.declared.making.Making as lent
 use Rattle.index.specs.Refusal.{number_of}
 use Rattle.calls.specs.Calls.{Making, Answer, create, refused, created}
 use Rattle.calls.specs.Refusals.{first_of, making_tests}
@@ -17,6 +18,10 @@ use Rattle.index.specs.Index.{sizes, state_of}
 abbrev pub making : ℕ → ℕ → ℕ → Float → ℕ → ℕ → List ℕ → List ℕ → List ℕ → Making
 making dim capacity degree alpha entry count bytes rows numbers =
     record { sizes = sizes dim capacity degree alpha; count = count; bytes = bytes; rows = rows; entry = entry; numbers = numbers }
+
+-- as the code has it
+abbrev pub making_of : lent.Making → Making
+making_of m = making m.dim m.capacity m.degree m.alpha m.entry m.count m.bytes.now m.rows.now m.numbers.now
 
 -- the slices as they are lent, and as they are left
 module _ (m : Making) (before after : Slices) where

@@ -3,12 +3,13 @@ use Rattle.std.specs.Prelude.{ℕ, cond, Float, Option, Some, None, Result, Ok, 
 use Rattle.slots.specs.Sizes.{Sizes, Slices, limits, sizes_ok}
 use Rattle.slots.specs.Sizes as Sizes
 use Rattle.slots.specs.Scratch.{size_answer}
-use Rattle.slots.specs.Store.{Store}
-use Rattle.guard.specs.Guard.{config, off, on}
+use Rattle.slots.specs.Store.{Store, Arrays, arrays}
+use Rattle.guard.specs.Guard.{off, on}
 use Rattle.guard.specs.Guard as Guards
+use Rattle.guard.specs.Lent.{config_of}
 use Rattle.index.specs.declared.Index.{Index}
 use Rattle.index.specs.declared.Lengths.{Lengths}
-use Rattle.index.specs.declared.Settings.{Settings}
+use Rattle.index.specs.declared.Guard.{Guard}
 use Rattle.index.specs.declared.Refusal.{Refusal}
 use Rattle.calls.specs.State.{State, Value, state}
 
@@ -37,9 +38,9 @@ lengths_in l =
       summary = l.summary;
     }
 
-unfoldable pub guard_of : Option Settings → Guards.Guard
+unfoldable pub guard_of : Option Guard → Guards.Guard
 guard_of None = off
-guard_of (Some s) = on (config s.count s.multiplier s.sample s.beam) s.pool
+guard_of (Some g) = on (config_of g.config) g.pool
 
 -- the index in the definitions' terms
 abbrev pub index_value : Index → Value
@@ -47,3 +48,7 @@ index_value i = record { sizes = sizes_of i; entry = i.entry; live = i.live; gua
 
 unfoldable pub state_of : Index → Slices → State Store
 state_of i s = state (index_value i) s
+
+-- the graph in its slices
+abbrev pub arrays_of : Index → Slices → Arrays
+arrays_of i s = arrays i.dim i.degree s.vectors s.targets s.edges s.versions s.marks

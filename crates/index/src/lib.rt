@@ -3,21 +3,21 @@
 
 mod making;
 pub mod refusals;
+mod slices;
 
-pub use making::create;
+use guard::Config;
+pub use making::{Making, create};
 pub use refusals::scratch_words;
+pub use slices::{DeleteSlices, EnableSlices, InsertSlices, NewSlices, Slices};
 
-// The settings of a guard that is on, and the length of its landmark pool.
+// A guard that is on: its settings, and the length of its landmark pool.
 #[derive(Clone, Copy)]
-pub struct Settings {
-    pub count: u32,
-    pub multiplier: u32,
-    pub sample: u32,
-    pub beam: u32,
+pub struct Guard {
+    pub config: Config,
     pub pool: u32,
 }
 
-// An index without its eight slices; its guard is off where it has no settings.
+// An index without its eight slices; its guard may be off.
 #[derive(Clone, Copy)]
 pub struct Index {
     pub dim: u32,
@@ -26,7 +26,7 @@ pub struct Index {
     pub alpha: f32,
     pub entry: u32,
     pub live: u32,
-    pub guard: Option<Settings>,
+    pub guard: Option<Guard>,
 }
 
 // The lengths of the eight slices.

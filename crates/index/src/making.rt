@@ -1,20 +1,34 @@
-// Making an index.
-ghost use Rattle.std.specs.Prelude.{None, not, ◌&&◌, ◌∷◌, [], ◌≡◌, ◌*◌, ◌≤◌, eqb, ltb, length};
-ghost use Rattle.slots.specs.Sizes.{slices};
+// Making an index. Its tests say what is bad, as those of refusals.rt do.
+ghost use Rattle.std.specs.Prelude.{not, ◌&&◌, ◌∷◌, [], ◌≡◌, ◌*◌, ◌≤◌, eqb, ltb, length};
 ghost use Rattle.slots.specs.Inner.Making.{Room, New};
 ghost use Rattle.numbers.specs.Numbers.{taken};
 ghost use Rattle.calls.specs.Refusals.{first_of, names_given, entry_given};
 ghost use Rattle.index.specs.Index.{lengths_in};
-ghost use Rattle.index.specs.Create.{making, Creates};
-ghost use Rattle.index.specs.Inner.Making.{fresh_index, making_of, NumberRoom, NewNumbers};
+ghost use Rattle.index.specs.Lent.{new_slices_of, SameNewSlices};
+ghost use Rattle.index.specs.Create.{making_of, Creates};
+ghost use Rattle.index.specs.Inner.Making.{fresh_index, NumberRoom, NewNumbers};
 ghost use Rattle.index.specs.Inner.Deciding.{Judged};
 ghost use Rattle.index.specs.Refusal.{turned_back};
 
 use super::refusals::{alpha_bad, lengths_bad, product, sizes_bad};
-use super::{Index, Lengths, Refusal};
+use super::{Index, Lengths, NewSlices, Refusal};
 use numbers::{repeated, summarize};
 use slots::parts::lay;
 use slots::rows::BLANK;
+
+// What making is given: sizes and alpha, the entry, and the vectors, rows and numbers of the first `count` slots.
+#[derive(Clone, Copy)]
+pub struct Making<'a> {
+    pub dim: u32,
+    pub capacity: u32,
+    pub degree: u32,
+    pub alpha: f32,
+    pub entry: u32,
+    pub count: u32,
+    pub bytes: &'a [u8],
+    pub rows: &'a [u32],
+    pub numbers: &'a [u32],
+}
 
 // Row 5, of the given rows: a word is neither blank nor a given slot.
 fn names_bad(rows: &[u32], count: u32) -> bool
@@ -31,107 +45,91 @@ fn entry_bad(entry: u32, count: u32) -> bool
 }
 
 // Row 3, of the given vectors, rows and numbers: one of them has another length.
-fn given_bad(dim: u32, degree: u32, count: u32, bytes: usize, rows: usize, numbers: usize) -> bool
-    ensures { result ≡ not (eqb bytes (count * dim) && eqb rows (count * degree) && eqb numbers count) }
+fn given_bad(given: &Making<'_>) -> bool
+    ensures { result ≡ not (eqb (length given.now.bytes.now) (given.now.count * given.now.dim) && eqb (length given.now.rows.now) (given.now.count * given.now.degree) && eqb (length given.now.numbers.now) given.now.count) }
 {
-    bytes != product(count, dim) || rows != product(count, degree) || numbers != count as usize
+    given.bytes.len() != product(given.count, given.dim)
+        || given.rows.len() != product(given.count, given.degree)
+        || given.numbers.len() != given.count as usize
 }
 
 // Turns a making back by the first of rows 4, 5 and 15 that holds.
-fn check_given(
-    capacity: u32,
-    entry: u32,
-    count: u32,
-    rows: &[u32],
-    numbers: &[u32],
-) -> Result<(), Refusal>
-    requires { (capacity ≤ 65536) × (length numbers.now ≡ count) }
-    ensures { turned_back result ≡ first_of ((4, ltb capacity count) ∷ (5, not (names_given count rows.now && entry_given count entry)) ∷ (15, taken [] numbers.now) ∷ []) }
+fn check_given(given: &Making<'_>) -> Result<(), Refusal>
+    requires { (given.now.capacity ≤ 65536) × (length given.now.numbers.now ≡ given.now.count) }
+    ensures { turned_back result ≡ first_of ((4, ltb given.now.capacity given.now.count) ∷ (5, not (names_given given.now.count given.now.rows.now && entry_given given.now.count given.now.entry)) ∷ (15, taken [] given.now.numbers.now) ∷ []) }
 {
-    if capacity < count {
+    if given.capacity < given.count {
         return Err(Refusal::Count);
     }
-    if names_bad(rows, count) {
-        return Err(Refusal::Names);
-    }
-    if entry_bad(entry, count) {
+    if names_bad(given.rows, given.count) || entry_bad(given.entry, given.count) {
         return Err(Refusal::Names);
     }
     // 0 counts too
-    if repeated(numbers) {
+    if repeated(given.numbers) {
         return Err(Refusal::Numbers);
     }
     Ok(())
 }
 
 // Turns a making back by the first of rows 1 to 5 and 15 that holds.
-fn check_making(
-    index: Index,
-    bytes: &[u8],
-    rows: &[u32],
-    given: &[u32],
-    lent: Lengths,
-) -> Result<(), Refusal>
-    ensures { Judged (making_of index bytes.now rows.now given.now) (lengths_in lent) result }
+fn check_making(given: &Making<'_>, lent: Lengths) -> Result<(), Refusal>
+    ensures { Judged (making_of given.now) (lengths_in lent) result }
 {
-    if sizes_bad(index.dim, index.capacity, index.degree) {
+    if sizes_bad(given.dim, given.capacity, given.degree) {
         return Err(Refusal::Sizes);
     }
-    if alpha_bad(index.alpha) {
+    if alpha_bad(given.alpha) {
         return Err(Refusal::Alpha);
     }
-    if lengths_bad(index.dim, index.capacity, index.degree, lent) {
+    if lengths_bad(given.dim, given.capacity, given.degree, lent) {
         return Err(Refusal::Lengths);
     }
-    if given_bad(
-        index.dim,
-        index.degree,
-        index.live,
-        bytes.len(),
-        rows.len(),
-        given.len(),
-    ) {
+    if given_bad(given) {
         return Err(Refusal::Lengths);
     }
-    check_given(index.capacity, index.entry, index.live, rows, given)
+    check_given(given)
 }
 
-// A new index of which the first `count` slots are given.
-fn new_index(dim: u32, capacity: u32, degree: u32, alpha: f32, entry: u32, count: u32) -> Index
-    ensures { result ≡ fresh_index dim capacity degree alpha entry count }
+// The new index.
+fn new_index(given: &Making<'_>) -> Index
+    ensures { result ≡ fresh_index given.now }
 {
     Index {
-        dim,
-        capacity,
-        degree,
-        alpha,
-        entry,
-        live: count,
+        dim: given.dim,
+        capacity: given.capacity,
+        degree: given.degree,
+        alpha: given.alpha,
+        entry: given.entry,
+        live: given.count,
         guard: None,
     }
 }
 
 // Writes the graph of an index that is accepted: the given vectors and rows, and the rest of the first six slices.
-fn write(
-    index: Index,
-    bytes: &[u8],
-    rows: &[u32],
-    vectors: &mut [u8],
-    targets: &mut [u32],
-    edges: &mut [u16],
-    versions: &mut [u16],
-    marks: &mut [u8],
-    pool: &mut [u32],
-)
-    requires { Room index.dim index.capacity index.degree index.live bytes.now rows.now vectors.old targets.old edges.old versions.old marks.old pool.old }
-    ensures { New index.dim index.capacity index.degree index.live bytes.now rows.now vectors.new targets.new edges.new versions.new marks.new pool.new }
+fn write(given: &Making<'_>, slices: &mut NewSlices<'_>)
+    requires { Room given.now.dim given.now.capacity given.now.degree given.now.count given.now.bytes.now given.now.rows.now slices.old.vectors.now slices.old.targets.now slices.old.edges.now slices.old.versions.now slices.old.marks.now slices.old.pool.now }
+    ensures { New given.now.dim given.now.capacity given.now.degree given.now.count given.now.bytes.now given.now.rows.now slices.new.vectors.now slices.new.targets.now slices.new.edges.now slices.new.versions.now slices.new.marks.now slices.new.pool.now
+        × (slices.new.numbers.now ≡ slices.old.numbers.now) × (slices.new.summary.now ≡ slices.old.summary.now) × SameNewSlices slices.old slices.new }
 {
-    let dim = index.dim as usize;
-    let capacity = index.capacity as usize;
-    let degree = index.degree as usize;
-    let given = index.live as usize;
+    let vectors = &mut *slices.vectors;
+    let targets = &mut *slices.targets;
+    let edges = &mut *slices.edges;
+    let versions = &mut *slices.versions;
+    let marks = &mut *slices.marks;
+    let pool = &mut *slices.pool;
     slots::making::write_new(
-        dim, capacity, degree, given, bytes, rows, vectors, targets, edges, versions, marks, pool,
+        given.dim as usize,
+        given.capacity as usize,
+        given.degree as usize,
+        given.count as usize,
+        given.bytes,
+        given.rows,
+        vectors,
+        targets,
+        edges,
+        versions,
+        marks,
+        pool,
     );
 }
 
@@ -144,67 +142,15 @@ fn write_labels(given: &[u32], numbers: &mut [u32], summary: &mut [u32])
     summarize(numbers, summary, given.len());
 }
 
-// Decides, before anything is written, whether the index is accepted; then writes it.
-fn make(
-    index: Index,
-    bytes: &[u8],
-    rows: &[u32],
-    given: &[u32],
-    vectors: &mut [u8],
-    targets: &mut [u32],
-    edges: &mut [u16],
-    versions: &mut [u16],
-    marks: &mut [u8],
-    pool: &mut [u32],
-    numbers: &mut [u32],
-    summary: &mut [u32],
-) -> Result<Index, Refusal>
-    requires { index.guard ≡ None }
-    ensures { Creates (making_of index bytes.now rows.now given.now) (slices vectors.old targets.old edges.old versions.old marks.old pool.old numbers.old summary.old) (slices vectors.new targets.new edges.new versions.new marks.new pool.new numbers.new summary.new) result }
+// Makes an index of what is given in the eight slices, whatever they hold: decides, before anything is written, whether it is accepted; then writes it.
+pub fn create(given: &Making<'_>, slices: &mut NewSlices<'_>) -> Result<Index, Refusal>
+    ensures { Creates (making_of given.now) (new_slices_of slices.old) (new_slices_of slices.new) result × SameNewSlices slices.old slices.new }
 {
-    let lent = Lengths {
-        vectors: vectors.len(),
-        targets: targets.len(),
-        edges: edges.len(),
-        versions: versions.len(),
-        marks: marks.len(),
-        pool: pool.len(),
-        numbers: numbers.len(),
-        summary: summary.len(),
-    };
-    let checked = check_making(index, bytes, rows, given, lent);
+    let checked = check_making(given, slices.read().lengths());
     checked?;
-    write(
-        index, bytes, rows, vectors, targets, edges, versions, marks, pool,
-    );
-    write_labels(given, numbers, summary);
-    Ok(index)
-}
-
-// Makes an index of the given vectors, rows and numbers in the eight lent slices, whatever they hold.
-pub fn create(
-    dim: u32,
-    capacity: u32,
-    degree: u32,
-    alpha: f32,
-    entry: u32,
-    count: u32,
-    bytes: &[u8],
-    rows: &[u32],
-    given: &[u32],
-    vectors: &mut [u8],
-    targets: &mut [u32],
-    edges: &mut [u16],
-    versions: &mut [u16],
-    marks: &mut [u8],
-    pool: &mut [u32],
-    numbers: &mut [u32],
-    summary: &mut [u32],
-) -> Result<Index, Refusal>
-    ensures { Creates (making dim capacity degree alpha entry count bytes.now rows.now given.now) (slices vectors.old targets.old edges.old versions.old marks.old pool.old numbers.old summary.old) (slices vectors.new targets.new edges.new versions.new marks.new pool.new numbers.new summary.new) result }
-{
-    let index = new_index(dim, capacity, degree, alpha, entry, count);
-    make(
-        index, bytes, rows, given, vectors, targets, edges, versions, marks, pool, numbers, summary,
-    )
+    write(given, slices);
+    let numbers = &mut *slices.numbers;
+    let summary = &mut *slices.summary;
+    write_labels(given.numbers, numbers, summary);
+    Ok(new_index(given))
 }

@@ -1,28 +1,29 @@
-// The tests of document 01's table that calls share, and the size answer.
-ghost use Rattle.std.specs.Prelude.{not, ◌||◌, [], ◌≡◌, ◌*◌, Float, eqb, ltb, length};
-ghost use Rattle.lists.specs.Lists.{filter, range};
+// The tests of document 01's table that calls share, and the size answer. A test says what is bad, as its row does: one that gave the row's error as a `Result`
+// would be no shorter, and a call would show less well in which order its rows are tested.
+ghost use Rattle.std.specs.Prelude.{not, [], ◌≡◌, ◌*◌, Float, ltb, length};
 ghost use Rattle.slots.specs.Sizes.{limits, within, sizes_ok, alpha_ok, exact, lengths_ok};
-ghost use Rattle.slots.specs.Store.{is_valid};
-ghost use Rattle.numbers.specs.Numbers.{labels_ok};
-ghost use Rattle.guard.specs.Guard.{config};
+ghost use Rattle.guard.specs.Lent.{config_of};
 ghost use Rattle.calls.specs.Refusals.{guard_fault, config_over, config_zero};
 ghost use Rattle.slots.specs.Scratch.{size_answer};
 ghost use Rattle.index.specs.Index.{words_for, guard_of, sizes, lengths_in};
-ghost use Rattle.index.specs.Inner.Deciding.{labels, Decided};
+ghost use Rattle.index.specs.Lent.{slices_of};
+ghost use Rattle.index.specs.Inner.Deciding.{index_fault, Decided};
 
-use super::{Index, Lengths, Refusal, Settings};
+use super::{Guard, Index, Lengths, Refusal, Slices};
+use guard::Config;
 use numbers::labels_bad;
 use slots::limits;
 use slots::scratch::{MARKS, WORK_WORDS};
 
-// Whether a number is outside a range that begins at 1.
+// Whether a number is outside a range that begins at 1: that a range's `contains` fails, the same for three sizes.
 fn outside(high: u32, n: u32) -> bool
     ensures { result ≡ not (within 1 high n) }
 {
     !(1..=high).contains(&n)
 }
 
-// Row 1: dim, capacity or degree is outside its range.
+// Row 1: dim, capacity or degree is outside its range. The three come one by one: an index, a making and the size answer have them as fields or words of
+// their own, and a struct of them would be made for this call alone.
 #[tactic(auto, unfolding(slots::specs::Sizes::sizes_ok, slots::specs::Sizes::limits))]
 pub fn sizes_bad(dim: u32, capacity: u32, degree: u32) -> bool
     ensures { (alpha : Float) → result ≡ not (sizes_ok limits (sizes dim capacity degree alpha)) }
@@ -66,69 +67,60 @@ fn exact_lengths(dim: u32, capacity: u32, degree: u32) -> Lengths
     }
 }
 
-// Row 3, of the eight slices of an index: one of them has another length.
+// Row 3, of the eight slices of an index: one of them has another length. Sizes one by one, as for row 1.
 pub fn lengths_bad(dim: u32, capacity: u32, degree: u32, lent: Lengths) -> bool
     ensures { (alpha : Float) → result ≡ not (lengths_ok limits (sizes dim capacity degree alpha) (lengths_in lent)) }
 {
     lent != exact_lengths(dim, capacity, degree)
 }
 
-// Row 7, of a guard's settings: one of them is over its limit. Four numbers and no `Settings`: enabling tests them before there is a pool.
+// Row 7, of a guard's settings: one of them is over its limit.
 #[tactic(auto, unfolding(slots::specs::Sizes::limits))]
-pub fn config_over(count: u32, multiplier: u32, sample: u32, beam: u32) -> bool
-    ensures { result ≡ config_over limits (config count multiplier sample beam) }
+pub fn config_over(config: Config) -> bool
+    ensures { result ≡ config_over limits (config_of config) }
 {
-    limits::LANDMARKS < count
-        || limits::MULTIPLIER < multiplier
-        || limits::SAMPLE < sample
-        || limits::BEAM < beam
+    limits::LANDMARKS < config.count
+        || limits::MULTIPLIER < config.multiplier
+        || limits::SAMPLE < config.sample
+        || limits::BEAM < config.beam
 }
 
 // Whether one of a guard's settings is 0.
-fn config_zero(count: u32, multiplier: u32, sample: u32, beam: u32) -> bool
-    ensures { result ≡ config_zero (config count multiplier sample beam) }
+fn config_zero(config: Config) -> bool
+    ensures { result ≡ config_zero (config_of config) }
 {
-    count == 0 || multiplier == 0 || sample == 0 || beam == 0
+    config.count == 0 || config.multiplier == 0 || config.sample == 0 || config.beam == 0
 }
 
 // Whether a guard has a fault: a setting that is 0 or over its limit, or too long a pool.
 #[tactic(auto, unfolding(calls::specs::Refusals::guard_fault, crate::specs::Index::guard_of, slots::specs::Sizes::limits))]
-fn guard_bad(guard: Option<Settings>) -> bool
+fn guard_bad(guard: Option<Guard>) -> bool
     ensures { result ≡ guard_fault limits (guard_of guard) }
 {
-    let Some(s) = guard else {
+    let Some(g) = guard else {
         return false;
     };
-    config_zero(s.count, s.multiplier, s.sample, s.beam)
-        || config_over(s.count, s.multiplier, s.sample, s.beam)
-        || limits::POOL < s.pool
+    config_zero(g.config) || config_over(g.config) || limits::POOL < g.pool
 }
 
 // Row 6: the live count is not that of the marks, the entry is outside, the guard has a fault, or numbers and summary break a rule.
-fn index_bad(index: Index, marks: &[u8], numbers: &[u32], summary: &[u32]) -> bool
-    requires { (length numbers.now ≡ length marks.now) × (length summary.now ≡ length marks.now) }
-    ensures { result ≡ (not (eqb index.live (length (filter (is_valid marks.now) (range 0 (length marks.now))))) || not (ltb index.entry index.capacity) || guard_fault limits (guard_of index.guard) || not (labels_ok (is_valid marks.now) (length marks.now) index.live numbers.now summary.now)) }
+fn index_bad(index: Index, slices: &Slices<'_>) -> bool
+    requires { (length slices.now.numbers.now ≡ length slices.now.marks.now) × (length slices.now.summary.now ≡ length slices.now.marks.now) }
+    ensures { result ≡ index_fault index (slices_of slices.now) (length slices.now.marks.now) }
 {
     let live = index.live as usize;
-    if live != slots::marks::count_valid(marks) {
+    if live != slots::marks::count_valid(slices.marks) {
         return true;
     }
     index.capacity <= index.entry
         || guard_bad(index.guard)
-        || labels_bad(marks, numbers, summary, live)
+        || labels_bad(slices.marks, slices.numbers, slices.summary, live)
 }
 
-// Turns a call back by the first of rows 1, 2, 3 and 6 that holds; `wrong` is the call's own part of row 3.
-pub fn check_index(
-    index: Index,
-    lent: Lengths,
-    marks: &[u8],
-    numbers: &[u32],
-    summary: &[u32],
-    wrong: bool,
-) -> Result<(), Refusal>
-    requires { (lent.marks ≡ length marks.now) × (lent.numbers ≡ length numbers.now) × (lent.summary ≡ length summary.now) }
-    ensures { Decided index (lengths_in lent) (labels marks.now numbers.now summary.now) wrong [] result }
+// Turns a call back by the first of rows 1, 2, 3 and 6 that holds. `wrong` is whether the call's own part of row 3 holds: it stands between the index's rows,
+// so what the call found comes in as a value. It chooses no step.
+pub fn check_index(index: Index, slices: &Slices<'_>, wrong: bool) -> Result<(), Refusal>
+    ensures { Decided index (slices_of slices.now) wrong [] result }
 {
     if sizes_bad(index.dim, index.capacity, index.degree) {
         return Err(Refusal::Sizes);
@@ -136,13 +128,13 @@ pub fn check_index(
     if alpha_bad(index.alpha) {
         return Err(Refusal::Alpha);
     }
-    if lengths_bad(index.dim, index.capacity, index.degree, lent) {
+    if lengths_bad(index.dim, index.capacity, index.degree, slices.lengths()) {
         return Err(Refusal::Lengths);
     }
     if wrong {
         return Err(Refusal::Lengths);
     }
-    if index_bad(index, marks, numbers, summary) {
+    if index_bad(index, slices) {
         return Err(Refusal::Index);
     }
     Ok(())

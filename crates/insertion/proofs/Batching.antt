@@ -18,13 +18,16 @@ use Rattle.lists.proofs.Chunks.{chunks_enough}
 use Rattle.lists.proofs.Ranges.{length_range, range_below}
 use Rattle.slots.specs.Scratch.{work_at, size_answer}
 use Rattle.slots.specs.View.{free_slots}
-use Rattle.slots.specs.Store.{Arrays, Store, is_valid, store_view, store_ops, with_arrays, arrays}
+use Rattle.slots.specs.Store.{Arrays, Store, is_valid, store_view, store_ops, with_arrays}
 use Rattle.row.specs.Row.{index_of}
 use Rattle.insert.specs.Insert.{Filling, fillings, insert_chunk, insert_batch}
 use Rattle.insertion.specs.Batch.{insert_words, Insertable, BatchInserted}
-use Rattle.insertion.specs.Inner.Filling.{filling_at, fillings_from, chunk_of, Fillable, AsLong}
-use Rattle.insertion.specs.Inner.Chunk.{Provided, ChunkInserted, Assigned, ChunksInserted}
-use Rattle.insertion.proofs.Same.{as_long, as_long_then}
+use Rattle.insertion.specs.declared.graph.Selection.{Selection}
+use Rattle.insertion.specs.declared.inserter.Inserter.{Inserter}
+use Rattle.insertion.specs.Inner.Filling.{filling_at, fillings_from, chunk_of, Fillable}
+use Rattle.insertion.specs.Inner.Chunk.{Assigned}
+use Rattle.insertion.specs.Inner.Inserting.{index_in, SameInserter, Inserted}
+use Rattle.insertion.proofs.Same.{inserter_none, inserter_then, inserter_marks}
 
 -- insert's share of the size answer is enough
 pub insert_enough : (capacity degree : ℕ) → degree ≤ 64 → work_at capacity + insert_words degree ≤ size_answer capacity
@@ -131,24 +134,23 @@ pub record NextPart (left x later : List ℕ) : Type 0 where
   pub some : 0 < length left
 
 -- the bytes and the slots that are left
-pub record Chunking (alpha : Float) (start beam : ℕ) (bytes slots : List ℕ) (a₀ a : Arrays) (rest left : List ℕ) : Type 0 where
+pub record Chunking (bytes slots : List ℕ) (i₀ i : Inserter) (rest left : List ℕ) : Type 0 where
   pub from : ℕ
   pub bound : from ≤ length slots
-  pub rest_is : rest ≡ drop (from * a₀.dim) bytes
+  pub rest_is : rest ≡ drop (from * i₀.graph.now.dim) bytes
   pub left_is : left ≡ drop from slots
-  pub goes : foldl (insert_chunk store_ops beam) (index_of alpha start a) (rest_of a₀.dim bytes slots (length slots) from)
-      ≡ foldl (insert_chunk store_ops beam) (index_of alpha start a₀) (chunks (length slots) 256 (chunk_of a₀.dim bytes slots))
-  pub longs : AsLong a₀ a
+  pub goes : foldl (insert_chunk store_ops i₀.how.beam) (index_in i) (rest_of i₀.graph.now.dim bytes slots (length slots) from)
+      ≡ foldl (insert_chunk store_ops i₀.how.beam) (index_in i₀) (chunks (length slots) 256 (chunk_of i₀.graph.now.dim bytes slots))
+  pub same : SameInserter i₀ i
 
-pub chunking_none : (alpha : Float) (start beam : ℕ) (bytes slots : List ℕ) (a : Arrays) → Chunking alpha start beam bytes slots a a bytes slots
-chunking_none alpha start beam bytes slots a =
+pub chunking_none : (bytes slots : List ℕ) (i : Inserter) → Chunking bytes slots i i bytes slots
+chunking_none bytes slots i =
     let e : length slots - 0 ≡ length slots = omega arith in
-    let z : 0 * a.dim ≡ 0 = omega arith in
-    record { from = 0; bound = omega arith; rest_is = rw z; left_is = refl; goes = rw e; longs = as_long a }
+    let z : 0 * i.graph.now.dim ≡ 0 = omega arith in
+    record { from = 0; bound = omega arith; rest_is = rw z; left_is = refl; goes = rw e; same = inserter_none i }
 
-module _ {a₀ : Arrays} {alpha : Float} {start beam : ℕ} {bytes slots : List ℕ} (o : Assigned a₀.dim (length a₀.marks) bytes slots)
-    {vectors targets edges marks rest left : List ℕ} (f : Chunking alpha start beam bytes slots a₀ (arrays a₀.dim a₀.degree vectors targets edges a₀.versions marks) rest left)
-    {x later : List ℕ} (n : NextPart left x later) where
+module _ {i₀ : Inserter} {bytes slots : List ℕ} (o : Assigned i₀.graph.now.dim (length i₀.graph.now.marks.now) bytes slots) {i : Inserter} {rest left : List ℕ}
+    (f : Chunking bytes slots i₀ i rest left) {x later : List ℕ} (n : NextPart left x later) where
   left_long : length left ≡ length slots - f.from
   left_long = rw f.left_is (simp length-drop)
 
@@ -161,40 +163,45 @@ module _ {a₀ : Arrays} {alpha : Float} {start beam : ℕ} {bytes slots : List 
   later_is : later ≡ drop (f.from + length x) slots
   later_is = sym (drop_at x later (length x) refl) ∙ ap (drop (length x)) (sym n.whole ∙ f.left_is) ∙ drop-drop (length x) f.from slots
 
-  pub chunk_fits : length x * a₀.dim ≤ length rest
-  chunk_fits = rw f.rest_is (part_fits o f.from (length x) within)
+  pub chunk_fits : length x * i.graph.now.dim ≤ length rest
+  chunk_fits = rw (f.same.slices.dim, f.rest_is) (part_fits o f.from (length x) within)
 
-  pub chunk_fillable : Fillable a₀.dim (length marks) (take (length x * a₀.dim) rest) x
-  chunk_fillable =
-      let y : Fillable a₀.dim (length a₀.marks) (take (length x * a₀.dim) (drop (f.from * a₀.dim) bytes)) (take (length x) (drop f.from slots)) = part_fillable o f.from (length x) within (omega (arith, n.long)) in
-      rw (f.longs.marks, f.rest_is) (subst (Fillable a₀.dim (length a₀.marks) (take (length x * a₀.dim) (drop (f.from * a₀.dim) bytes))) (sym x_is) y)
+  module _ {now after : List ℕ} (c : now ≡ take (length x * i.graph.now.dim) rest) (d : after ≡ drop (length x * i.graph.now.dim) rest) where
+    now_is : now ≡ take (length x * i₀.graph.now.dim) (drop (f.from * i₀.graph.now.dim) bytes)
+    now_is = c ∙ rw (f.same.slices.dim, f.rest_is)
 
-  pub chunking_more : {vectors' targets' edges' marks' : List ℕ}
-      → ChunkInserted alpha (arrays a₀.dim a₀.degree vectors targets edges a₀.versions marks) start beam (take (length x * a₀.dim) rest) x (arrays a₀.dim a₀.degree vectors' targets' edges' a₀.versions marks')
-      → Chunking alpha start beam bytes slots a₀ (arrays a₀.dim a₀.degree vectors' targets' edges' a₀.versions marks') (drop (length x * a₀.dim) rest) later
-  chunking_more r =
-      let a = arrays a₀.dim a₀.degree vectors targets edges a₀.versions marks in
-      let z : f.from * a₀.dim + length x * a₀.dim ≡ (f.from + length x) * a₀.dim = sym (add-mul f.from (length x) a₀.dim) in
-      let c : chunk_of a₀.dim (take (length x * a₀.dim) rest) x ≡ fillings_from a₀.dim bytes slots f.from (length x) =
-      ap₂ (chunk_of a₀.dim) (ap (take (length x * a₀.dim)) f.rest_is) x_is ∙ chunk_is o f.from (length x) within in
-      record {
-        from = f.from + length x;
-        bound = within;
-        rest_is = ap (drop (length x * a₀.dim)) f.rest_is ∙ drop-drop (length x * a₀.dim) (f.from * a₀.dim) bytes ∙ ap (λ (n : ℕ). drop n bytes) z;
-        left_is = later_is;
-        goes =
-            ap (λ (b : Store). foldl (insert_chunk store_ops beam) b (rest_of a₀.dim bytes slots (length slots) (f.from + length x))) (r.chunk ∙ ap (insert_chunk store_ops beam (index_of alpha start a)) c)
-            ∙ ap (foldl (insert_chunk store_ops beam) (index_of alpha start a)) (sym (next_chunk a₀.dim bytes slots (length slots) f.from (length x) (omega (arith, left_long, n.some)) (omega (arith, n.long, left_long))))
-            ∙ f.goes;
-        longs = as_long_then f.longs r.longs;
-      }
+    pub chunk_fillable : Fillable i.graph.now.dim (length i.graph.now.marks.now) now x
+    chunk_fillable =
+        let y : Fillable i₀.graph.now.dim (length i₀.graph.now.marks.now) (take (length x * i₀.graph.now.dim) (drop (f.from * i₀.graph.now.dim) bytes)) (take (length x) (drop f.from slots)) = part_fillable o f.from (length x) within (omega (arith, n.long)) in
+        let z : Fillable i₀.graph.now.dim (length i₀.graph.now.marks.now) now x =
+        subst (λ (l : List ℕ). Fillable i₀.graph.now.dim (length i₀.graph.now.marks.now) l x) (sym now_is) (subst (Fillable i₀.graph.now.dim (length i₀.graph.now.marks.now) (take (length x * i₀.graph.now.dim) (drop (f.from * i₀.graph.now.dim) bytes))) (sym x_is) y) in
+        rw (f.same.slices.dim, inserter_marks f.same) z
 
-pub chunking_done : {alpha : Float} {start beam : ℕ} {bytes slots : List ℕ} {a₀ a : Arrays} {rest left : List ℕ} → Chunking alpha start beam bytes slots a₀ a rest left → length left ≡ 0
-    → ChunksInserted alpha a₀ start beam bytes slots a
+    pub chunking_more : {i' : Inserter} → Inserted i (insert_chunk store_ops i.how.beam (index_in i) (chunk_of i.graph.now.dim now x)) i' → Chunking bytes slots i₀ i' after later
+    chunking_more r =
+        let z : f.from * i₀.graph.now.dim + length x * i₀.graph.now.dim ≡ (f.from + length x) * i₀.graph.now.dim = sym (add-mul f.from (length x) i₀.graph.now.dim) in
+        let m : chunk_of i₀.graph.now.dim now x ≡ fillings_from i₀.graph.now.dim bytes slots f.from (length x) = ap₂ (chunk_of i₀.graph.now.dim) now_is x_is ∙ chunk_is o f.from (length x) within in
+        let y : insert_chunk store_ops i.how.beam (index_in i) (chunk_of i.graph.now.dim now x) ≡ insert_chunk store_ops i₀.how.beam (index_in i) (chunk_of i₀.graph.now.dim now x) =
+        ap₂ (λ (h : Selection) (d : ℕ). insert_chunk store_ops h.beam (index_in i) (chunk_of d now x)) f.same.how f.same.slices.dim in
+        let e : after ≡ drop (length x * i₀.graph.now.dim) (drop (f.from * i₀.graph.now.dim) bytes) = d ∙ rw (f.same.slices.dim, f.rest_is) in
+        record {
+          from = f.from + length x;
+          bound = within;
+          rest_is = e ∙ drop-drop (length x * i₀.graph.now.dim) (f.from * i₀.graph.now.dim) bytes ∙ ap (λ (n : ℕ). drop n bytes) z;
+          left_is = later_is;
+          goes =
+              ap (λ (b : Store). foldl (insert_chunk store_ops i₀.how.beam) b (rest_of i₀.graph.now.dim bytes slots (length slots) (f.from + length x))) (r.index ∙ y ∙ ap (insert_chunk store_ops i₀.how.beam (index_in i)) m)
+              ∙ ap (foldl (insert_chunk store_ops i₀.how.beam) (index_in i)) (sym (next_chunk i₀.graph.now.dim bytes slots (length slots) f.from (length x) (omega (arith, left_long, n.some)) (omega (arith, n.long, left_long))))
+              ∙ f.goes;
+          same = inserter_then f.same r.same;
+        }
+
+pub chunking_done : {bytes slots : List ℕ} {i₀ i : Inserter} {rest left : List ℕ} → Chunking bytes slots i₀ i rest left → length left ≡ 0
+    → Inserted i₀ (foldl (insert_chunk store_ops i₀.how.beam) (index_in i₀) (chunks (length slots) 256 (chunk_of i₀.graph.now.dim bytes slots))) i
 chunking_done {slots = slots} f h =
     let l = simp length-drop at (rw f.left_is at h) in
     let z : length slots - f.from ≡ 0 = omega arith in
-    record { chunked = rw z at f.goes }
+    record { index = rw z at f.goes; same = f.same }
 
 -- ---- the slots of a batch
 abbrev free_of : List ℕ → List ℕ
@@ -222,9 +229,6 @@ module _ {a : Arrays} {alpha : Float} {entry beam : ℕ} {bytes slots scratch : 
 
   pub batch_room : (count ≤ length slots) × (length a.marks ≤ 65536)
   batch_room = (rw q o.room_in, o.together.rows.few)
-
-  pub batch_provided : Provided a.degree (length a.marks) entry beam (length scratch)
-  batch_provided = record { start_in = o.entry_in; beam_most = o.beam_most; enough = o.enough }
 
   module _ {slots₁ : List ℕ} (e : slots₁ ≡ put_front (take count (free_of a.marks)) slots) where
     -- the numbers of the slots that are filled
@@ -261,7 +265,8 @@ module _ {a : Arrays} {alpha : Float} {entry beam : ℕ} {bytes slots scratch : 
         rw (drop-cons (free_of a.marks) i 0 (omega (arith, enough_free)))
         (ap₂ (λ (f : Filling) (l : List Filling). f ∷ l) (ap (λ (s : ℕ). record { slot = s; vector = part a.dim i bytes }) (sym (noted i (omega arith)))) (paired j (suc i) (omega arith)))
 
-    pub batch_inserted : {a' : Arrays} → ChunksInserted alpha a entry beam bytes filled a' → BatchInserted a alpha entry beam bytes slots a' slots₁ count
+    pub batch_inserted : {a' : Arrays} → index_of alpha entry a' ≡ foldl (insert_chunk store_ops beam) (index_of alpha entry a) (chunks (length filled) 256 (chunk_of a.dim bytes filled))
+        → BatchInserted a alpha entry beam bytes slots a' slots₁ count
     unfolding insert_batch fillings fillings_from store_ops store_view
     batch_inserted f =
         let b = index_of alpha entry a in
@@ -269,7 +274,7 @@ module _ {a : Arrays} {alpha : Float} {entry beam : ℕ} {bytes slots scratch : 
         record {
           count = q;
           index =
-              f.chunked
+              f
               ∙ ap (λ (m : ℕ). foldl (insert_chunk store_ops beam) b (chunks m 256 (map (filling_at a.dim bytes filled) (range 0 m)))) filled_long
               ∙ ap (λ (l : List Filling). foldl (insert_chunk store_ops beam) b (chunks count 256 l)) (sym (paired count 0 (omega arith)))
               ∙ ap (λ (m : ℕ). foldl (insert_chunk store_ops beam) b (chunks m 256 (fillings (store_view b) (vectors 0 count)))) (sym n)

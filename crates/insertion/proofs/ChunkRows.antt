@@ -1,7 +1,7 @@
 -- The rows of a chunk as the functions leave them, and as `chunk_rows` has them; the whole chunk. Assumes nothing.
 use Prim.Native.Nat.{ℕ, zero, suc, ◌+◌, ◌-◌, ◌*◌, ◌≤◌, ◌<◌}
 use mathlib.Core.Bool.{Bool, true, false, not, cond}
-use mathlib.Core.Path.{◌≡◌, refl, ap, sym, ◌∙◌}
+use mathlib.Core.Path.{◌≡◌, refl, ap, ap₂, sym, ◌∙◌}
 use mathlib.Core.List.{List, ◌∷◌, ◌++◌, map, map-map}
 use native.Mathlib.Nat.{mul-le-mul_right}
 use native.Mathlib.Omega.{arith}
@@ -10,26 +10,33 @@ use lib.ListN.{length, get_or}
 use lib.Ieee.{Float}
 use Rattle.lists.specs.Lists.{filter, foldl, range, elem, sorted_set}
 use Rattle.lists.proofs.Ranges.{foldl_same}
-use Rattle.slots.specs.Store.{Arrays, Store, store_view, store_ops, arrays}
+use Rattle.slots.specs.Store.{Arrays, Store, store_view, store_ops}
+use Rattle.slots.specs.Lent.{rows_mut_of, SameSlices}
 use Rattle.slots.specs.Ops.{Row, write_rows}
-use Rattle.slots.proofs.Places.{shape_fits}
 use Rattle.slots.proofs.Writes.{Whole}
 use Rattle.candidates.specs.Candidates.{ids}
 use Rattle.candidates.specs.Inner.Words.{cands}
 use Rattle.prune.proofs.Chosen.{chosen_few}
 use Rattle.row.specs.Row.{Together, index_of}
-use Rattle.row.proofs.Kept.{together_shaped}
+use Rattle.row.specs.Lent.{held}
+use Rattle.row.specs.declared.pruner.Pruner.{Pruner}
+use Rattle.row.proofs.Kept.{together_shaped, pruner_then}
+use Rattle.insert.specs.Insert.{Plan, plan, outgoing_row, target_row, chunk_rows, fill_all, insert_chunk}
+use Rattle.std.specs.Borrow.{Bor}
+use Rattle.insertion.specs.declared.graph.Selection.{Selection}
+use Rattle.insertion.specs.declared.inserter.Inserter.{Inserter}
 use Rattle.insertion.specs.declared.layout.Layout.{Layout}
-use Rattle.insert.specs.Insert.{Plan, plan, outgoing_row, target_row, chunk_rows, insert_chunk}
-use Rattle.insertion.specs.Inner.Layout.{Spread, Parts}
+use Rattle.insertion.specs.Inner.Layout.{Spread, Parts, Enough}
 use Rattle.insertion.specs.Inner.Chains.{head, Chainable, Chained}
-use Rattle.insertion.specs.Inner.Filling.{filling_at, fillings_from, chunk_of, Fillable, AsLong, ChunkFilled}
-use Rattle.insertion.specs.Inner.Plans.{start_of, plan_cands, Laid, AllPlanned}
-use Rattle.insertion.specs.Inner.Outgoing.{own_row, own_at, OutgoingRows, OutgoingWritten}
-use Rattle.insertion.specs.Inner.Targets.{renewed_at, Renewable, AllRenewed}
-use Rattle.insertion.specs.Inner.Chunk.{Provided, plan_at, Linked, RowsWritten, RowsInserted, ChunkInserted}
+use Rattle.insertion.specs.Inner.Filling.{filling_at, fillings_from, chunk_of, Fillable}
+use Rattle.insertion.specs.Inner.Inserting.{index_in, Inserted}
+use Rattle.insertion.specs.Inner.Plans.{start_of, plan_cands, plan_at, Laid, AllPlanned, Linked}
+use Rattle.insertion.specs.Inner.Outgoing.{own_row, own_at, OutgoingRows}
+use Rattle.insertion.specs.Inner.Targets.{renewed_at, Renewable}
+use Rattle.insertion.specs.Inner.Writing.{index_by, Written, Below}
+use Rattle.insertion.specs.Inner.Chunk.{rows_written, RowsWritten}
 use Rattle.insertion.proofs.Chaining.{slots_agree}
-use Rattle.insertion.proofs.Same.{as_long_then}
+use Rattle.insertion.proofs.Same.{inserter_marks, below_less}
 use Rattle.insertion.proofs.Plans.{AgreeUpTo, laid_agree}
 use Rattle.insertion.proofs.Targeting.{renewable_kept, sweep_kept}
 use Rattle.insertion.proofs.Order.{named, free_row, write_row, renew, rows_at_once}
@@ -45,11 +52,10 @@ laid_most : {degree capacity : ℕ} {plans : ℕ → Plan} {at : Layout} {m n : 
 laid_most {degree} f h = omega (arith, f.few, mul-le-mul_right degree h)
 
 -- ---- the plans chained
-module _ {dim degree capacity : ℕ} {bytes slots : List ℕ} {start beam : ℕ} {w : List ℕ} {at : Layout} (s : Fillable dim capacity bytes slots)
-    (t : Provided degree capacity start beam (length w)) (o : Parts capacity degree at) {plans : ℕ → Plan} {n : ℕ} {w₁ : List ℕ}
-    (f : AllPlanned degree capacity plans w at (length slots) n w₁) where
+module _ {degree capacity m : ℕ} {w : List ℕ} {at : Layout} (s : m ≤ 256) (t : Enough degree capacity w) (o : Parts capacity degree at)
+    {plans : ℕ → Plan} {n : ℕ} {w₁ : List ℕ} (f : AllPlanned degree capacity plans w at m n w₁) where
   few : n ≤ 256 * degree
-  few = laid_most f.laid s.few
+  few = laid_most f.laid s
 
   pub link_fits : n ≤ 8388608
   link_fits = omega (arith, few, o.spread.sources_in, o.spread.nexts_in, o.spread.ends_in, o.list_in, o.chosen_in, o.below)
@@ -59,12 +65,12 @@ module _ {dim degree capacity : ℕ} {bytes slots : List ℕ} {start beam : ℕ}
       record {
         heads_in = o.heads_in;
         spread = spread_few few o.spread;
-        room = omega (arith, f.size, o.spread.ends_in, o.list_in, o.chosen_in, t.enough);
+        room = omega (arith, f.size, o.spread.ends_in, o.list_in, o.chosen_in, t);
         inside = plans_inside f.laid;
       }
 
   module _ {w₂ : List ℕ} (g : Chained w₁ at n capacity w₂) where
-    chain_agrees : AgreeUpTo w₁ w₂ at (length slots) n
+    chain_agrees : AgreeUpTo w₁ w₂ at m n
     chain_agrees =
         let p = spread_few few o.spread in
         record {
@@ -75,7 +81,7 @@ module _ {dim degree capacity : ℕ} {bytes slots : List ℕ} {start beam : ℕ}
           ends = λ k h. g.same (at.ends + k) (λ _. omega (arith, o.heads_in, p.plans_in, p.sources_in, p.nexts_in)) (λ _. omega (arith, p.nexts_in));
         }
 
-    pub linked : Linked degree capacity plans w at (length slots) n w₂
+    pub linked : Linked degree capacity plans w at m n w₂
     linked =
         record {
           laid = laid_agree chain_agrees f.laid;
@@ -84,25 +90,33 @@ module _ {dim degree capacity : ℕ} {bytes slots : List ℕ} {start beam : ℕ}
         }
 
 -- ---- rows written after other rows
-pub outgoing_long : (a : Arrays) {slots w : List ℕ} {at : Layout} {n : ℕ} {targets edges w₁ : List ℕ} → OutgoingWritten a.degree a.targets a.edges a.versions slots w at n targets edges w₁
-    → AsLong a (arrays a.dim a.degree a.vectors targets edges a.versions a.marks)
-outgoing_long a l = record { vectors = refl; targets = l.targets_long; edges = l.edges_long; marks = refl }
+module _ (p : Pruner 0) (slots : List ℕ) {w : List ℕ} {at : Layout} {n : ℕ} (q : Renewable p.rows.now.degree (length p.marks.now) w at n) {p₁ : Pruner 0} {w₁ : List ℕ}
+    (f : (entry : ℕ) → Written entry p (foldl (own_at w at n slots) (index_by entry p) (range 0 (length slots))) p₁) (l : Below at.chosen w w₁) where
+  low : Below at.list w w₁
+  low = below_less (omega (arith, q.list_in)) l
 
-pub rows_both : (alpha : Float) (a : Arrays) {slots w : List ℕ} {at : Layout} {n : ℕ} → Renewable a.degree (length a.marks) w at n → ((k : ℕ) → k < length slots → get_or slots k 0 < length a.marks)
-    → {targets edges w₁ : List ℕ} → OutgoingWritten a.degree a.targets a.edges a.versions slots w at n targets edges w₁
-    → {a' : Arrays} → AllRenewed alpha (arrays a.dim a.degree a.vectors targets edges a.versions a.marks) w₁ at n a' → RowsWritten alpha a slots w at n a'
-rows_both alpha a {slots} {w} {at} {n} q i {targets} {edges} {w₁} l r =
-    record {
-      rows = λ entry.
-          r.rows entry
-          ∙ sweep_kept q w₁ (λ j h. l.same j (omega (arith, q.list_in))) (index_of alpha entry (arrays a.dim a.degree a.vectors targets edges a.versions a.marks))
-          ∙ ap (λ (b : Store). foldl (renewed_at w at n) b (range 0 (length a.marks))) (l.rows a.dim a.vectors a.marks alpha entry i);
-      longs = as_long_then (outgoing_long a l) r.longs;
-    }
+  pub named_renewable : Renewable p₁.rows.now.degree (length p₁.marks.now) w₁ at n
+  named_renewable = let s = (f 0).same in rw (s.slices.degree, s.marks) (renewable_kept q w₁ low.same low.size)
 
-pub named_renewable : {degree capacity : ℕ} {w w₁ : List ℕ} {at : Layout} {n : ℕ} → Renewable degree capacity w at n
-    → {targets edges versions slots targets' edges' : List ℕ} → OutgoingWritten degree targets edges versions slots w at n targets' edges' w₁ → Renewable degree capacity w₁ at n
-named_renewable {w₁ = w₁} q l = renewable_kept q w₁ (λ j h. l.same j (omega (arith, q.list_in))) l.size
+  pub rows_both : {p₂ : Pruner 0} → ((entry : ℕ) → Written entry p₁ (foldl (renewed_at w₁ at n) (index_by entry p₁) (range 0 (length p₁.marks.now))) p₂)
+      → (entry : ℕ) → Written entry p (rows_written w at n slots (index_by entry p)) p₂
+  rows_both g entry =
+      let b = index_by entry p₁ in
+      record {
+        index = (g entry).index
+            ∙ ap (λ (m : Bor (List ℕ)). foldl (renewed_at w₁ at n) b (range 0 (length m.now))) (f 0).same.marks
+            ∙ sweep_kept q w₁ low.same b
+            ∙ ap (λ (b : Store). foldl (renewed_at w at n) b (range 0 (length p.marks.now))) (f entry).index;
+        same = pruner_then (f 0).same (g 0).same;
+      }
+
+-- what is left beside what stays
+pub rows_end : {how : Selection} {p p₂ : Pruner 0} {slots w : List ℕ} {at : Layout} {n : ℕ} → p.alpha ≡ how.alpha → ((entry : ℕ) → Written entry p (rows_written w at n slots (index_by entry p)) p₂)
+    → RowsWritten how (held p) slots w at n (rows_mut_of p.kept.space.dim p.kept.space.vectors.now p₂.rows.now p.marks.now) × SameSlices p.rows.now p₂.rows.now
+rows_end {how} {p} {p₂} a g =
+    let s = (g 0).same in
+    let x = p₂.together in
+    (record { index = rw (s.alpha, s.space, s.marks, a) at (g how.entry).index; together = rw (s.space, s.marks) at x }, s.slices)
 
 -- ---- what the words say
 module _ {degree capacity : ℕ} {plans : ℕ → Plan} {w₀ : List ℕ} {at : Layout} {m n : ℕ} {w : List ℕ} (f : Linked degree capacity plans w₀ at m n w) where
@@ -155,37 +169,36 @@ module _ {degree capacity : ℕ} {plans : ℕ → Plan} {w₀ : List ℕ} {at : 
         ∙ rows_at_once all b capacity k (named_inside f.laid)
 
 -- ---- the rows of a chunk
-pub linked_as : (alpha : Float) (start beam : ℕ) (bytes slots : List ℕ) {b a : Arrays} {w : List ℕ} {at : Layout} {n : ℕ} {w' : List ℕ} → b ≡ a
-    → Linked b.degree (length b.marks) (plan_at b alpha start beam bytes slots) w at (length slots) n w' → Linked a.degree (length a.marks) (plan_at a alpha start beam bytes slots) w at (length slots) n w'
-linked_as alpha start beam bytes slots e f = rw e at f
+pub linked_as : (alpha : Float) (entry beam : ℕ) (bytes slots : List ℕ) {b a : Arrays} {w : List ℕ} {at : Layout} {n : ℕ} {w' : List ℕ} → b ≡ a
+    → Linked b.degree (length b.marks) (plan_at b alpha entry beam bytes slots) w at (length slots) n w' → Linked a.degree (length a.marks) (plan_at a alpha entry beam bytes slots) w at (length slots) n w'
+linked_as alpha entry beam bytes slots e f = rw e at f
 
-outgoing_few : (a : Arrays) (alpha : Float) (start beam : ℕ) (bytes slots : List ℕ) (k : ℕ) → length (plan_at a alpha start beam bytes slots k).outgoing ≤ a.degree
+outgoing_few : (a : Arrays) (alpha : Float) (entry beam : ℕ) (bytes slots : List ℕ) (k : ℕ) → length (plan_at a alpha entry beam bytes slots k).outgoing ≤ a.degree
 unfolding plan store_view
-outgoing_few a alpha start beam bytes slots k = chosen_few _ _ _ _ _ _
+outgoing_few a alpha entry beam bytes slots k = chosen_few _ _ _ _ _ _
 
-own_id : (a : Arrays) (alpha : Float) (start beam : ℕ) (bytes slots : List ℕ) (k : ℕ) → (plan_at a alpha start beam bytes slots k).id ≡ get_or slots k 0
+own_id : (a : Arrays) (alpha : Float) (entry beam : ℕ) (bytes slots : List ℕ) (k : ℕ) → (plan_at a alpha entry beam bytes slots k).id ≡ get_or slots k 0
 unfolding plan
-own_id a alpha start beam bytes slots k = refl
+own_id a alpha entry beam bytes slots k = refl
 
-module _ (alpha : Float) {a : Arrays} {start beam : ℕ} {bytes slots w : List ℕ} {at : Layout} (x : Together a) (s : Fillable a.dim (length a.marks) bytes slots)
-    (t : Provided a.degree (length a.marks) start beam (length w)) (o : Parts (length a.marks) a.degree at) {n : ℕ} {w₁ : List ℕ}
-    (f : Linked a.degree (length a.marks) (plan_at a alpha start beam bytes slots) w at (length slots) n w₁) where
+module _ (a : Arrays) (alpha : Float) (entry beam : ℕ) {bytes slots w : List ℕ} {at : Layout} (s : Fillable a.dim (length a.marks) bytes slots)
+    (t : Enough a.degree (length a.marks) w) (o : Parts (length a.marks) a.degree at) {n : ℕ} {w₁ : List ℕ}
+    (f : Linked a.degree (length a.marks) (plan_at a alpha entry beam bytes slots) w at (length slots) n w₁) where
   plans_few : n ≤ 256 * a.degree
   plans_few = laid_most f.laid s.few
 
-  pub rows_outgoing : OutgoingRows a.degree a.targets a.edges slots w₁ at n
+  pub rows_outgoing : OutgoingRows a.degree (length a.marks) slots w₁ at n
   rows_outgoing =
       record {
         few = s.few;
-        targets_in = λ k h. (shape_fits x.rows (get_or slots k 0) (s.inside k h)).0;
-        edges_in = λ k h. (shape_fits x.rows (get_or slots k 0) (s.inside k h)).1;
-        heads_in = λ k h. omega (arith, s.inside k h, o.heads_in);
+        inside = s.inside;
+        heads_in = o.heads_in;
         rising = λ k h. omega (arith, (f.laid.each k h).count);
-        each_few = λ k h. omega (arith, (f.laid.each k h).count, outgoing_few a alpha start beam bytes slots k);
+        each_few = λ k h. omega (arith, (f.laid.each k h).count, outgoing_few a alpha entry beam bytes slots k);
         within = f.laid.within;
         spread = spread_few plans_few o.spread;
         list_in = omega (arith, o.list_in);
-        room = omega (arith, f.size, o.chosen_in, t.enough);
+        room = omega (arith, f.size, o.chosen_in, t);
         below = omega (arith, o.chosen_in, o.below);
       }
 
@@ -196,42 +209,35 @@ module _ (alpha : Float) {a : Arrays} {start beam : ℕ} {bytes slots w : List �
         heads_in = o.heads_in;
         spread = spread_few plans_few o.spread;
         list_in = omega (arith, plans_few, o.list_in);
-        room = omega (arith, f.size, o.chosen_in, t.enough);
+        room = omega (arith, f.size, o.chosen_in, t);
         below = omega (arith, o.chosen_in, o.below);
         small = plans_small f.laid;
       }
 
-  pub rows_inserted : {a' : Arrays} → RowsWritten alpha a slots w₁ at n a' → RowsInserted alpha a start beam bytes slots a'
+  pub rows_inserted : Together a → rows_written w₁ at n slots (index_of alpha entry a)
+      ≡ write_rows store_ops (index_of alpha entry a) (chunk_rows (store_view (index_of alpha entry a)) beam (chunk_of a.dim bytes slots))
   unfolding chunk_rows fillings_from
-  rows_inserted g =
-      let b = index_of alpha start a in
+  rows_inserted x =
+      let b = index_of alpha entry a in
       let v = store_view b in
-      let e : map (plan_at a alpha start beam bytes slots) (range 0 (length slots)) ≡ map (plan v beam) (chunk_of a.dim bytes slots) =
+      let e : map (plan_at a alpha entry beam bytes slots) (range 0 (length slots)) ≡ map (plan v beam) (chunk_of a.dim bytes slots) =
       sym (map-map (plan v beam) (filling_at a.dim bytes slots) (range 0 (length slots))) in
-      record {
-        rows =
-            g.rows start
-            ∙ rows_are f slots (λ k h. own_id a alpha start beam bytes slots k) s.inside b refl (together_shaped x)
-            ∙ ap (λ (all : List Plan). write_rows store_ops b (map outgoing_row all ++ map (target_row v all) (sorted_set (named all)))) e;
-        longs = g.longs;
-      }
+      rows_are f slots (λ k h. own_id a alpha entry beam bytes slots k) s.inside b refl (together_shaped x)
+      ∙ ap (λ (all : List Plan). write_rows store_ops b (map outgoing_row all ++ map (target_row v all) (sorted_set (named all)))) e
 
--- ---- the whole chunk
-pub chunk_inserted : {alpha : Float} {a : Arrays} {start beam : ℕ} {bytes slots vectors targets edges marks : List ℕ}
-    → ChunkFilled a bytes slots (arrays a.dim a.degree vectors targets edges a.versions marks)
-    → {a' : Arrays} → RowsInserted alpha (arrays a.dim a.degree vectors targets edges a.versions marks) start beam bytes slots a' → ChunkInserted alpha a start beam bytes slots a'
-unfolding insert_chunk store_ops
-chunk_inserted {alpha} {a} {start} {beam} {bytes} {slots} f g =
-    record {
-      chunk = g.rows ∙ ap (λ (b : Store). write_rows store_ops b (chunk_rows (store_view b) beam (chunk_of a.dim bytes slots))) (f.fills alpha start);
-      longs = as_long_then f.longs g.longs;
-    }
+-- ---- the whole chunk, filled by i₁
+module _ (bytes slots : List ℕ) {i i₁ : Inserter} (f : Inserted i (fill_all store_ops (index_in i) (chunk_of i.graph.now.dim bytes slots)) i₁) where
+  pub fillable_now : Fillable i.graph.now.dim (length i.graph.now.marks.now) bytes slots → Fillable i₁.graph.now.dim (length i₁.graph.now.marks.now) bytes slots
+  fillable_now s = rw (f.same.slices.dim, inserter_marks f.same) s
 
-pub fillable_kept : {dim capacity capacity' : ℕ} {bytes slots : List ℕ} → capacity' ≡ capacity → Fillable dim capacity bytes slots → Fillable dim capacity' bytes slots
-fillable_kept e f = rw e f
+  pub enough_now : (w : List ℕ) → Enough i.graph.now.degree (length i.graph.now.marks.now) w → Enough i₁.graph.now.degree (length i₁.graph.now.marks.now) w
+  enough_now w t = rw (f.same.slices.degree, inserter_marks f.same) t
 
-pub provided_kept : {degree capacity capacity' start beam words : ℕ} → capacity' ≡ capacity → Provided degree capacity start beam words → Provided degree capacity' start beam words
-provided_kept e f = rw e f
-
-pub provided_words : {degree capacity start beam words words' : ℕ} → words' ≡ words → Provided degree capacity start beam words → Provided degree capacity start beam words'
-provided_words e f = rw e f
+  pub chunk_inserted : (b : Store) → b ≡ write_rows store_ops (index_in i₁) (chunk_rows (store_view (index_in i₁)) i₁.how.beam (chunk_of i₁.graph.now.dim bytes slots))
+      → b ≡ insert_chunk store_ops i.how.beam (index_in i) (chunk_of i.graph.now.dim bytes slots)
+  unfolding insert_chunk store_ops
+  chunk_inserted _ e =
+      let b = index_in i₁ in
+      e
+      ∙ ap₂ (λ (h : Selection) (dim : ℕ). write_rows store_ops b (chunk_rows (store_view b) h.beam (chunk_of dim bytes slots))) f.same.how f.same.slices.dim
+      ∙ ap (λ (b : Store). write_rows store_ops b (chunk_rows (store_view b) i.how.beam (chunk_of i.graph.now.dim bytes slots))) f.index

@@ -7,18 +7,19 @@ use native.Mathlib.Numerals.{add-one}
 use native.Mathlib.Omega.{arith}
 use lib.ListN.{length, take, drop, get_or, set, length-set, take-append-drop}
 use lib.Seq.{length-take-le, take-suc-set, drop-set-lt, drop-drop, take-nil}
-use lib.Ieee.{Float}
 use Rattle.lists.specs.Lists.{filter, range, part, put_front}
 use Rattle.lists.proofs.Parts.{fits_in}
 use Rattle.vectors.proofs.Distances.{length_part}
-use Rattle.slots.specs.Store.{Arrays, Store, is_valid, store_ops, arrays}
+use Rattle.slots.specs.Store.{Store, is_valid, store_ops, arrays}
 use Rattle.slots.specs.Inner.Writing.{SlotIn, Filled}
 use Rattle.slots.proofs.Places.{shape_fits}
 use Rattle.row.specs.Row.{Together, index_of}
 use Rattle.row.proofs.Kept.{index_with}
 use Rattle.insert.specs.Insert.{fill_all}
-use Rattle.insertion.specs.Inner.Filling.{fillings_from, Fillable, AsLong, ChunkFilled}
-use Rattle.insertion.proofs.Same.{as_long, as_long_then, together_as, long_filled}
+use Rattle.insertion.specs.declared.inserter.Inserter.{Inserter}
+use Rattle.insertion.specs.Inner.Filling.{fillings_from, chunk_of, Fillable}
+use Rattle.insertion.specs.Inner.Inserting.{held, index_in, SameInserter, Inserted}
+use Rattle.insertion.proofs.Same.{AsLong, together_as, long_filled, inserter_none, inserter_then, inserter_marks}
 
 -- ---- free slots
 abbrev free : List ℕ → ℕ → Bool
@@ -79,58 +80,67 @@ module _ {marks slots₀ : List ℕ} {count : ℕ} {slots : List ℕ} {n s : ℕ
       let z : length marks - s ≡ 0 = omega arith in
       ends (rw (take-nil (count - n), append-nil) at (rw z at f.goes))
 
+-- ---- one slot
+module _ (i : Inserter) {s : ℕ} {v : List ℕ} (h : s < length i.graph.now.marks.now) (l : length v ≡ i.graph.now.dim) where
+  pub slot_in : SlotIn i.graph.now.dim i.graph.now.degree i.graph.now.vectors.now i.graph.now.targets.now i.graph.now.edges.now i.graph.now.marks.now s v
+  slot_in =
+      let x = i.together in
+      let r = shape_fits x.rows s h in
+      record {
+        long = l;
+        inside = h;
+        vector_in = fits_in i.graph.now.dim (length i.graph.now.marks.now) s (length i.graph.now.vectors.now) h x.bytes.long;
+        targets_in = r.0;
+        edges_in = r.1;
+      }
+
+  module _ {vectors targets edges marks : List ℕ}
+      (g : Filled i.graph.now.dim i.graph.now.degree i.graph.now.vectors.now i.graph.now.targets.now i.graph.now.edges.now i.graph.now.versions.now i.graph.now.marks.now s v vectors targets edges marks) where
+    pub slot_long : AsLong (held i) (arrays i.graph.now.dim i.graph.now.degree vectors targets edges i.graph.now.versions.now marks)
+    slot_long = long_filled (held i) s v i.together l h g
+
+    pub slot_together : Together (arrays i.graph.now.dim i.graph.now.degree vectors targets edges i.graph.now.versions.now marks)
+    slot_together = together_as slot_long i.together
+
+    pub slot_filled : index_of i.how.alpha i.how.entry (arrays i.graph.now.dim i.graph.now.degree vectors targets edges i.graph.now.versions.now marks) ≡ store_ops.fill (index_in i) s v
+    slot_filled = index_with i.how.alpha i.how.entry (held i) (arrays i.graph.now.dim i.graph.now.degree vectors targets edges i.graph.now.versions.now marks) slot_long.marks ∙ g.does.does (index_in i) refl h
+
 -- ---- all slots of a chunk
-pub record FilledUpTo (bytes slots : List ℕ) (a₀ a : Arrays) (i : ℕ) : Type 0 where
-  pub goes : (alpha : Float) (entry : ℕ) → fill_all store_ops (index_of alpha entry a) (fillings_from a₀.dim bytes slots i (length slots - i))
-      ≡ fill_all store_ops (index_of alpha entry a₀) (fillings_from a₀.dim bytes slots 0 (length slots))
-  pub bound : i ≤ length slots
-  pub longs : AsLong a₀ a
+pub record FilledUpTo (bytes slots : List ℕ) (i₀ i : Inserter) (k : ℕ) : Type 0 where
+  pub goes : fill_all store_ops (index_in i) (fillings_from i₀.graph.now.dim bytes slots k (length slots - k))
+      ≡ fill_all store_ops (index_in i₀) (fillings_from i₀.graph.now.dim bytes slots 0 (length slots))
+  pub bound : k ≤ length slots
+  pub same : SameInserter i₀ i
 
-pub filled_none : (bytes slots : List ℕ) (a : Arrays) → FilledUpTo bytes slots a a 0
-filled_none bytes slots a =
+pub filled_none : (bytes slots : List ℕ) (i : Inserter) → FilledUpTo bytes slots i i 0
+filled_none bytes slots i =
     let e : length slots - 0 ≡ length slots = omega arith in
-    record { goes = λ alpha entry. rw e; bound = omega arith; longs = as_long a }
+    record { goes = rw e; bound = omega arith; same = inserter_none i }
 
-module _ {a₀ : Arrays} {bytes slots : List ℕ} (x : Together a₀) (o : Fillable a₀.dim (length a₀.marks) bytes slots) {vectors targets edges marks : List ℕ} {i : ℕ}
-    (f : FilledUpTo bytes slots a₀ (arrays a₀.dim a₀.degree vectors targets edges a₀.versions marks) i) (h : i < length slots) where
-  pub fill_vector : i * a₀.dim + a₀.dim ≤ length bytes
-  fill_vector = fits_in a₀.dim (length slots) i (length bytes) h o.long
+module _ {i₀ : Inserter} {bytes slots : List ℕ} (o : Fillable i₀.graph.now.dim (length i₀.graph.now.marks.now) bytes slots) {i : Inserter} {k : ℕ}
+    (f : FilledUpTo bytes slots i₀ i k) (h : k < length slots) where
+  pub fill_vector : k * i₀.graph.now.dim + i₀.graph.now.dim ≤ length bytes
+  fill_vector = fits_in i₀.graph.now.dim (length slots) k (length bytes) h o.long
 
-  module _ {s : ℕ} (e : s ≡ get_or slots i 0) {v : List ℕ} (q : v ≡ part a₀.dim i bytes) where
-    slot_inside : s < length marks
-    slot_inside = rw (e, f.longs.marks) (o.inside i h)
+  module _ {s : ℕ} (e : s ≡ get_or slots k 0) {v : List ℕ} (q : v ≡ part i₀.graph.now.dim k bytes) where
+    pub fill_fits : (s < length i.graph.now.marks.now) × (length v ≡ i.graph.now.dim)
+    fill_fits = (rw (e, inserter_marks f.same) (o.inside k h), rw (q, f.same.slices.dim) (length_part i₀.graph.now.dim k bytes fill_vector))
 
-    pub fill_slot : SlotIn a₀.dim a₀.degree vectors targets edges marks s v
-    fill_slot =
-        let y = together_as f.longs x in
-        let r = shape_fits y.rows s slot_inside in
-        record {
-          long = rw q (length_part a₀.dim i bytes fill_vector);
-          inside = slot_inside;
-          vector_in = fits_in a₀.dim (length marks) s (length vectors) slot_inside y.bytes.long;
-          targets_in = r.0;
-          edges_in = r.1;
-        }
-
-    pub filled_more : {vectors' targets' edges' marks' : List ℕ} → Filled a₀.dim a₀.degree vectors targets edges a₀.versions marks s v vectors' targets' edges' marks'
-        → FilledUpTo bytes slots a₀ (arrays a₀.dim a₀.degree vectors' targets' edges' a₀.versions marks') (i + 1)
+    pub filled_more : {i' : Inserter} → Inserted i (store_ops.fill (index_in i) s v) i' → FilledUpTo bytes slots i₀ i' (k + 1)
     unfolding fillings_from
-    filled_more {vectors'} {targets'} {edges'} {marks'} g =
-        let z : length slots - i ≡ suc (length slots - (i + 1)) = omega arith in
-        let y : i + 1 ≡ suc i = omega arith in
-        let a = arrays a₀.dim a₀.degree vectors targets edges a₀.versions marks in
-        let a' = arrays a₀.dim a₀.degree vectors' targets' edges' a₀.versions marks' in
-        let k : AsLong a a' = long_filled a s v (together_as f.longs x) (rw q (length_part a₀.dim i bytes fill_vector)) slot_inside g in
+    filled_more g =
+        let dim = i₀.graph.now.dim in
+        let z : length slots - k ≡ suc (length slots - (k + 1)) = omega arith in
+        let y : k + 1 ≡ suc k = omega arith in
+        let was = rw z at f.goes in
+        let x : store_ops.fill (index_in i) s v ≡ store_ops.fill (index_in i) (get_or slots k 0) (part dim k bytes) = rw (e, q) in
         record {
-          goes = λ alpha entry.
-              let p : index_of alpha entry a' ≡ store_ops.fill (index_of alpha entry a) (get_or slots i 0) (part a₀.dim i bytes) =
-              index_with alpha entry a a' k.marks ∙ g.does.does (index_of alpha entry a) refl slot_inside ∙ rw (e, q) in
-              let was = rw z at (f.goes alpha entry) in
-              ap (λ (b : Store). fill_all store_ops b (fillings_from a₀.dim bytes slots (i + 1) (length slots - (i + 1)))) p ∙ rw y (rw y at was);
+          goes = ap (λ (b : Store). fill_all store_ops b (fillings_from dim bytes slots (k + 1) (length slots - (k + 1)))) (g.index ∙ x) ∙ rw y (rw y at was);
           bound = omega arith;
-          longs = as_long_then f.longs k;
+          same = inserter_then f.same g.same;
         }
 
-pub filled_done : {bytes slots : List ℕ} {a₀ a : Arrays} {i : ℕ} → FilledUpTo bytes slots a₀ a i → length slots ≤ i → ChunkFilled a₀ bytes slots a
+pub filled_done : {bytes slots : List ℕ} {i₀ i : Inserter} {k : ℕ} → FilledUpTo bytes slots i₀ i k → length slots ≤ k
+    → Inserted i₀ (fill_all store_ops (index_in i₀) (chunk_of i₀.graph.now.dim bytes slots)) i
 unfolding fillings_from
-filled_done {slots = slots} {i = i} f h = let z : length slots - i ≡ 0 = omega arith in record { fills = λ alpha entry. rw z at (f.goes alpha entry); longs = f.longs }
+filled_done {slots = slots} {k = k} f h = let z : length slots - k ≡ 0 = omega arith in record { index = rw z at f.goes; same = f.same }

@@ -1,32 +1,32 @@
--- Rows that are written: the same slices, as long as they were. Assumes nothing.
-use Prim.Native.Nat.{ℕ, ◌+◌, ◌*◌, ◌≤◌, ◌<◌}
-use mathlib.Core.Path.{◌≡◌, refl, ap, ap₂, sym, ◌∙◌, subst}
-use mathlib.Core.List.{List, [], map}
-use lib.ListN.{length, length-map}
-use Rattle.lists.proofs.Parts.{length_put}
+-- What stays the same: the lengths of slices that are written, an inserter's slices, a pruner, words below one. Assumes nothing.
+use Prim.Native.Nat.{ℕ, ◌≤◌, ◌<◌}
+use mathlib.Core.Path.{◌≡◌, refl, sym, ◌∙◌, subst}
+use mathlib.Core.List.{List, []}
+use native.Mathlib.Omega.{arith}
+use lib.ListN.{length}
 use lib.Ieee.{Float}
-use Rattle.std.specs.Borrow.{Bor}
-use Rattle.slots.specs.Store.{Arrays, Shaped, padded, edge_version, arrays, write_vector, write_neighbors, filled, store_ops}
-use Rattle.slots.specs.Inner.Writing.{Filled, Wrote}
-use Rattle.slots.specs.Lent.{rows_mut_of, SameSlices}
-use Rattle.slots.specs.declared.graph.RowsMut.{RowsMut}
+use Rattle.slots.specs.Store.{Arrays, Shaped, arrays, write_vector, write_neighbors, filled, store_ops}
+use Rattle.slots.specs.Inner.Writing.{Filled}
+use Rattle.slots.proofs.Slices.{same_none}
 use Rattle.slots.proofs.Changes.{shaped_marked, shaped_vector}
 use Rattle.slots.proofs.Written.{shaped_written}
-use Rattle.slots.proofs.Current.{length_padded}
-use Rattle.slots.proofs.Done.{filled_arrays, wrote_arrays}
+use Rattle.slots.proofs.Done.{filled_arrays}
 use Rattle.slots.proofs.Writes.{Whole, store_writes}
 use Rattle.row.specs.Row.{Together, index_of}
 use Rattle.row.proofs.Kept.{together_kept, together_shaped}
-use Rattle.insertion.specs.Inner.Filling.{AsLong}
-
--- the slices of r' with the degree and the versions of r, which are those of r' too
-abbrev pub left_of : ℕ → List ℕ → RowsMut → RowsMut → List ℕ → Arrays
-left_of dim vectors r r' marks = arrays dim r.degree vectors r'.targets.now r'.edges.now r.versions.now marks
-
-pub left_is : {r r' : RowsMut} → SameSlices r r' → (dim : ℕ) (vectors marks : List ℕ) → rows_mut_of dim vectors r' marks ≡ left_of dim vectors r r' marks
-left_is {r} {r'} f dim vectors marks = ap₂ (λ (d : ℕ) (v : Bor (List ℕ)). arrays dim d vectors r'.targets.now r'.edges.now v.now marks) f.degree f.versions
+use Rattle.insertion.specs.declared.inserter.Inserter.{Inserter}
+use Rattle.row.specs.Lent.{SamePruner}
+use Rattle.row.specs.declared.pruner.Pruner.{Pruner}
+use Rattle.insertion.specs.Inner.Inserting.{SameInserter}
+use Rattle.insertion.specs.Inner.Writing.{Below}
 
 -- ---- as long as they were
+pub record AsLong (a₀ a : Arrays) : Type 0 where
+  pub vectors : length a.vectors ≡ length a₀.vectors
+  pub targets : length a.targets ≡ length a₀.targets
+  pub edges : length a.edges ≡ length a₀.edges
+  pub marks : length a.marks ≡ length a₀.marks
+
 pub as_long : (a : Arrays) → AsLong a a
 as_long a = record { vectors = refl; targets = refl; edges = refl; marks = refl }
 
@@ -47,17 +47,6 @@ shapes_long {n} f g d e =
       marks = g.marks_long ∙ sym f.marks_long;
     }
 
--- after a row is written where it fits
-pub wrote_long : {degree : ℕ} {targets edges versions : List ℕ} {s : ℕ} {ids targets' edges' : List ℕ} → Wrote degree targets edges versions s ids targets' edges'
-    → s * degree + degree ≤ length targets → s * degree + degree ≤ length edges → (length targets' ≡ length targets) × (length edges' ≡ length edges)
-unfolding write_neighbors
-wrote_long {degree} {targets} {edges} {versions} {s} {ids} f t e =
-    let q = wrote_arrays f 0 [] [] in
-    let row = padded degree ids in (
-      ap (λ (a : Arrays). length a.targets) q ∙ length_put degree s row targets (length_padded degree ids) t,
-      ap (λ (a : Arrays). length a.edges) q ∙ length_put degree s (map (edge_version versions) row) edges (simp length-map (length_padded degree ids)) e,
-    )
-
 -- after a `write`
 pub long_written : {alpha : Float} {entry : ℕ} (a : Arrays) {targets edges : List ℕ} (s : ℕ) (ids : List ℕ) → Together a
     → index_of alpha entry (arrays a.dim a.degree a.vectors targets edges a.versions a.marks) ≡ store_ops.write (index_of alpha entry a) s ids
@@ -73,3 +62,43 @@ long_filled a s v x l h f =
     let n = length a.marks in
     let g : Shaped n (filled a s v) = shaped_marked n (write_neighbors (write_vector a s v) s []) (shaped_written n (write_vector a s v) (shaped_vector n a (together_shaped x) s h v l) s h []) s 1 in
     shapes_long (together_shaped x) (rw (filled_arrays f) g) refl refl
+
+-- ---- an inserter
+pub inserter_none : (i : Inserter) → SameInserter i i
+inserter_none i = record { graph = refl; slices = record { dim = refl; degree = refl; vectors = refl; targets = refl; edges = refl; versions = refl; marks = refl }; how = refl }
+
+pub inserter_then : {i i' i'' : Inserter} → SameInserter i i' → SameInserter i' i'' → SameInserter i i''
+inserter_then f g =
+    let s = f.slices in
+    let t = g.slices in
+    record {
+      graph = g.graph ∙ f.graph;
+      slices =
+          record {
+            dim = t.dim ∙ s.dim;
+            degree = t.degree ∙ s.degree;
+            vectors = t.vectors ∙ s.vectors;
+            targets = t.targets ∙ s.targets;
+            edges = t.edges ∙ s.edges;
+            versions = t.versions ∙ s.versions;
+            marks = t.marks ∙ s.marks;
+          };
+      how = g.how ∙ f.how;
+    }
+
+-- as many marks
+pub inserter_marks : {i i' : Inserter} → SameInserter i i' → length i'.graph.now.marks.now ≡ length i.graph.now.marks.now
+inserter_marks {i} {i'} f = sym i'.together.rows.versions_long ∙ rw f.slices.versions i.together.rows.versions_long
+
+-- ---- a pruner
+pub pruner_none : (p : Pruner 0) → SamePruner p p
+pruner_none p = record { slices = same_none p.rows.now; rows = refl; alpha = refl; marks = refl; space = refl }
+
+pub below_none : (e : ℕ) (w : List ℕ) → Below e w w
+below_none e w = record { size = refl; same = λ j l. refl }
+
+pub below_then : {e : ℕ} {w w' w'' : List ℕ} → Below e w w' → Below e w' w'' → Below e w w''
+below_then f g = record { size = g.size ∙ f.size; same = λ j l. g.same j l ∙ f.same j l }
+
+pub below_less : {d e : ℕ} {w w' : List ℕ} → d ≤ e → Below e w w' → Below d w w'
+below_less h f = record { size = f.size; same = λ j l. f.same j (omega arith) }

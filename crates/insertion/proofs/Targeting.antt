@@ -1,7 +1,7 @@
 -- The rows of the slots that the plans name, in one sweep. Assumes nothing.
 use Prim.Native.Nat.{ℕ, zero, suc, ◌+◌, ◌-◌, ◌*◌, ◌≤◌, ◌<◌}
 use mathlib.Core.Bool.{Bool, true, false, cond}
-use mathlib.Core.Path.{◌≡◌, refl, ap, ◌∙◌}
+use mathlib.Core.Path.{◌≡◌, ap, ◌∙◌}
 use mathlib.Core.Logic.{inl}
 use mathlib.Core.List.{List, ◌∷◌, ◌++◌}
 use native.Mathlib.Omega.{arith}
@@ -20,9 +20,12 @@ use Rattle.prune.specs.Prune.{prune}
 use Rattle.row.specs.Row.{Together, index_of, live_scored, LiveScored, Prunable, WrotePruned}
 use Rattle.insertion.specs.declared.layout.Layout.{Layout}
 use Rattle.insertion.specs.Inner.Chains.{head, at_slot, incoming_at, Takeable, Took}
-use Rattle.insertion.specs.Inner.Targets.{renewed_at, Renewable, Renewed, AllRenewed}
-use Rattle.insertion.specs.Inner.Filling.{AsLong}
-use Rattle.insertion.proofs.Same.{as_long, as_long_then, together_as, long_written}
+use Rattle.insertion.specs.Inner.Targets.{renewed_at, Renewable}
+use Rattle.row.specs.Lent.{SamePruner}
+use Rattle.row.specs.declared.pruner.Pruner.{Pruner}
+use Rattle.row.proofs.Kept.{pruner_then}
+use Rattle.insertion.specs.Inner.Writing.{index_by, Written, Below}
+use Rattle.insertion.proofs.Same.{together_as, long_written, pruner_none, below_none, below_then}
 use Rattle.insertion.proofs.Chaining.{Agrees, incoming_agree, chain_agree}
 
 -- ---- what comes in
@@ -75,11 +78,11 @@ head_in q e h = let p = q.spread in omega (arith, q.heads_in, p.plans_in, p.sour
 pub list_fits : {degree capacity : ℕ} {w : List ℕ} {at : Layout} {n : ℕ} → Renewable degree capacity w at n → at.list + 2 * degree ≤ length w
 list_fits q = omega (arith, q.list_in, q.room)
 
-module _ {a : Arrays} {s : ℕ} {w : List ℕ} {at : Layout} {n : ℕ} {z : ℕ} (e : z ≡ s) where
-  pub renewed_not : {alpha : Float} → n ≤ get_or w (marks_at + z) 0 → Renewed alpha a s w at n a w
-  unfolding renewed_at
-  renewed_not h = let k : n ≤ head w s = rw e at h in record { row = λ entry. rw (le-ltb _ _ k); longs = as_long a; size = refl; same = λ j l. refl }
+pub renewed_not : (w : List ℕ) {n z s : ℕ} (at : Layout) (b : Store) → z ≡ s → n ≤ get_or w (marks_at + z) 0 → b ≡ renewed_at w at n b s
+unfolding renewed_at
+renewed_not w {n} {s = s} at b e h = let k : n ≤ head w s = rw e at h in rw (le-ltb _ _ k)
 
+module _ {a : Arrays} {s : ℕ} {w : List ℕ} {at : Layout} {n : ℕ} {z : ℕ} (e : z ≡ s) where
   module _ (o : s < length a.marks) (q : Renewable a.degree (length a.marks) w at n) where
     module _ {k : ℕ} {w₁ : List ℕ} (f : LiveScored a s w at.list k w₁) where
       low : (j : ℕ) → j < at.list → get_or w₁ j 0 ≡ get_or w j 0
@@ -107,60 +110,55 @@ module _ {a : Arrays} {s : ℕ} {w : List ℕ} {at : Layout} {n : ℕ} {z : ℕ}
               below = omega (arith, q.below);
             }
 
-        pub renewed_new : get_or w (marks_at + z) 0 < n → Together a → {alpha : Float} {targets edges : List ℕ} {w₃ : List ℕ}
-            → WrotePruned alpha a s w₂ at.list m at.chosen (arrays a.dim a.degree a.vectors targets edges a.versions a.marks) w₃
-            → Renewed alpha a s w at n (arrays a.dim a.degree a.vectors targets edges a.versions a.marks) w₃
-        unfolding renewed_at
-        renewed_new h x {alpha} g =
-            let p : head w s < n = rw e at h in
-            record {
-              row = λ entry.
-                  let v = store_view (index_of alpha entry a) in
-                  let y : cands w₂ at.list m ≡ live_scored v s ++ incoming_at w at (at_slot w at s 0 n) = took ∙ rw (f.list alpha entry) in
-                  rw (lt-ltb _ _ p) (g.row entry ∙ ap (λ (l : List Candidate). store_ops.write (index_of alpha entry a) s (ids (prune v s l))) y);
-              longs = long_written a s _ x (g.row 0);
-              size = g.size ∙ t.size ∙ f.size;
-              same = λ j l.
-                  g.same j (λ (y : at.list ≤ j). absurd (omega arith)) (λ (y : at.chosen ≤ j). absurd (omega (arith, q.list_in)))
-                  ∙ t.same j (λ (y : at.list + 2 * k ≤ j). absurd (omega arith))
-                  ∙ low j l;
-            }
+        module _ {alpha : Float} {targets edges w₃ : List ℕ} (g : WrotePruned alpha a s w₂ at.list m at.chosen (arrays a.dim a.degree a.vectors targets edges a.versions a.marks) w₃) where
+          pub renewed_together : Together a → Together (arrays a.dim a.degree a.vectors targets edges a.versions a.marks)
+          renewed_together x = together_as (long_written a s _ x (g.row 0)) x
+
+          pub renewed_new : get_or w (marks_at + z) 0 < n → (entry : ℕ)
+              → (index_of alpha entry (arrays a.dim a.degree a.vectors targets edges a.versions a.marks) ≡ renewed_at w at n (index_of alpha entry a) s) × Below at.list w w₃
+          unfolding renewed_at
+          renewed_new h entry =
+              let p : head w s < n = rw e at h in
+              let v = store_view (index_of alpha entry a) in
+              let y : cands w₂ at.list m ≡ live_scored v s ++ incoming_at w at (at_slot w at s 0 n) = took ∙ rw (f.list alpha entry) in (
+                rw (lt-ltb _ _ p) (g.row entry ∙ ap (λ (l : List Candidate). store_ops.write (index_of alpha entry a) s (ids (prune v s l))) y),
+                record {
+                  size = g.size ∙ t.size ∙ f.size;
+                  same = λ j l.
+                      g.same j (λ (y : at.list ≤ j). absurd (omega arith)) (λ (y : at.chosen ≤ j). absurd (omega (arith, q.list_in)))
+                      ∙ t.same j (λ (y : at.list + 2 * k ≤ j). absurd (omega arith))
+                      ∙ low j l;
+                },
+              )
 
 -- ---- the sweep
-pub record Sweeping (alpha : Float) (w₀ : List ℕ) (at : Layout) (n : ℕ) (a₀ a : Arrays) (w : List ℕ) (s : ℕ) : Type 0 where
-  pub together : Together a
-  pub longs : AsLong a₀ a
-  pub goes : (entry : ℕ) → foldl (renewed_at w₀ at n) (index_of alpha entry a) (range s (length a₀.marks - s)) ≡ foldl (renewed_at w₀ at n) (index_of alpha entry a₀) (range 0 (length a₀.marks))
-  pub size : length w ≡ length w₀
-  pub same : (j : ℕ) → j < at.list → get_or w j 0 ≡ get_or w₀ j 0
+pub record Sweeping (w₀ : List ℕ) (at : Layout) (n : ℕ) (p₀ p : Pruner 0) (w : List ℕ) (s : ℕ) : Type 0 where
+  pub goes : (entry : ℕ) → foldl (renewed_at w₀ at n) (index_by entry p) (range s (length p₀.marks.now - s)) ≡ foldl (renewed_at w₀ at n) (index_by entry p₀) (range 0 (length p₀.marks.now))
+  pub same : SamePruner p₀ p
+  pub words : Below at.list w₀ w
 
-pub sweeping_none : (alpha : Float) (w : List ℕ) (at : Layout) (n : ℕ) {a : Arrays} → Together a → Sweeping alpha w at n a a w 0
-sweeping_none alpha w at n {a} x =
-    let e : length a.marks - 0 ≡ length a.marks = omega arith in
-    record { together = x; longs = as_long a; goes = λ entry. rw e; size = refl; same = λ j l. refl }
+pub sweeping_none : (w : List ℕ) (at : Layout) (n : ℕ) (p : Pruner 0) → Sweeping w at n p p w 0
+sweeping_none w at n p =
+    let e : length p.marks.now - 0 ≡ length p.marks.now = omega arith in
+    record { goes = λ entry. rw e; same = pruner_none p; words = below_none at.list w }
 
-module _ {alpha : Float} {w₀ : List ℕ} {at : Layout} {n : ℕ} {a₀ : Arrays} (q : Renewable a₀.degree (length a₀.marks) w₀ at n) {targets edges w : List ℕ} {s : ℕ}
-    (f : Sweeping alpha w₀ at n a₀ (arrays a₀.dim a₀.degree a₀.vectors targets edges a₀.versions a₀.marks) w s) where
-  module _ (h : s < length a₀.marks) where
-    pub sweep_asks : (s < length a₀.marks) × Renewable a₀.degree (length a₀.marks) w at n
-    sweep_asks = (h, renewable_kept q w f.same f.size)
+module _ {w₀ : List ℕ} {at : Layout} {n : ℕ} {p₀ : Pruner 0} (q : Renewable p₀.rows.now.degree (length p₀.marks.now) w₀ at n) {p : Pruner 0} {w : List ℕ} {s : ℕ} (f : Sweeping w₀ at n p₀ p w s) where
+  module _ (h : s < length p₀.marks.now) where
+    pub sweep_asks : (s < length p.marks.now) × Renewable p.rows.now.degree (length p.marks.now) w at n
+    sweep_asks = (rw f.same.marks h, rw (f.same.slices.degree, f.same.marks) (renewable_kept q w f.words.same f.words.size))
 
-    pub sweeping_more : {targets' edges' w' : List ℕ}
-        → Renewed alpha (arrays a₀.dim a₀.degree a₀.vectors targets edges a₀.versions a₀.marks) s w at n (arrays a₀.dim a₀.degree a₀.vectors targets' edges' a₀.versions a₀.marks) w'
-        → Sweeping alpha w₀ at n a₀ (arrays a₀.dim a₀.degree a₀.vectors targets' edges' a₀.versions a₀.marks) w' (s + 1)
-    sweeping_more t =
-        let c = length a₀.marks in
+    pub sweeping_more : {p' : Pruner 0} {w' : List ℕ} → ((entry : ℕ) → Written entry p (renewed_at w at n (index_by entry p) s) p') → Below at.list w w' → Sweeping w₀ at n p₀ p' w' (s + 1)
+    sweeping_more g k =
+        let c = length p₀.marks.now in
         let z : c - s ≡ suc (c - (s + 1)) = omega arith in
         let u : s + 1 ≡ suc s = omega arith in
         record {
-          together = together_as t.longs f.together;
-          longs = as_long_then f.longs t.longs;
-          goes = λ entry.
-              let was = rw z at (f.goes entry) in
-              ap (λ (b : Store). foldl (renewed_at w₀ at n) b (range (s + 1) (c - (s + 1)))) (t.row entry ∙ renewed_kept q w f.same _ s h) ∙ rw u (rw u at was);
-          size = t.size ∙ f.size;
-          same = λ j l. t.same j l ∙ f.same j l;
+          goes = λ entry. let was = rw z at f.goes entry in
+              ap (λ (b : Store). foldl (renewed_at w₀ at n) b (range (s + 1) (c - (s + 1)))) ((g entry).index ∙ renewed_kept q w f.words.same _ s h) ∙ rw u (rw u at was);
+          same = pruner_then f.same (g 0).same;
+          words = below_then f.words k;
         }
 
-  pub sweeping_done : length a₀.marks ≤ s → AllRenewed alpha a₀ w₀ at n (arrays a₀.dim a₀.degree a₀.vectors targets edges a₀.versions a₀.marks)
-  sweeping_done h = let z : length a₀.marks - s ≡ 0 = omega arith in record { rows = λ entry. rw z at (f.goes entry); longs = f.longs }
+pub sweeping_done : {w₀ : List ℕ} {at : Layout} {n : ℕ} {p₀ p : Pruner 0} {w : List ℕ} {s : ℕ} → Sweeping w₀ at n p₀ p w s → length p₀.marks.now ≤ s
+    → (entry : ℕ) → Written entry p₀ (foldl (renewed_at w₀ at n) (index_by entry p₀) (range 0 (length p₀.marks.now))) p
+sweeping_done {p₀ = p₀} {s = s} f h entry = let z : length p₀.marks.now - s ≡ 0 = omega arith in record { index = rw z at f.goes entry; same = f.same }

@@ -1,7 +1,10 @@
 pub mod Layout
 pub mod Chains
 pub mod Filling
+pub mod Inserting
 pub mod Plans
+pub mod Planning
 pub mod Outgoing
 pub mod Targets
+pub mod Writing
 pub mod Chunk

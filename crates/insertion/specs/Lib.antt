@@ -1,2 +1,3 @@
 pub mod Batch
+pub mod Lent
 pub mod Inner

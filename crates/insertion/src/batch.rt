@@ -1,76 +1,52 @@
 // A batch: the lowest free slots, in chunks of 256.
-ghost use Rattle.std.specs.Prelude.{length};
-ghost use Rattle.slots.specs.Lent.{rows_mut_of, SameSlices};
-ghost use Rattle.row.specs.Row.{Together};
+ghost use Rattle.insertion.specs.Lent.{graph_mut_of, SameGraph};
 ghost use Rattle.insertion.specs.Batch.{Insertable, BatchInserted};
-ghost use Rattle.insertion.specs.Inner.Chunk.{Provided, Assigned, ChunksInserted};
 
-use super::chunk::insert_chunk;
 use super::filling::free_slots;
-use slots::RowsMut;
+use super::graph::{GraphMut, Selection};
+use super::inserter::Inserter;
 
 // How many slots a chunk has at most.
 const CHUNK: usize = 256;
 
-// The slots of a list get their vectors and rows, chunk by chunk.
-fn insert_chunks(
-    alpha: f32,
-    dim: usize,
-    vectors: &mut [u8],
-    rows: &mut RowsMut<'_>,
-    marks: &mut [u8],
-    start: u32,
-    beam: usize,
-    bytes: &[u8],
-    slots: &[u32],
-    scratch: &mut [u32],
-)
-    requires together { Together (rows_mut_of dim vectors.old rows.old marks.old) }
-    requires assigned { Assigned dim (length marks.old) bytes.now slots.now × Provided rows.old.degree (length marks.old) start beam (length scratch.old) }
-    ensures { ChunksInserted alpha (rows_mut_of dim vectors.old rows.old marks.old) start beam bytes.now slots.now
-        (rows_mut_of dim vectors.new rows.new marks.new) × SameSlices rows.old rows.new }
-{
-    let mut rest = bytes;
-    for part in slots.chunks(CHUNK) {
-        let (now, later) = rest.split_at(part.len() * dim);
-        insert_chunk(
-            alpha, dim, vectors, rows, marks, start, beam, now, part, scratch,
-        );
-        rest = later;
+impl Inserter<'_, '_> {
+    ghost use Rattle.std.specs.Prelude.{length};
+    ghost use Rattle.lists.specs.Lists.{foldl, chunks};
+    ghost use Rattle.slots.specs.Store.{store_ops};
+    ghost use Rattle.insert.specs.Insert.{insert_chunk};
+    ghost use Rattle.insertion.specs.Inner.Filling.{chunk_of};
+    ghost use Rattle.insertion.specs.Inner.Layout.{Enough};
+    ghost use Rattle.insertion.specs.Inner.Chunk.{Assigned};
+    ghost use Rattle.insertion.specs.Inner.Inserting.{index_in, Inserted};
+
+    // The slots of a list get their vectors and rows, chunk by chunk.
+    fn insert_chunks(&mut self, bytes: &[u8], slots: &[u32], scratch: &mut [u32])
+        requires { Assigned self.old.graph.now.dim (length self.old.graph.now.marks.now) bytes.now slots.now × Enough self.old.graph.now.degree (length self.old.graph.now.marks.now) scratch.old }
+        ensures { Inserted self.old (foldl (insert_chunk store_ops self.old.how.beam) (index_in self.old) (chunks (length slots.now) 256 (chunk_of self.old.graph.now.dim bytes.now slots.now))) self.new }
+    {
+        let mut rest = bytes;
+        for part in slots.chunks(CHUNK) {
+            let (now, later) = rest.split_at(part.len() * self.graph.dim);
+            self.insert_chunk(now, part, scratch);
+            rest = later;
+        }
     }
 }
 
-// Inserts the vectors of `bytes` into the lowest free slots, whose numbers go to the front of `slots`. Returns how many they are. Walks begin at the
-// entry.
+// Inserts the vectors of `bytes` into the lowest free slots, whose numbers go to the front of `slots`. Returns how many they are.
 pub fn insert_batch(
-    alpha: f32,
-    dim: usize,
-    vectors: &mut [u8],
-    rows: &mut RowsMut<'_>,
-    marks: &mut [u8],
-    entry: u32,
-    beam: usize,
+    graph: &mut GraphMut<'_>,
+    how: Selection,
     bytes: &[u8],
     slots: &mut [u32],
     scratch: &mut [u32],
 ) -> usize
-    requires { Insertable (rows_mut_of dim vectors.old rows.old marks.old) alpha entry beam bytes.now slots.old scratch.old }
-    ensures { BatchInserted (rows_mut_of dim vectors.old rows.old marks.old) alpha entry beam bytes.now slots.old
-        (rows_mut_of dim vectors.new rows.new marks.new) slots.new result × SameSlices rows.old rows.new }
+    requires { Insertable (graph_mut_of graph.old) how.alpha how.entry how.beam bytes.now slots.old scratch.old }
+    ensures { BatchInserted (graph_mut_of graph.old) how.alpha how.entry how.beam bytes.now slots.old (graph_mut_of graph.new) slots.new result × SameGraph graph.old graph.new }
 {
-    let count = bytes.len() / dim;
-    free_slots(marks, slots, count);
-    insert_chunks(
-        alpha,
-        dim,
-        vectors,
-        rows,
-        marks,
-        entry,
-        beam,
-        bytes,
-        &slots[..count],
-        scratch,
-    );
+    let count = bytes.len() / graph.dim;
+    let mut inserter = Inserter { graph, how };
+    free_slots(inserter.read().rows.marks, slots, count);
+    inserter.insert_chunks(bytes, &slots[..count], scratch);
     count
 }

@@ -1,4 +1,5 @@
-// What the plans of a chunk name, chained by slot: a head for each slot, and for each candidate the next one of its slot.
+// What the plans of a chunk name, chained by slot: a head for each slot, and for each candidate the next one of its slot. All lies in words that C lends, so a
+// list is a place and a number.
 ghost use Rattle.std.specs.Prelude.{◌≡◌, ℕ, ◌+◌, ◌≤◌, ◌<◌, length};
 ghost use Rattle.insertion.specs.Inner.Chains.{head, Chainable, Chained, Takeable, Took};
 

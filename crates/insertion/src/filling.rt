@@ -1,11 +1,9 @@
 // The slots that a batch fills: which they are, and what is written into them.
-ghost use Rattle.std.specs.Prelude.{not, ◌≡◌, ◌<◌, ◌≤◌, length, take};
+ghost use Rattle.std.specs.Prelude.{not, ◌≡◌, ◌≤◌, length, take};
 ghost use Rattle.lists.specs.Lists.{filter, range, put_front};
 ghost use Rattle.slots.specs.Store.{is_valid};
-ghost use Rattle.slots.specs.Lent.{rows_mut_of, SameSlices};
-ghost use Rattle.row.specs.Row.{Together};
-ghost use Rattle.insertion.specs.Inner.Filling.{Fillable, ChunkFilled};
 
+use super::inserter::Inserter;
 use slots::RowsMut;
 use slots::marks::is_valid;
 use vectors::Space;
@@ -27,32 +25,42 @@ pub fn free_slots(marks: &[u8], slots: &mut [u32], count: usize)
     }
 }
 
-// The vectors of `bytes` go into the slots of a chunk, which become live with empty rows.
-pub fn fill_chunk(
-    dim: usize,
-    vectors: &mut [u8],
-    rows: &mut RowsMut<'_>,
-    marks: &mut [u8],
-    bytes: &[u8],
-    slots: &[u32],
-)
-    requires together { Together (rows_mut_of dim vectors.old rows.old marks.old) }
-    requires fillable { Fillable dim (length marks.old) bytes.now slots.now }
-    ensures { ChunkFilled (rows_mut_of dim vectors.old rows.old marks.old) bytes.now slots.now
-        (rows_mut_of dim vectors.new rows.new marks.new) × SameSlices rows.old rows.new }
-{
-    let given = Space {
-        dim,
-        vectors: bytes,
-    };
-    for i in 0..slots.len() {
-        slots::fill(
-            dim,
-            vectors,
-            rows,
-            marks,
-            slots[i] as usize,
-            given.vector(i),
-        );
+impl Inserter<'_, '_> {
+    ghost use Rattle.std.specs.Prelude.{◌≡◌, ◌<◌, length};
+    ghost use Rattle.slots.specs.Store.{store_ops};
+    ghost use Rattle.insert.specs.Insert.{fill_all};
+    ghost use Rattle.insertion.specs.Inner.Filling.{chunk_of, Fillable};
+    ghost use Rattle.insertion.specs.Inner.Inserting.{index_in, Inserted};
+
+    // Writes a vector into slot `s`, which becomes live with an empty row.
+    fn fill(&mut self, s: usize, vector: &[u8])
+        requires { (s < length self.old.graph.now.marks.now) × (length vector.now ≡ self.old.graph.now.dim) }
+        ensures { Inserted self.old (store_ops.fill (index_in self.old) s vector.now) self.new }
+    {
+        let graph = &mut *self.graph;
+        let versions = graph.versions;
+        let mut rows = RowsMut {
+            degree: graph.degree,
+            targets: graph.targets,
+            edges: graph.edges,
+            versions,
+        };
+        let vectors = &mut *graph.vectors;
+        let marks = &mut *graph.marks;
+        slots::fill(graph.dim, vectors, &mut rows, marks, s, vector);
+    }
+
+    // The vectors of `bytes` go into the slots of a chunk, which become live with empty rows.
+    pub fn fill_chunk(&mut self, bytes: &[u8], slots: &[u32])
+        requires { Fillable self.old.graph.now.dim (length self.old.graph.now.marks.now) bytes.now slots.now }
+        ensures { Inserted self.old (fill_all store_ops (index_in self.old) (chunk_of self.old.graph.now.dim bytes.now slots.now)) self.new }
+    {
+        let given = Space {
+            dim: self.graph.dim,
+            vectors: bytes,
+        };
+        for i in 0..slots.len() {
+            self.fill(slots[i] as usize, given.vector(i));
+        }
     }
 }

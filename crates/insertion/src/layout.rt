@@ -15,6 +15,14 @@ pub struct Layout {
     pub chosen: usize,
 }
 
+// The slots of a chunk, and their plans: where they lie, and how many candidates they have.
+#[derive(Clone, Copy)]
+pub struct Plans<'a> {
+    pub slots: &'a [u32],
+    pub at: Layout,
+    pub n: u32,
+}
+
 // The layout for `capacity` slots and rows of `degree`.
 pub fn lay_out(capacity: usize, degree: usize) -> Layout
     requires { (capacity ≤ 65536) × (degree ≤ 64) }

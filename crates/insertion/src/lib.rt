@@ -5,10 +5,12 @@ mod batch;
 mod chains;
 mod chunk;
 mod filling;
+mod graph;
+mod inserter;
 mod layout;
 mod outgoing;
 mod planning;
-mod seen;
 mod targets;
 
 pub use batch::insert_batch;
+pub use graph::{GraphMut, Selection};

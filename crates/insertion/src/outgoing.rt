@@ -1,53 +1,45 @@
 // The outgoing rows of a chunk: those of the new slots that no plan names. A slot that one names gets its row as a target.
-ghost use Rattle.slots.specs.Lent.{SameSlices};
-ghost use Rattle.insertion.specs.Inner.Outgoing.{OwnRow, Unnamed, OutgoingRows, OutgoingWritten};
+ghost use Rattle.std.specs.Prelude.{ℕ, ◌+◌, ◌-◌, ◌*◌, ◌<◌, length};
+ghost use Rattle.lists.specs.Lists.{foldl, range};
+ghost use Rattle.candidates.specs.Inner.Words.{cands};
+ghost use Rattle.insertion.specs.Inner.Outgoing.{own_row, own_at, OwnRow, OutgoingRows};
+ghost use Rattle.insertion.specs.Inner.Writing.{index_by, Written, Below};
 
-use super::layout::Layout;
-use row::write_ids;
-use slots::RowsMut;
+use super::layout::Plans;
+use row::{Pruner, write_ids};
 use slots::scratch::MARKS;
 
-// Writes the slots of the `r` candidates at `p` as the row of slot `s`, unless one of the `n` candidates of the plans names it.
+// Writes the slots of the plans' candidates from `b` up to `e` as the row of slot `s`, unless one of all candidates names it.
 fn write_unnamed(
-    rows: &mut RowsMut<'_>,
+    pruner: &mut Pruner<'_, '_, '_, '_, 0>,
+    plans: &Plans<'_>,
     s: u32,
+    b: usize,
+    e: usize,
     scratch: &mut [u32],
-    p: usize,
-    r: usize,
-    n: u32,
-    to: usize,
 )
-    requires { OwnRow rows.old.degree rows.old.targets.now rows.old.edges.now s scratch.old p r to }
-    ensures { Unnamed rows.old.degree rows.old.targets.now rows.old.edges.now rows.old.versions.now s scratch.old p r n to rows.new.targets.now rows.new.edges.now scratch.new × SameSlices rows.old rows.new }
+    requires { (s < length pruner.old.marks.now) × OwnRow pruner.old.rows.now.degree s scratch.old plans.now.at b e }
+    ensures { ((entry : ℕ) → Written entry pruner.old (own_row scratch.old plans.now.n (cands scratch.old (plans.now.at.plans + 2 * b) (e - b)) (index_by entry pruner.old) s) pruner.new) × Below plans.now.at.chosen scratch.old scratch.new }
 {
-    if n <= scratch[MARKS + s as usize] {
-        write_ids(rows, s, scratch, p, r, to);
+    let at = plans.at;
+    if plans.n <= scratch[MARKS + s as usize] {
+        write_ids(pruner.rows, s, scratch, at.plans + 2 * b, e - b, at.chosen);
     }
 }
 
 // Writes the rows of those slots of a chunk that no plan names.
 pub fn write_outgoing(
-    rows: &mut RowsMut<'_>,
-    slots: &[u32],
+    pruner: &mut Pruner<'_, '_, '_, '_, 0>,
+    plans: &Plans<'_>,
     scratch: &mut [u32],
-    at: Layout,
-    n: u32,
 )
-    requires { OutgoingRows rows.old.degree rows.old.targets.now rows.old.edges.now slots.now scratch.old at n }
-    ensures { OutgoingWritten rows.old.degree rows.old.targets.now rows.old.edges.now rows.old.versions.now slots.now scratch.old at n rows.new.targets.now rows.new.edges.now scratch.new × SameSlices rows.old rows.new }
+    requires { OutgoingRows pruner.old.rows.now.degree (length pruner.old.marks.now) plans.now.slots.now scratch.old plans.now.at plans.now.n }
+    ensures { ((entry : ℕ) → Written entry pruner.old (foldl (own_at scratch.old plans.now.at plans.now.n plans.now.slots.now) (index_by entry pruner.old) (range 0 (length plans.now.slots.now))) pruner.new) × Below plans.now.at.chosen scratch.old scratch.new }
 {
     let mut b: usize = 0;
-    for i in 0..slots.len() {
-        let e = scratch[at.ends + i] as usize;
-        write_unnamed(
-            rows,
-            slots[i],
-            scratch,
-            at.plans + 2 * b,
-            e - b,
-            n,
-            at.chosen,
-        );
+    for i in 0..plans.slots.len() {
+        let e = scratch[plans.at.ends + i] as usize;
+        write_unnamed(pruner, plans, plans.slots[i], b, e, scratch);
         b = e;
     }
 }

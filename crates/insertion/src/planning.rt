@@ -1,93 +1,90 @@
 // The plans of a chunk: what each new slot selects, kept in the words one after the other, with the slot for each candidate and the plan's end.
-ghost use Rattle.std.specs.Prelude.{◌≤◌, length};
-ghost use Rattle.slots.specs.Store.{store_view};
-ghost use Rattle.slots.specs.Lent.{graph_of};
-ghost use Rattle.walk.specs.Inner.Scratch.{Ready};
-ghost use Rattle.row.specs.Row.{index_of};
+ghost use Rattle.std.specs.Prelude.{◌<◌, ◌≤◌, length};
 ghost use Rattle.insertion.specs.Inner.Layout.{Parts};
 ghost use Rattle.insertion.specs.Inner.Filling.{Fillable};
-ghost use Rattle.insertion.specs.Inner.Plans.{Plannable, Planned, AllPlanned};
-ghost use Rattle.insertion.specs.Inner.Chunk.{Provided, plan_at};
 
+use super::chains::chain;
+use super::graph::Selection;
 use super::layout::Layout;
 use distances::Kept;
 use slots::Graph;
 use vectors::Space;
 use walk::search_pool;
 
-// The `i`-th plan, of slot `id`, whose vector is `query`: what it selects follows the `n` candidates of the plans before. Returns how many candidates
-// there are then; that is the plan's end.
-fn plan_one(
-    graph: &Graph<'_>,
-    alpha: f32,
-    start: u32,
-    width: usize,
-    query: &[u8],
-    id: u32,
-    scratch: &mut [u32],
-    at: Layout,
-    i: usize,
-    n: usize,
-) -> usize
-    requires ready { Ready (graph_of graph.now) query.now start width scratch.old }
-    requires plannable { Plannable graph.now.rows.degree (length graph.now.rows.marks.now) scratch.old at i n }
-    ensures { Planned (store_view (index_of alpha start (graph_of graph.now))) graph.now.rows.degree (length graph.now.rows.marks.now)
-        width id query.now scratch.old at i n result scratch.new }
-{
-    let k = search_pool(graph, query, start, width, scratch);
-    let to = at.plans + 2 * n;
-    let mut kept = Kept::<0>::new(graph.space);
-    let r = prune::prune_scored(
-        graph.rows.degree,
-        alpha,
-        &mut kept,
-        graph.rows.marks,
-        id,
-        scratch,
-        0,
-        k,
-        to,
-    );
-    let end = n + r;
-    scratch[at.sources + n..at.sources + end].fill(id);
-    scratch[at.ends + i] = end as u32;
-    end
+// What the plans of a chunk are made of: the graph in which its slots are filled, and where the plans lie. `Enough` is no field: it speaks of the scratch,
+// which is lent to each call anew, as everywhere.
+#[derive(Clone, Copy)]
+pub struct Planner<'g, 'b, 's> {
+    pub graph: Graph<'g>,
+    pub how: Selection,
+    pub bytes: &'b [u8],
+    pub slots: &'s [u32],
+    pub at: Layout,
+    pub ghost degree_most: { graph.rows.degree ≤ 64 },
+    pub ghost entry_in: { how.entry < length graph.rows.marks.now },
+    pub ghost beam_most: { how.beam ≤ 1024 },
+    pub ghost fillable: { Fillable graph.space.dim (length graph.rows.marks.now) bytes.now slots.now },
+    pub ghost parts: { Parts (length graph.rows.marks.now) graph.rows.degree at },
 }
 
-// The plans of all slots of a chunk. Returns how many candidates they have.
-pub fn plan_all(
-    graph: &Graph<'_>,
-    alpha: f32,
-    start: u32,
-    beam: usize,
-    bytes: &[u8],
-    slots: &[u32],
-    scratch: &mut [u32],
-    at: Layout,
-) -> usize
-    requires { Fillable graph.now.space.dim (length graph.now.rows.marks.now) bytes.now slots.now × Provided graph.now.rows.degree (length graph.now.rows.marks.now) start beam (length scratch.old) × Parts (length graph.now.rows.marks.now) graph.now.rows.degree at × (graph.now.rows.degree ≤ 64) }
-    ensures { AllPlanned graph.now.rows.degree (length graph.now.rows.marks.now) (plan_at (graph_of graph.now) alpha start beam bytes.now slots.now)
-        scratch.old at (length slots.now) result scratch.new }
-{
-    let given = Space {
-        dim: graph.space.dim,
-        vectors: bytes,
-    };
-    let width = beam.max(graph.rows.degree);
-    let mut n: usize = 0;
-    for i in 0..slots.len() {
-        n = plan_one(
-            graph,
-            alpha,
-            start,
-            width,
-            given.vector(i),
-            slots[i],
+impl Planner<'_, '_, '_> {
+    ghost use Rattle.std.specs.Prelude.{◌*◌, ◌<◌, ◌≤◌, length};
+    ghost use Rattle.insertion.specs.Inner.Layout.{Enough};
+    ghost use Rattle.insertion.specs.Inner.Plans.{Planned, AllPlanned, Linked};
+    ghost use Rattle.insertion.specs.Inner.Planning.{plan_by};
+
+    // Makes the `i`-th plan: what its slot selects follows the `n` candidates of the plans before. Returns how many candidates there are then; that is
+    // the plan's end.
+    fn plan_one(&self, i: usize, n: usize, scratch: &mut [u32]) -> usize
+        requires { (i < length self.now.slots.now) × (n ≤ i * self.now.graph.rows.degree) × Enough self.now.graph.rows.degree (length self.now.graph.rows.marks.now) scratch.old }
+        ensures { Planned self.now.graph.rows.degree (length self.now.graph.rows.marks.now) (plan_by self.now i) scratch.old self.now.at i n result scratch.new }
+    {
+        let graph = &self.graph;
+        let at = self.at;
+        let given = Space {
+            dim: graph.space.dim,
+            vectors: self.bytes,
+        };
+        let width = self.how.beam.max(graph.rows.degree);
+        let id = self.slots[i];
+        let k = search_pool(graph, given.vector(i), self.how.entry, width, scratch);
+        let mut kept = Kept::<0>::new(graph.space);
+        let r = prune::prune_scored(
+            graph.rows.degree,
+            self.how.alpha,
+            &mut kept,
+            graph.rows.marks,
+            id,
             scratch,
-            at,
-            i,
-            n,
+            0,
+            k,
+            at.plans + 2 * n,
         );
+        let end = n + r;
+        scratch[at.sources + n..at.sources + end].fill(id);
+        scratch[at.ends + i] = end as u32;
+        end
     }
-    n
+
+    // Makes the plans of all slots. Returns how many candidates they have.
+    fn plan_all(&self, scratch: &mut [u32]) -> usize
+        requires { Enough self.now.graph.rows.degree (length self.now.graph.rows.marks.now) scratch.old }
+        ensures { AllPlanned self.now.graph.rows.degree (length self.now.graph.rows.marks.now) (plan_by self.now) scratch.old self.now.at (length self.now.slots.now) result scratch.new }
+    {
+        let mut n: usize = 0;
+        for i in 0..self.slots.len() {
+            n = self.plan_one(i, n, scratch);
+        }
+        n
+    }
+
+    // The plans of all slots, chained by slot. Returns how many candidates they have.
+    pub fn link_plans(&self, scratch: &mut [u32]) -> u32
+        requires { Enough self.now.graph.rows.degree (length self.now.graph.rows.marks.now) scratch.old }
+        ensures { Linked self.now.graph.rows.degree (length self.now.graph.rows.marks.now) (plan_by self.now) scratch.old self.now.at (length self.now.slots.now) result scratch.new }
+    {
+        let n = self.plan_all(scratch) as u32;
+        chain(scratch, self.at, n, self.graph.rows.marks.len());
+        n
+    }
 }

@@ -6,8 +6,7 @@ use mathlib.Core.List.{List, [], ◌∷◌, ◌++◌, append_assoc, append-nil}
 use native.Mathlib.Omega.{arith}
 use borrow.Author.Tests.{lt-ltb, le-ltb}
 use lib.Dec.{ltb}
-use lib.ListN.{length, take, get_or, set, length-append, length-set, take-append-drop}
-use lib.Seq.{length-take-le}
+use lib.ListN.{length, get_or, set, length-append, length-set}
 use Rattle.lists.specs.Lists.{All, put_front}
 use Rattle.lists.proofs.All.{by_cases}
 use Rattle.lists.proofs.Front.{front_snoc}
@@ -16,17 +15,17 @@ use Rattle.candidates.specs.Inner.Words.{pair, cand, cands}
 use Rattle.candidates.proofs.Words.{cands_none, cands_cons, cands_length}
 use Rattle.vectors.specs.Lent.{HasVector}
 use Rattle.vectors.specs.declared.Space.{Space}
-use Rattle.landmarks.specs.Inner.Choices.{farthest_from, farthest, drawn, chosen, Listed, Drew, Appended}
+use Rattle.landmarks.specs.Inner.Choices.{farthest_from, farthest, drawn, chosen, Listed, Drew, Fronted}
 use Rattle.landmarks.proofs.Drawing.{all_drawn, drew_listed}
 
 -- ---- the farthest: of the candidates before place i it is the pair of best and id
-pub record Comparing (w : List ℕ) (a n best id i : ℕ) : Type 0 where
-  pub goes : (farthest_from (pair best id) (cands w (a + 2 * i) (n - i))).id ≡ farthest (cands w a n)
+pub record Comparing (w : List ℕ) (n best id i : ℕ) : Type 0 where
+  pub goes : (farthest_from (pair best id) (cands w (0 + 2 * i) (n - i))).id ≡ farthest (cands w 0 n)
 
-pub comparing_none : (w : List ℕ) (a n : ℕ) → Comparing w a n 0 0 0
-comparing_none w a n =
+pub comparing_none : (w : List ℕ) (n : ℕ) → Comparing w n 0 0 0
+comparing_none w n =
     let e : n - 0 ≡ n = omega arith in
-    let g : a + 2 * 0 ≡ a = omega arith in
+    let g : 0 + 2 * 0 ≡ 0 = omega arith in
     record { goes = rw (e, g) }
 
 pub step_farther : (a c : Candidate) (cs : List Candidate) → ltb c.dist a.dist ≡ false → farthest_from a (c ∷ cs) ≡ farthest_from c cs
@@ -35,28 +34,28 @@ step_farther a c cs e = ap (λ (b : Bool). farthest_from (cond b a c) cs) e
 step_nearer : (a c : Candidate) (cs : List Candidate) → ltb c.dist a.dist ≡ true → farthest_from a (c ∷ cs) ≡ farthest_from a cs
 step_nearer a c cs e = ap (λ (b : Bool). farthest_from (cond b a c) cs) e
 
-module _ {w : List ℕ} {a n best id i : ℕ} (f : Comparing w a n best id i) where
-  later : i < n → (farthest_from (pair best id) (cand w (a + 2 * i) ∷ cands w (a + 2 * (i + 1)) (n - (i + 1)))).id ≡ farthest (cands w a n)
-  later h = ap (λ (cs : List Candidate). (farthest_from (pair best id) cs).id) (sym (cands_cons w a n i h)) ∙ f.goes
+module _ {w : List ℕ} {n best id i : ℕ} (f : Comparing w n best id i) where
+  later : i < n → (farthest_from (pair best id) (cand w (0 + 2 * i) ∷ cands w (0 + 2 * (i + 1)) (n - (i + 1)))).id ≡ farthest (cands w 0 n)
+  later h = ap (λ (cs : List Candidate). (farthest_from (pair best id) cs).id) (sym (cands_cons w 0 n i h)) ∙ f.goes
 
-  pub comparing_farther : {d s : ℕ} → i < n → d ≡ get_or w (a + 2 * i) 0 → s ≡ get_or w (a + 2 * i + 1) 0 → best ≤ d → Comparing w a n d s (i + 1)
+  pub comparing_farther : {d s : ℕ} → i < n → d ≡ get_or w (0 + 2 * i) 0 → s ≡ get_or w (0 + 2 * i + 1) 0 → best ≤ d → Comparing w n d s (i + 1)
   comparing_farther {d} {s} h e g l =
-      let k : best ≤ get_or w (a + 2 * i) 0 = omega arith in
+      let k : best ≤ get_or w (0 + 2 * i) 0 = omega arith in
       record {
-        goes = rw (e, g) (ap (λ (c : Candidate). c.id) (sym (step_farther (pair best id) (cand w (a + 2 * i)) (cands w (a + 2 * (i + 1)) (n - (i + 1))) (le-ltb (get_or w (a + 2 * i) 0) best k))) ∙ later h);
+        goes = rw (e, g) (ap (λ (c : Candidate). c.id) (sym (step_farther (pair best id) (cand w (0 + 2 * i)) (cands w (0 + 2 * (i + 1)) (n - (i + 1))) (le-ltb (get_or w (0 + 2 * i) 0) best k))) ∙ later h);
       }
 
-  pub comparing_nearer : {d : ℕ} → i < n → d ≡ get_or w (a + 2 * i) 0 → d < best → Comparing w a n best id (i + 1)
+  pub comparing_nearer : {d : ℕ} → i < n → d ≡ get_or w (0 + 2 * i) 0 → d < best → Comparing w n best id (i + 1)
   comparing_nearer {d} h e l =
-      let k : get_or w (a + 2 * i) 0 < best = omega arith in
+      let k : get_or w (0 + 2 * i) 0 < best = omega arith in
       record {
-        goes = ap (λ (c : Candidate). c.id) (sym (step_nearer (pair best id) (cand w (a + 2 * i)) (cands w (a + 2 * (i + 1)) (n - (i + 1))) (lt-ltb (get_or w (a + 2 * i) 0) best k))) ∙ later h;
+        goes = ap (λ (c : Candidate). c.id) (sym (step_nearer (pair best id) (cand w (0 + 2 * i)) (cands w (0 + 2 * (i + 1)) (n - (i + 1))) (lt-ltb (get_or w (0 + 2 * i) 0) best k))) ∙ later h;
       }
 
-  pub comparing_done : n ≤ i → id ≡ farthest (cands w a n)
+  pub comparing_done : n ≤ i → id ≡ farthest (cands w 0 n)
   comparing_done h =
       let z : n - i ≡ 0 = omega arith in
-      rw (cands_none w (a + 2 * i) (n - i) z) at f.goes
+      rw (cands_none w (0 + 2 * i) (n - i) z) at f.goes
 
 farthest_all : (P : Candidate → Type 0) (c : Candidate) (cs : List Candidate) → P c → All P cs → P (farthest_from c cs)
 farthest_all P c [] h k = h
@@ -68,31 +67,26 @@ farthest_in P [] h k = absurd (omega arith)
 farthest_in P (c ∷ cs) h k =
     subst (λ (x : Candidate). P x.id) (sym (step_farther (pair 0 0) c cs (le-ltb c.dist 0 (omega arith)))) (farthest_all (λ c. P c.id) c cs k.0 k.1)
 
-pub farthest_inside : {space : Space} {a : ℕ} {w : List ℕ} {m next : ℕ} → Listed space a w m → (m ≡ 0 → ⊥) → next ≡ farthest (cands w a m) → HasVector space next
-farthest_inside {space} {a} {w} {m} f h e = rw e (farthest_in (HasVector space) (cands w a m) (omega (arith, cands_length w a m, h)) f.inside)
+pub farthest_inside : {space : Space} {w : List ℕ} {m next : ℕ} → Listed space w m → (m ≡ 0 → ⊥) → next ≡ farthest (cands w 0 m) → HasVector space next
+farthest_inside {space} {w} {m} f h e = rw e (farthest_in (HasVector space) (cands w 0 m) (omega (arith, cands_length w 0 m, h)) f.inside)
 
 -- ---- k landmarks are chosen, m candidates left
-pub record Choosing (space : Space) (d : ℕ → ℕ → ℕ) (wanted at a n : ℕ) (l₀ w₀ l w : List ℕ) (m k : ℕ) : Type 0 where
+pub record Choosing (space : Space) (d : ℕ → ℕ → ℕ) (wanted n : ℕ) (l₀ w₀ l w : List ℕ) (m k : ℕ) : Type 0 where
   pub taken : List ℕ
   pub count : k ≡ length taken
-  pub list : l ≡ put_front (take at l₀ ++ taken) l₀
-  pub goes : taken ++ chosen d (wanted - k) (cands w a m) ≡ chosen d wanted (cands w₀ a n)
-  pub listed : Listed space a w m
+  pub list : l ≡ put_front taken l₀
+  pub goes : taken ++ chosen d (wanted - k) (cands w 0 m) ≡ chosen d wanted (cands w₀ 0 n)
+  pub listed : Listed space w m
   pub list_size : length l ≡ length l₀
   pub size : length w ≡ length w₀
 
--- nothing is written behind the first k
-pub front_none : (k : ℕ) (l : List ℕ) → k ≤ length l → l ≡ put_front (take k l ++ []) l
-front_none k l h = rw (append-nil, length-take-le k l h) (sym (take-append-drop k l))
-
-pub choosing_none : {space : Space} (d : ℕ → ℕ → ℕ) (wanted at : ℕ) {a n : ℕ} (l : List ℕ) {w : List ℕ} → Listed space a w n → at + wanted ≤ length l
-    → Choosing space d wanted at a n l w l w n 0
-choosing_none d wanted at {n} l {w} f h =
+pub choosing_none : {space : Space} (d : ℕ → ℕ → ℕ) (wanted : ℕ) {n : ℕ} (l : List ℕ) {w : List ℕ} → Listed space w n → Choosing space d wanted n l w l w n 0
+choosing_none d wanted {n} l {w} f =
     let e : wanted - 0 ≡ wanted = omega arith in
     record {
       taken = [];
       count = refl;
-      list = front_none at l (omega arith);
+      list = refl;
       goes = rw e;
       listed = f;
       list_size = refl;
@@ -116,34 +110,33 @@ chosen_next d wanted k (c ∷ cs) h l =
     let g : wanted - k ≡ suc (wanted - (k + 1)) = omega arith in
     rw g
 
-module _ {space : Space} {d : ℕ → ℕ → ℕ} {wanted at a n : ℕ} {l₀ w₀ l w : List ℕ} {m k : ℕ} (f : Choosing space d wanted at a n l₀ w₀ l w m k) where
-  pub choosing_more : {next r : ℕ} {w' : List ℕ} → at + wanted ≤ length l₀ → k < wanted → (m ≡ 0 → ⊥) → next ≡ farthest (cands w a m)
-      → Drew w a m (drawn d next (cands w a m)) w' r → Choosing space d wanted at a n l₀ w₀ (set l (at + k) next) w' r (k + 1)
+module _ {space : Space} {d : ℕ → ℕ → ℕ} {wanted n : ℕ} {l₀ w₀ l w : List ℕ} {m k : ℕ} (f : Choosing space d wanted n l₀ w₀ l w m k) where
+  pub choosing_more : {next r : ℕ} {w' : List ℕ} → wanted ≤ length l₀ → k < wanted → (m ≡ 0 → ⊥) → next ≡ farthest (cands w 0 m)
+      → Drew w m (drawn d next (cands w 0 m)) w' r → Choosing space d wanted n l₀ w₀ (set l k next) w' r (k + 1)
   choosing_more {next} {r} {w'} room h some e g =
       let c : length (f.taken ++ (next ∷ [])) ≡ length f.taken + 1 = length-append f.taken (next ∷ []) in
-      let j : length (take at l₀ ++ f.taken) ≡ at + k = omega (arith, length-append (take at l₀) f.taken, length-take-le at l₀ (omega arith), f.count) in
-      let o : f.taken ++ (next ∷ chosen d (wanted - (k + 1)) (drawn d next (cands w a m))) ≡ chosen d wanted (cands w₀ a n) = rw e (rw (chosen_next d wanted k (cands w a m) h (omega (arith, cands_length w a m, some))) at f.goes) in
+      let o : f.taken ++ (next ∷ chosen d (wanted - (k + 1)) (drawn d next (cands w 0 m))) ≡ chosen d wanted (cands w₀ 0 n) = rw e (rw (chosen_next d wanted k (cands w 0 m) h (omega (arith, cands_length w 0 m, some))) at f.goes) in
       record {
         taken = f.taken ++ (next ∷ []);
         count = omega (arith, f.count, c);
-        list = rw (f.list, ← j) (front_snoc (take at l₀ ++ f.taken) next l₀ (omega arith) ∙ ap (λ (xs : List ℕ). put_front xs l₀) (append_assoc (take at l₀) f.taken (next ∷ [])));
+        list = rw (f.list, f.count) (front_snoc f.taken next l₀ (omega (arith, f.count)));
         goes = rw (g.list, append_assoc) o;
         listed = drew_listed d next f.listed g;
-        list_size = length-set l (at + k) next ∙ f.list_size;
+        list_size = length-set l k next ∙ f.list_size;
         size = g.size ∙ f.size;
       }
 
-  done : f.taken ≡ chosen d wanted (cands w₀ a n) → Appended (chosen d wanted (cands w₀ a n)) at l₀ l k
+  done : f.taken ≡ chosen d wanted (cands w₀ 0 n) → Fronted (chosen d wanted (cands w₀ 0 n)) l₀ l k
   done e = rw (← e) (record { list = f.list; count = f.count })
 
-  pub choosing_empty : m ≡ 0 → Appended (chosen d wanted (cands w₀ a n)) at l₀ l k
-  choosing_empty z = done (rw (cands_none w a m z, chosen_none d (wanted - k), append-nil) at f.goes)
+  pub choosing_empty : m ≡ 0 → Fronted (chosen d wanted (cands w₀ 0 n)) l₀ l k
+  choosing_empty z = done (rw (cands_none w 0 m z, chosen_none d (wanted - k), append-nil) at f.goes)
 
-  pub choosing_done : k ≤ wanted → wanted ≤ k → Appended (chosen d wanted (cands w₀ a n)) at l₀ l wanted
+  pub choosing_done : k ≤ wanted → wanted ≤ k → Fronted (chosen d wanted (cands w₀ 0 n)) l₀ l wanted
   choosing_done b h =
       let z : wanted - k ≡ 0 = omega arith in
       let e : k ≡ wanted = omega arith in
-      rw e at (done (rw (z, chosen_zero d (cands w a m), append-nil) at f.goes))
+      rw e at (done (rw (z, chosen_zero d (cands w 0 m), append-nil) at f.goes))
 
 -- ---- how many are chosen, and what holds of them
 pub chosen_few : (d : ℕ → ℕ → ℕ) (n : ℕ) (cs : List Candidate) → length (chosen d n cs) ≤ n

@@ -16,10 +16,11 @@ use Rattle.lists.proofs.Unique.{or_false_l, or_false_r}
 use Rattle.vectors.specs.Space.{Measured}
 use Rattle.candidates.specs.Candidates.{Candidate, scored}
 use Rattle.candidates.specs.Inner.Words.{pair, cands, put}
-use Rattle.candidates.proofs.Words.{cands_none, cands_cons, cands_put, cands_push, put_length}
+use Rattle.candidates.proofs.Words.{cands_none, cands_cons, cands_put, put_length}
 use Rattle.landmarks.specs.Inner.Samples.{far}
 use Rattle.vectors.specs.Lent.{HasVector}
 use Rattle.vectors.specs.declared.Space.{Space}
+use Rattle.landmarks.proofs.Sampling.{push}
 use Rattle.landmarks.specs.Inner.Choices.{drawn, drawn_all, Listed, Drew}
 
 pub all_drawn : (P : ℕ → Type 0) (d : ℕ → ℕ → ℕ) (next : ℕ) (cs : List Candidate) → All (λ c. P c.id) cs → All (λ c. P c.id) (drawn d next cs)
@@ -29,91 +30,91 @@ all_drawn P d next (c ∷ cs) h =
     by_cases (All (λ c. P c.id)) (eqb c.id next) (λ e. rest) (λ e. (h.0, rest))
 
 -- ---- one reference: k candidates are looked at, m of them kept
-pub record Drawing (space : Space) (d : ℕ → ℕ → ℕ) (next a : ℕ) (w₀ : List ℕ) (n : ℕ) (w : List ℕ) (m k : ℕ) : Type 0 where
+pub record Drawing (space : Space) (d : ℕ → ℕ → ℕ) (next : ℕ) (w₀ : List ℕ) (n : ℕ) (w : List ℕ) (m k : ℕ) : Type 0 where
   pub within : m ≤ k
-  pub goes : cands w a m ++ drawn d next (cands w (a + 2 * k) (n - k)) ≡ drawn d next (cands w₀ a n)
-  pub inside : All (λ c. HasVector space c.id) (cands w (a + 2 * k) (n - k))
-  pub near : All (λ c. c.dist ≤ 16646400) (cands w a m)
+  pub goes : cands w 0 m ++ drawn d next (cands w (0 + 2 * k) (n - k)) ≡ drawn d next (cands w₀ 0 n)
+  pub inside : All (λ c. HasVector space c.id) (cands w (0 + 2 * k) (n - k))
+  pub near : All (λ c. c.dist ≤ 16646400) (cands w 0 m)
   pub size : length w ≡ length w₀
 
-pub drawing_none : {space : Space} (d : ℕ → ℕ → ℕ) (next : ℕ) {a : ℕ} {w : List ℕ} {n : ℕ} → Listed space a w n
-    → Drawing space d next a w n w 0 0
-drawing_none d next {a} {w} {n} f =
+pub drawing_none : {space : Space} (d : ℕ → ℕ → ℕ) (next : ℕ) {w : List ℕ} {n : ℕ} → Listed space w n
+    → Drawing space d next w n w 0 0
+drawing_none d next {w} {n} f =
     let e : n - 0 ≡ n = omega arith in
-    let g : a + 2 * 0 ≡ a = omega arith in
-    record { within = omega arith; goes = rw (cands_none w a 0 refl, e, g); inside = rw (e, g) f.inside; near = rw (cands_none w a 0 refl) tt; size = refl }
+    let g : 0 + 2 * 0 ≡ 0 = omega arith in
+    record { within = omega arith; goes = rw (cands_none w 0 0 refl, e, g); inside = rw (e, g) f.inside; near = rw (cands_none w 0 0 refl) tt; size = refl }
 
-module _ {space : Space} {d : ℕ → ℕ → ℕ} {next a : ℕ} {w₀ : List ℕ} {n : ℕ} {w : List ℕ} {m k : ℕ} (f : Drawing space d next a w₀ n w m k) where
-  pub drawing_inside : {id : ℕ} → k < n → id ≡ get_or w (a + 2 * k + 1) 0 → HasVector space id
-  drawing_inside h e = rw e (rw (cands_cons w a n k h) at f.inside).0
+module _ {space : Space} {d : ℕ → ℕ → ℕ} {next : ℕ} {w₀ : List ℕ} {n : ℕ} {w : List ℕ} {m k : ℕ} (f : Drawing space d next w₀ n w m k) where
+  pub drawing_inside : {id : ℕ} → k < n → id ≡ get_or w (0 + 2 * k + 1) 0 → HasVector space id
+  drawing_inside h e = rw e (rw (cands_cons w 0 n k h) at f.inside).0
 
-  pub drawing_take : {dist id y x : ℕ} → a + 2 * n ≤ length w₀ → k < n → dist ≡ get_or w (a + 2 * k) 0 → id ≡ get_or w (a + 2 * k + 1) 0 → (id ≡ next → ⊥)
-      → Measured (d id next) y → x ≡ min dist y → Drawing space d next a w₀ n (put w (a + 2 * m) x id) (m + 1) (k + 1)
+  pub drawing_take : {dist id y x : ℕ} → 2 * n ≤ length w₀ → k < n → dist ≡ get_or w (0 + 2 * k) 0 → id ≡ get_or w (0 + 2 * k + 1) 0 → (id ≡ next → ⊥)
+      → Measured (d id next) y → x ≡ min dist y → Drawing space d next w₀ n (put w (2 * m) x id) (m + 1) (k + 1)
   drawing_take {dist} {id} {y} {x} l h e g q p r =
-      let i : a + 2 * m + 1 < length w = omega (arith, f.within, f.size) in
-      let z : eqb (get_or w (a + 2 * k + 1) 0) next ≡ false = ne_eqb _ next (λ o. q (g ∙ o)) in
-      let y_is : y ≡ d (get_or w (a + 2 * k + 1) 0) next = p.equals ∙ rw g in
-      let x_is : x ≡ min (get_or w (a + 2 * k) 0) (d (get_or w (a + 2 * k + 1) 0) next) = rw (r, y_is, e) in
+      let i : 2 * m + 1 < length w = omega (arith, f.within, f.size) in
+      let z : eqb (get_or w (0 + 2 * k + 1) 0) next ≡ false = ne_eqb _ next (λ o. q (g ∙ o)) in
+      let y_is : y ≡ d (get_or w (0 + 2 * k + 1) 0) next = p.equals ∙ rw g in
+      let x_is : x ≡ min (get_or w (0 + 2 * k) 0) (d (get_or w (0 + 2 * k + 1) 0) next) = rw (r, y_is, e) in
       let small : x ≤ 16646400 = omega (arith, p.bound) in
-      let o : cands (put w (a + 2 * m) x id) (a + 2 * (k + 1)) (n - (k + 1)) ≡ cands w (a + 2 * (k + 1)) (n - (k + 1)) = cands_put w (a + 2 * m) x id (a + 2 * (k + 1)) (n - (k + 1)) (λ _. omega (arith, f.within)) in
+      let o : cands (put w (2 * m) x id) (0 + 2 * (k + 1)) (n - (k + 1)) ≡ cands w (0 + 2 * (k + 1)) (n - (k + 1)) = cands_put w (2 * m) x id (0 + 2 * (k + 1)) (n - (k + 1)) (λ _. omega (arith, f.within)) in
       record {
         within = omega (arith, f.within);
-        goes = rw (cands_push w x id a m i, append_assoc, o, x_is, g) (rw (cands_cons w a n k h, z) at f.goes);
-        inside = rw o (rw (cands_cons w a n k h) at f.inside).1;
-        near = rw (cands_push w x id a m i) (all_append (λ c. c.dist ≤ 16646400) (cands w a m) (pair x id ∷ []) f.near (small, tt));
-        size = put_length w (a + 2 * m) x id ∙ f.size;
+        goes = rw (push w x id m i, append_assoc, o, x_is, g) (rw (cands_cons w 0 n k h, z) at f.goes);
+        inside = rw o (rw (cands_cons w 0 n k h) at f.inside).1;
+        near = rw (push w x id m i) (all_append (λ c. c.dist ≤ 16646400) (cands w 0 m) (pair x id ∷ []) f.near (small, tt));
+        size = put_length w (2 * m) x id ∙ f.size;
       }
 
-  pub drawing_skip : {id : ℕ} → k < n → id ≡ get_or w (a + 2 * k + 1) 0 → id ≡ next → Drawing space d next a w₀ n w m (k + 1)
+  pub drawing_skip : {id : ℕ} → k < n → id ≡ get_or w (0 + 2 * k + 1) 0 → id ≡ next → Drawing space d next w₀ n w m (k + 1)
   drawing_skip {id} h g q =
-      let z : eqb (get_or w (a + 2 * k + 1) 0) next ≡ true = eq-eqb _ next (sym g ∙ q) in
+      let z : eqb (get_or w (0 + 2 * k + 1) 0) next ≡ true = eq-eqb _ next (sym g ∙ q) in
       record {
         within = omega (arith, f.within);
-        goes = rw (cands_cons w a n k h, z) at f.goes;
-        inside = (rw (cands_cons w a n k h) at f.inside).1;
+        goes = rw (cands_cons w 0 n k h, z) at f.goes;
+        inside = (rw (cands_cons w 0 n k h) at f.inside).1;
         near = f.near;
         size = f.size;
       }
 
-  pub drawing_done : k ≤ n → n ≤ k → Drew w₀ a n (drawn d next (cands w₀ a n)) w m
+  pub drawing_done : k ≤ n → n ≤ k → Drew w₀ n (drawn d next (cands w₀ 0 n)) w m
   drawing_done b h =
       let z : n - k ≡ 0 = omega arith in
-      record { list = rw (cands_none w (a + 2 * k) (n - k) z, append-nil) at f.goes; within = omega (arith, f.within); near = f.near; size = f.size }
+      record { list = rw (cands_none w (0 + 2 * k) (n - k) z, append-nil) at f.goes; within = omega (arith, f.within); near = f.near; size = f.size }
 
 -- what is left can be drawn to the next one
-pub drew_listed : {space : Space} (d : ℕ → ℕ → ℕ) (next : ℕ) {a : ℕ} {w : List ℕ} {n : ℕ} {w' : List ℕ} {r : ℕ} → Listed space a w n
-    → Drew w a n (drawn d next (cands w a n)) w' r → Listed space a w' r
-drew_listed {space} d next {a} {w} {n} f g =
-    record { small = f.small; room = omega (arith, f.room, g.within, g.size); inside = rw g.list (all_drawn (HasVector space) d next (cands w a n) f.inside) }
+pub drew_listed : {space : Space} (d : ℕ → ℕ → ℕ) (next : ℕ) {w : List ℕ} {n : ℕ} {w' : List ℕ} {r : ℕ} → Listed space w n
+    → Drew w n (drawn d next (cands w 0 n)) w' r → Listed space w' r
+drew_listed {space} d next {w} {n} f g =
+    record { small = f.small; room = omega (arith, f.room, g.within, g.size); inside = rw g.list (all_drawn (HasVector space) d next (cands w 0 n) f.inside) }
 
 -- ---- all references: the first one, and those of the list before place i, have drawn near
-pub record DrawingAll (space : Space) (d : ℕ → ℕ → ℕ) (l : List ℕ) (a : ℕ) (w₀ : List ℕ) (n : ℕ) (w : List ℕ) (m i : ℕ) : Type 0 where
-  pub goes : drawn_all d (drop i l) (cands w a m) ≡ drawn_all d l (cands w₀ a n)
-  pub listed : Listed space a w m
+pub record DrawingAll (space : Space) (d : ℕ → ℕ → ℕ) (l : List ℕ) (w₀ : List ℕ) (n : ℕ) (w : List ℕ) (m i : ℕ) : Type 0 where
+  pub goes : drawn_all d (drop i l) (cands w 0 m) ≡ drawn_all d l (cands w₀ 0 n)
+  pub listed : Listed space w m
   pub within : m ≤ n
-  pub near : All (λ c. c.dist ≤ 16646400) (cands w a m)
+  pub near : All (λ c. c.dist ≤ 16646400) (cands w 0 m)
   pub size : length w ≡ length w₀
 
 -- the first reference has
-pub drawing_first : {space : Space} (d : ℕ → ℕ → ℕ) (l : List ℕ) (next : ℕ) {a : ℕ} {w : List ℕ} {n : ℕ} {w' : List ℕ} {r : ℕ} → Listed space a w n
-    → Drew w a n (drawn d next (cands w a n)) w' r → DrawingAll space d l a w' r w' r 0
+pub drawing_first : {space : Space} (d : ℕ → ℕ → ℕ) (l : List ℕ) (next : ℕ) {w : List ℕ} {n : ℕ} {w' : List ℕ} {r : ℕ} → Listed space w n
+    → Drew w n (drawn d next (cands w 0 n)) w' r → DrawingAll space d l w' r w' r 0
 drawing_first d l next f g = record { goes = refl; listed = drew_listed d next f g; within = omega arith; near = g.near; size = refl }
 
-module _ {space : Space} {d : ℕ → ℕ → ℕ} {l : List ℕ} {a : ℕ} {w₀ : List ℕ} {n : ℕ} {w : List ℕ} {m i : ℕ} (f : DrawingAll space d l a w₀ n w m i) where
-  pub drawing_next : {w' : List ℕ} {r : ℕ} → i < length l → Drew w a m (drawn d (get_or l i 0) (cands w a m)) w' r → DrawingAll space d l a w₀ n w' r (i + 1)
+module _ {space : Space} {d : ℕ → ℕ → ℕ} {l : List ℕ} {w₀ : List ℕ} {n : ℕ} {w : List ℕ} {m i : ℕ} (f : DrawingAll space d l w₀ n w m i) where
+  pub drawing_next : {w' : List ℕ} {r : ℕ} → i < length l → Drew w m (drawn d (get_or l i 0) (cands w 0 m)) w' r → DrawingAll space d l w₀ n w' r (i + 1)
   drawing_next h g =
       record {
-        goes = rw g.list (sym (at_drop_more (λ (z : List ℕ). drawn_all d z (cands w a m)) l i 0 h) ∙ f.goes);
+        goes = rw g.list (sym (at_drop_more (λ (z : List ℕ). drawn_all d z (cands w 0 m)) l i 0 h) ∙ f.goes);
         listed = drew_listed d (get_or l i 0) f.listed g;
         within = omega (arith, f.within, g.within);
         near = g.near;
         size = g.size ∙ f.size;
       }
 
-  pub drawn_done : (entry : ℕ) {w₁ : List ℕ} {n₁ : ℕ} → Drew w₁ a n₁ (drawn d entry (cands w₁ a n₁)) w₀ n → length l ≤ i
-      → Drew w₁ a n₁ (drawn_all d (entry ∷ l) (cands w₁ a n₁)) w m
+  pub drawn_done : (entry : ℕ) {w₁ : List ℕ} {n₁ : ℕ} → Drew w₁ n₁ (drawn d entry (cands w₁ 0 n₁)) w₀ n → length l ≤ i
+      → Drew w₁ n₁ (drawn_all d (entry ∷ l) (cands w₁ 0 n₁)) w m
   drawn_done entry g h =
-      let e : cands w a m ≡ drawn_all d l (cands w₀ a n) = rw (drop_all i l h) at f.goes in
+      let e : cands w 0 m ≡ drawn_all d l (cands w₀ 0 n) = rw (drop_all i l h) at f.goes in
       record {
         list = e ∙ ap (drawn_all d l) g.list;
         within = omega (arith, f.within, g.within);
@@ -163,8 +164,8 @@ below_far d entry rs (x ∷ xs) h = (one, below_far d entry rs xs h.1)
         let g : least_with (d x) (min (far x) (d x entry)) rs ≡ min (least_with (d x) (d x entry) rs) (far x) = ap (λ (k : ℕ). least_with (d x) k rs) e ∙ least_min (d x) (d x entry) (far x) rs in
         omega (arith, h.0, g, least_cons (d x) entry rs)
 
-pub drawn_sample : (d : ℕ → ℕ → ℕ) (entry : ℕ) (rs xs : List ℕ) {w : List ℕ} {a n : ℕ} {w' : List ℕ} {r : ℕ} → All (λ s. elem s (entry ∷ rs) ≡ false) xs
-    → cands w a n ≡ scored far xs → Drew w a n (drawn_all d (entry ∷ rs) (cands w a n)) w' r → cands w' a r ≡ scored (λ s. least_of (d s) (entry ∷ rs)) xs
-drawn_sample d entry rs xs {w} {a} {n} {w'} {r} h e f =
-    let g : cands w' a r ≡ scored (λ s. least_with (d s) (far s) (entry ∷ rs)) xs = f.list ∙ ap (drawn_all d (entry ∷ rs)) e ∙ drawn_least d far (entry ∷ rs) xs h in
+pub drawn_sample : (d : ℕ → ℕ → ℕ) (entry : ℕ) (rs xs : List ℕ) {w : List ℕ} {n : ℕ} {w' : List ℕ} {r : ℕ} → All (λ s. elem s (entry ∷ rs) ≡ false) xs
+    → cands w 0 n ≡ scored far xs → Drew w n (drawn_all d (entry ∷ rs) (cands w 0 n)) w' r → cands w' 0 r ≡ scored (λ s. least_of (d s) (entry ∷ rs)) xs
+drawn_sample d entry rs xs {w} {n} {w'} {r} h e f =
+    let g : cands w' 0 r ≡ scored (λ s. least_with (d s) (far s) (entry ∷ rs)) xs = f.list ∙ ap (drawn_all d (entry ∷ rs)) e ∙ drawn_least d far (entry ∷ rs) xs h in
     g ∙ scored_among _ _ xs (below_far d entry rs xs (rw g at f.near))

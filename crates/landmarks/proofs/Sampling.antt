@@ -1,8 +1,8 @@
 -- The sample, slot by slot, and the whole of it. Assumes nothing.
 use Prim.Native.Nat.{ℕ, ◌+◌, ◌-◌, ◌*◌, ◌≤◌, ◌<◌}
-use mathlib.Core.Bool.{Bool, true, false, cond}
+use mathlib.Core.Bool.{Bool, true, false, ◌&&◌, cond}
 use mathlib.Core.Path.{◌≡◌, refl, ap, sym, ◌∙◌}
-use mathlib.Core.List.{List, [], ◌++◌, append_assoc, append-nil}
+use mathlib.Core.List.{List, [], ◌∷◌, ◌++◌, append_assoc, append-nil}
 use native.Mathlib.Omega.{arith}
 use borrow.Author.Tests.{lt-ltb, le-ltb}
 use lib.Dec.{ltb}
@@ -11,39 +11,47 @@ use Rattle.lists.specs.Lists.{All, filter, range}
 use Rattle.lists.proofs.All.{by_cases, all_append}
 use Rattle.lists.proofs.Ranges.{range_cons, range_none, filtered_below}
 use Rattle.candidates.specs.Candidates.{scored}
-use Rattle.candidates.specs.Inner.Words.{cands, put}
+use Rattle.candidates.specs.Inner.Words.{pair, cands, put}
 use Rattle.candidates.proofs.Words.{cands_none, cands_length, cands_push, put_length}
 use Rattle.candidates.proofs.Scored.{scored_append, scored_length}
 use Rattle.landmarks.specs.Inner.Samples.{far, sampled, sample_by, sample_words, Sampled, Taken}
 
+-- ---- one candidate more
+pub push : (w : List ℕ) (d s m : ℕ) → 2 * m + 1 < length w → cands (put w (2 * m) d s) 0 (m + 1) ≡ cands w 0 m ++ (pair d s ∷ [])
+push w d s m h =
+    let e : 2 * m ≡ 0 + 2 * m = omega arith in
+    rw e (cands_push w d s 0 m (omega (arith, h)))
+
+-- ---- two tests of a slot
+pub both_hold : {t r u v : Bool} → t ≡ r → t ≡ true → u ≡ v → u ≡ true → (r && v) ≡ true
+both_hold e h g k = rw (← e, h, ← g, k)
+
+pub first_fails : {t r : Bool} (v : Bool) → t ≡ r → t ≡ false → (r && v) ≡ false
+first_fails v e h = rw (← e, h)
+
+pub second_fails : {t r u v : Bool} → t ≡ r → t ≡ true → u ≡ v → u ≡ false → (r && v) ≡ false
+second_fails e h g k = rw (← e, h, ← g, k)
+
 -- ---- the slots before s are looked at, m candidates are there
-pub record Sampling (p : ℕ → Bool) (capacity a : ℕ) (w₀ : List ℕ) (n : ℕ) (w : List ℕ) (m s : ℕ) : Type 0 where
+pub record Sampling (p : ℕ → Bool) (capacity : ℕ) (w₀ : List ℕ) (n : ℕ) (w : List ℕ) (m s : ℕ) : Type 0 where
   pub within : m ≤ n + s
-  pub goes : cands w a m ++ scored far (filter p (range s (capacity - s))) ≡ cands w₀ a n ++ scored far (filter p (range 0 capacity))
+  pub goes : cands w 0 m ++ scored far (filter p (range s (capacity - s))) ≡ cands w₀ 0 n ++ scored far (filter p (range 0 capacity))
   pub size : length w ≡ length w₀
 
-pub sampling_none : (p : ℕ → Bool) (capacity a : ℕ) (w : List ℕ) (n : ℕ) → Sampling p capacity a w n w n 0
-sampling_none p capacity a w n =
-    let e : capacity - 0 ≡ capacity = omega arith in
-    record { within = omega arith; goes = rw e; size = refl }
-
-module _ {p : ℕ → Bool} {capacity a : ℕ} {w₀ : List ℕ} {n : ℕ} {w : List ℕ} {m s : ℕ} (f : Sampling p capacity a w₀ n w m s) where
-  pub sampling_take : {t : Bool} → a + 2 * (n + capacity) ≤ length w₀ → s < capacity → t ≡ p s → t ≡ true → Sampling p capacity a w₀ n (put w (a + 2 * m) 4294967295 s) (m + 1) (s + 1)
-  sampling_take l h v g =
-      let e : p s ≡ true = sym v ∙ g in
-      let k : a + 2 * m + 1 < length w = omega (arith, f.within, f.size) in
+module _ {p : ℕ → Bool} {capacity : ℕ} {w₀ : List ℕ} {n : ℕ} {w : List ℕ} {m s : ℕ} (f : Sampling p capacity w₀ n w m s) where
+  pub sampling_take : 2 * (n + capacity) ≤ length w₀ → s < capacity → p s ≡ true → Sampling p capacity w₀ n (put w (2 * m) 4294967295 s) (m + 1) (s + 1)
+  sampling_take l h e =
+      let k : 2 * m + 1 < length w = omega (arith, f.within, f.size) in
       record {
         within = omega (arith, f.within);
-        goes = rw (cands_push w 4294967295 s a m k, append_assoc) (rw (range_cons capacity s h, e) at f.goes);
-        size = put_length w (a + 2 * m) 4294967295 s ∙ f.size;
+        goes = rw (push w 4294967295 s m k, append_assoc) (rw (range_cons capacity s h, e) at f.goes);
+        size = put_length w (2 * m) 4294967295 s ∙ f.size;
       }
 
-  pub sampling_skip : {t : Bool} → s < capacity → t ≡ p s → t ≡ false → Sampling p capacity a w₀ n w m (s + 1)
-  sampling_skip h v g =
-      let e : p s ≡ false = sym v ∙ g in
-      record { within = omega (arith, f.within); goes = rw (range_cons capacity s h, e) at f.goes; size = f.size }
+  pub sampling_skip : s < capacity → p s ≡ false → Sampling p capacity w₀ n w m (s + 1)
+  sampling_skip h e = record { within = omega (arith, f.within); goes = rw (range_cons capacity s h, e) at f.goes; size = f.size }
 
-  pub sampling_done : s ≤ capacity → capacity ≤ s → Sampled p capacity a w₀ n w m
+  pub sampling_done : s ≤ capacity → capacity ≤ s → Sampled p capacity w₀ n w m
   sampling_done b h =
       record { list = rw (range_none capacity s h, append-nil) at f.goes; within = omega (arith, f.within); size = f.size }
 
@@ -65,14 +73,14 @@ sample_all P free capacity stride wanted h =
 pub sample_inside : (free : ℕ → Bool) (capacity stride wanted : ℕ) → All (λ s. s < capacity) (sample_by free capacity stride wanted)
 sample_inside free capacity stride wanted = sample_all (λ s. s < capacity) free capacity stride wanted (λ b. filtered_below (sampled stride b free) capacity)
 
-module _ (free : ℕ → Bool) {capacity a : ℕ} {w w₁ : List ℕ} {n stride stride' : ℕ} (e : stride ≡ stride') (f : Sampled (sampled stride false free) capacity a w 0 w₁ n) where
-  front : cands w₁ a n ≡ scored far (strided stride free capacity)
-  front = f.list ∙ rw (cands_none w a 0 refl)
+module _ (free : ℕ → Bool) {capacity : ℕ} {w w₁ : List ℕ} {n stride stride' : ℕ} (e : stride ≡ stride') (f : Sampled (sampled stride false free) capacity w 0 w₁ n) where
+  front : cands w₁ 0 n ≡ scored far (strided stride free capacity)
+  front = f.list ∙ rw (cands_none w 0 0 refl)
 
   many : length (strided stride free capacity) ≡ n
-  many = sym (sym (cands_length w₁ a n) ∙ ap length front ∙ scored_length far (strided stride free capacity))
+  many = sym (sym (cands_length w₁ 0 n) ∙ ap length front ∙ scored_length far (strided stride free capacity))
 
-  pub taken_few : {wanted : ℕ} → a + sample_words capacity ≤ length w → wanted ≤ n → Taken free capacity stride' wanted a w w₁ n
+  pub taken_few : {wanted : ℕ} → sample_words capacity ≤ length w → wanted ≤ n → Taken free capacity stride' wanted w w₁ n
   unfolding sample_by
   taken_few {wanted} room h =
       record {
@@ -81,8 +89,8 @@ module _ (free : ℕ → Bool) {capacity a : ℕ} {w w₁ : List ℕ} {n stride 
         size = f.size;
       }
 
-  pub taken_more : {w₂ : List ℕ} {wanted r : ℕ} → wanted ≤ 1024 → a + sample_words capacity ≤ length w → n < wanted
-      → Sampled (sampled stride true free) capacity a w₁ n w₂ r → Taken free capacity stride' wanted a w w₂ r
+  pub taken_more : {w₂ : List ℕ} {wanted r : ℕ} → wanted ≤ 1024 → sample_words capacity ≤ length w → n < wanted
+      → Sampled (sampled stride true free) capacity w₁ n w₂ r → Taken free capacity stride' wanted w w₂ r
   unfolding sample_by
   taken_more {w₂} {wanted} {r} l room h g =
       record {

@@ -5,20 +5,21 @@ use mathlib.Core.Path.{◌≡◌, refl}
 use mathlib.Core.List.{List, [], ◌∷◌}
 use native.Mathlib.Omega.{arith}
 use borrow.Author.Tests.{not-true}
-use lib.ListN.{length, take}
+use lib.ListN.{length}
 use Rattle.lists.specs.Lists.{All, filter, elem, range, least_of}
 use Rattle.lists.proofs.All.{all_map, filter_test}
 use Rattle.lists.proofs.Bools.{and_both}
 use Rattle.lists.proofs.Parts.{fits_in}
 use Rattle.candidates.specs.Candidates.{scored}
 use Rattle.candidates.specs.Inner.Words.{cands}
+use Rattle.landmarks.specs.declared.sample.Free.{Free}
 use Rattle.landmarks.specs.Inner.Samples.{far, free, on_stride, sampled, stride_of, sample_by, Taken}
 use Rattle.vectors.specs.Lent.{HasVector}
 use Rattle.vectors.specs.declared.Space.{Space}
-use Rattle.landmarks.specs.Inner.Choices.{drawn_all, chosen, landmarks_by, Listed, Selectable, Drew, Appended}
+use Rattle.landmarks.specs.Inner.Choices.{drawn_all, chosen, landmarks_by, Listed, Selectable, Drew, Fronted}
 use Rattle.landmarks.proofs.Sampling.{sample_all, sample_inside}
 use Rattle.landmarks.proofs.Drawing.{drawn_sample}
-use Rattle.landmarks.proofs.Choosing.{front_none, chosen_few, chosen_all}
+use Rattle.landmarks.proofs.Choosing.{chosen_few, chosen_all}
 
 scored_all : (P : ℕ → Type 0) (near : ℕ → ℕ) (xs : List ℕ) → All P xs → All (λ c. P c.id) (scored near xs)
 scored_all P near [] h = tt
@@ -32,47 +33,52 @@ sample_free stays references capacity stride wanted =
     (λ b. all_map (λ s. sampled stride b (free stays references) s ≡ true) (λ s. elem s references ≡ false) (λ s e. not-true (elem s references) (and_both (stays s) (not (elem s references)) (and_both (on_stride stride b s) (free stays references s) e).1).1) (filter (sampled stride b (free stays references)) (range 0 capacity)) (filter_test (sampled stride b (free stays references)) (range 0 capacity)))
 
 -- ---- what is asked
-module _ {space : Space} {marks : List ℕ} {entry wanted sample : ℕ} {list : List ℕ} {kept : ℕ} {w : List ℕ} (f : Selectable space marks entry wanted sample list kept w) where
-  has_vector : (s : ℕ) → s < length marks → HasVector space s
-  has_vector s h = fits_in space.dim (length marks) s (length space.vectors.now) h f.bytes.long
+module _ {space : Space} {o : Free} {wanted sample : ℕ} {list w : List ℕ} (f : Selectable space o wanted sample list w) where
+  abbrev capacity : ℕ
+  capacity = length o.marks.now
 
-  pub selectable_entry : HasVector space entry
-  selectable_entry = has_vector entry f.references.entry_inside
+  abbrev references : List ℕ
+  references = o.entry ∷ o.kept.now
 
-  pub selectable_list : All (HasVector space) (take kept list)
-  selectable_list = all_map (λ s. s < length marks) (HasVector space) has_vector (take kept list) f.references.inside
+  has_vector : (s : ℕ) → s < capacity → HasVector space s
+  has_vector s h = fits_in space.dim capacity s (length space.vectors.now) h f.bytes.long
 
-  sample_vectors : (near : ℕ → ℕ) (p : ℕ → Bool) (stride : ℕ) → All (λ c. HasVector space c.id) (scored near (sample_by p (length marks) stride wanted))
+  pub selectable_references : All (HasVector space) references
+  selectable_references = all_map (λ s. s < capacity) (HasVector space) has_vector references f.references
+
+  sample_vectors : (near : ℕ → ℕ) (p : ℕ → Bool) (stride : ℕ) → All (λ c. HasVector space c.id) (scored near (sample_by p capacity stride wanted))
   sample_vectors near p stride =
-      scored_all (HasVector space) near (sample_by p (length marks) stride wanted)
-      (all_map (λ s. s < length marks) (HasVector space) has_vector (sample_by p (length marks) stride wanted) (sample_inside p (length marks) stride wanted))
+      scored_all (HasVector space) near (sample_by p capacity stride wanted)
+      (all_map (λ s. s < capacity) (HasVector space) has_vector (sample_by p capacity stride wanted) (sample_inside p capacity stride wanted))
 
-  pub taken_listed : {p : ℕ → Bool} {stride a : ℕ} {w₀ w' : List ℕ} {r : ℕ} → Taken p (length marks) stride wanted a w₀ w' r → Listed space a w' r
+  pub taken_listed : {p : ℕ → Bool} {stride : ℕ} {w₀ w' : List ℕ} {r : ℕ} → Taken p capacity stride wanted w₀ w' r → Listed space w' r
   taken_listed {p} {stride} g = record { small = f.bytes.small; room = omega (arith, g.room, g.size); inside = rw g.list (sample_vectors far p stride) }
 
   -- ---- what is left
   module _ (d : ℕ → ℕ → ℕ) (stays : ℕ → Bool) where
-    pub selected_none : wanted ≡ 0 → Appended (landmarks_by d stays (length marks) entry wanted sample (take kept list)) kept list list 0
+    pub selected_none : wanted ≡ 0 → Fronted (landmarks_by d stays capacity o.entry wanted sample o.kept.now) list list 0
     unfolding landmarks_by chosen
-    selected_none e = rw e (record { list = front_none kept list f.references.within; count = refl })
+    selected_none e = rw e (record { list = refl; count = refl })
 
-    module _ {a : ℕ} {w₀ w₁ w₂ : List ℕ} {n m : ℕ} (g : Taken (free stays (entry ∷ take kept list)) (length marks) (stride_of (length marks) sample) wanted a w₀ w₁ n)
-        (h : Drew w₁ a n (drawn_all d (entry ∷ take kept list) (cands w₁ a n)) w₂ m) where
-      drawn_is : cands w₂ a m ≡ scored (λ s. least_of (d s) (entry ∷ take kept list)) (sample_by (free stays (entry ∷ take kept list)) (length marks) (stride_of (length marks) sample) wanted)
-      drawn_is =
-          drawn_sample d entry (take kept list) (sample_by (free stays (entry ∷ take kept list)) (length marks) (stride_of (length marks) sample) wanted)
-          (sample_free stays (entry ∷ take kept list) (length marks) (stride_of (length marks) sample) wanted) g.list h
+    -- the sample
+    abbrev taken : List ℕ
+    taken = sample_by (free stays references) capacity (stride_of capacity sample) wanted
 
-      pub drawn_listed : Listed space a w₂ m
+    module _ {w₀ w₁ w₂ : List ℕ} {n m : ℕ} (g : Taken (free stays references) capacity (stride_of capacity sample) wanted w₀ w₁ n)
+        (h : Drew w₁ n (drawn_all d references (cands w₁ 0 n)) w₂ m) where
+      drawn_is : cands w₂ 0 m ≡ scored (λ s. least_of (d s) references) taken
+      drawn_is = drawn_sample d o.entry o.kept.now taken (sample_free stays references capacity (stride_of capacity sample) wanted) g.list h
+
+      pub drawn_listed : Listed space w₂ m
       drawn_listed =
           record {
             small = f.bytes.small;
             room = omega (arith, g.room, g.size, h.size, h.within);
-            inside = rw drawn_is (sample_vectors (λ s. least_of (d s) (entry ∷ take kept list)) (free stays (entry ∷ take kept list)) (stride_of (length marks) sample));
+            inside = rw drawn_is (sample_vectors (λ s. least_of (d s) references) (free stays references) (stride_of capacity sample));
           }
 
-      pub selected : {l' : List ℕ} {r : ℕ} → Appended (chosen d wanted (cands w₂ a m)) kept list l' r
-          → Appended (landmarks_by d stays (length marks) entry wanted sample (take kept list)) kept list l' r
+      pub selected : {l' : List ℕ} {r : ℕ} → Fronted (chosen d wanted (cands w₂ 0 m)) list l' r
+          → Fronted (landmarks_by d stays capacity o.entry wanted sample o.kept.now) list l' r
       unfolding landmarks_by
       selected k = rw drawn_is at k
 

@@ -6,5 +6,6 @@ mod sample;
 mod select;
 mod staying;
 
+pub use sample::Free;
 pub use select::select_landmarks;
 pub use staying::stays;

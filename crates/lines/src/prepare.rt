@@ -2,7 +2,7 @@
 ghost use Rattle.std.specs.Prelude.{◌≡◌, ◌≤◌, length, take, min};
 
 use super::words::Preparing;
-use index::{Index, Settings};
+use index::{Guard, Index, Slices};
 use text::{Differs, Numbers, small};
 
 // The whole length of each array that is lent, in the order of a line `lend`.
@@ -11,7 +11,7 @@ const MOST: [u32; 12] = [
 ];
 
 // How much of each array is lent to a call, and how much is given.
-#[derive(Clone, Copy)]
+#[derive(Clone, Copy, Default)]
 pub struct Lent {
     pub vectors: usize,
     pub targets: usize,
@@ -37,6 +37,39 @@ pub struct State {
     pub lent: Lent,
 }
 
+// The arrays for calls, but for the scratch, which goes beside them. What is given stands at the start of the first three; of the eight of an index calls are lent
+// the start, as far as a line `lend` says.
+#[derive(Drop)]
+pub struct Arrays<'a> {
+    pub given: &'a mut [u8],
+    pub rows: &'a mut [u32],
+    pub figures: &'a mut [u32],
+    pub vectors: &'a mut [u8],
+    pub targets: &'a mut [u32],
+    pub edges: &'a mut [u16],
+    pub versions: &'a mut [u16],
+    pub marks: &'a mut [u8],
+    pub pool: &'a mut [u32],
+    pub numbers: &'a mut [u32],
+    pub summary: &'a mut [u32],
+}
+
+impl Arrays<'_> {
+    // What is lent of an index that is read.
+    pub fn slices(&self, lent: Lent) -> Slices<'_> {
+        Slices {
+            vectors: part(self.vectors, lent.vectors),
+            targets: part(self.targets, lent.targets),
+            edges: part(self.edges, lent.edges),
+            versions: part(self.versions, lent.versions),
+            marks: part(self.marks, lent.marks),
+            pool: part(self.pool, lent.pool),
+            numbers: part(self.numbers, lent.numbers),
+            summary: part(self.summary, lent.summary),
+        }
+    }
+}
+
 // What is lent of an array.
 pub fn part<T>(of: &[T], lent: usize) -> &[T]
     ensures { (result.now ≡ take (min lent (length of.now)) of.now) × (length result.now ≤ length of.now) }
@@ -44,7 +77,7 @@ pub fn part<T>(of: &[T], lent: usize) -> &[T]
     &of[..lent.min(of.len())]
 }
 
-// The same of one that is written.
+// The same of one that is written, or goes into a struct with ones that are.
 pub fn part_mut<T>(of: &mut [T], lent: usize) -> &mut [T]
     ensures { (result.now ≡ take (min lent (length of.old)) of.old) × (length result.now ≤ length of.old) }
 {
@@ -151,16 +184,14 @@ pub fn alpha_of(n: u32) -> f32 {
 }
 
 // Alters one setting of a guard, or the length of its pool.
-fn altered(settings: Settings, field: u32, value: u32) -> Settings {
-    let mut new = settings;
+fn alter(guard: &mut Guard, field: u32, value: u32) {
     match field {
-        7 => new.count = value,
-        8 => new.multiplier = value,
-        9 => new.sample = value,
-        10 => new.beam = value,
-        _ => new.pool = value,
+        7 => guard.config.count = value,
+        8 => guard.config.multiplier = value,
+        9 => guard.config.sample = value,
+        10 => guard.config.beam = value,
+        _ => guard.pool = value,
     }
-    new
 }
 
 // Performs a line `set`. What alters the guard changes nothing where it is off; a field over 11 alters what 11 does, and the line differs.
@@ -176,8 +207,8 @@ fn set(line: &mut Numbers<'_>, index: &mut Index) -> Result<(), Differs> {
         5 => index.live = value,
         6 => index.guard = None,
         _ => {
-            if let Some(settings) = index.guard {
-                index.guard = Some(altered(settings, field, value));
+            if let Some(guard) = &mut index.guard {
+                alter(guard, field, value);
             }
         }
     }
@@ -199,58 +230,36 @@ fn put<T: Copy>(to: &mut [T], lent: usize, place: usize, value: T) -> Result<(),
 }
 
 // Performs a line `store`.
-fn store(
-    line: &mut Numbers<'_>,
-    lent: Lent,
-    vectors: &mut [u8],
-    targets: &mut [u32],
-    edges: &mut [u16],
-    versions: &mut [u16],
-    marks: &mut [u8],
-    numbers: &mut [u32],
-    summary: &mut [u32],
-) -> Result<(), Differs> {
+fn store(line: &mut Numbers<'_>, lent: Lent, arrays: &mut Arrays<'_>) -> Result<(), Differs> {
     let array = line.number()?;
     let place = line.number()? as usize;
     let value = line.number()?;
     line.end()?;
     match array {
-        0 => put(marks, lent.marks, place, small(value)?),
-        1 => put(versions, lent.versions, place, small(value)?),
-        2 => put(targets, lent.targets, place, value),
-        3 => put(edges, lent.edges, place, small(value)?),
-        4 => put(vectors, lent.vectors, place, small(value)?),
-        5 => put(numbers, lent.numbers, place, value),
-        6 => put(summary, lent.summary, place, value),
+        0 => put(arrays.marks, lent.marks, place, small(value)?),
+        1 => put(arrays.versions, lent.versions, place, small(value)?),
+        2 => put(arrays.targets, lent.targets, place, value),
+        3 => put(arrays.edges, lent.edges, place, small(value)?),
+        4 => put(arrays.vectors, lent.vectors, place, small(value)?),
+        5 => put(arrays.numbers, lent.numbers, place, value),
+        6 => put(arrays.summary, lent.summary, place, value),
         _ => Err(Differs::Malformed),
     }
 }
 
 // Performs a line that prepares a call.
-// The slices go one by one: tried as a struct of arrays, of which the borrow check covers no part that is lent to a call.
 pub fn perform(
     what: Preparing,
     line: &mut Numbers<'_>,
     state: &mut State,
-    given: &mut [u8],
-    rows: &mut [u32],
-    figures: &mut [u32],
-    vectors: &mut [u8],
-    targets: &mut [u32],
-    edges: &mut [u16],
-    versions: &mut [u16],
-    marks: &mut [u8],
-    numbers: &mut [u32],
-    summary: &mut [u32],
+    arrays: &mut Arrays<'_>,
 ) -> Result<(), Differs> {
     match what {
         Preparing::Lend => lend(line, &mut state.lent),
-        Preparing::Give => give(line, &mut state.lent.given, given),
-        Preparing::Rows => give_words(line, &mut state.lent.rows, 1, rows),
-        Preparing::Numbers => give_words(line, &mut state.lent.figures, 0, figures),
+        Preparing::Give => give(line, &mut state.lent.given, arrays.given),
+        Preparing::Rows => give_words(line, &mut state.lent.rows, 1, arrays.rows),
+        Preparing::Numbers => give_words(line, &mut state.lent.figures, 0, arrays.figures),
         Preparing::Set => set(line, &mut state.index),
-        Preparing::Store => store(
-            line, state.lent, vectors, targets, edges, versions, marks, numbers, summary,
-        ),
+        Preparing::Store => store(line, state.lent, arrays),
     }
 }

@@ -15,21 +15,19 @@ use Rattle.candidates.specs.Candidates.{Candidate, scored, ids}
 use Rattle.candidates.specs.Inner.Words.{pair, cand, cands, put}
 use Rattle.candidates.proofs.Words.{cands_snoc, cands_push, put_length, put_outside, outside_none, outside_then}
 use Rattle.candidates.proofs.Scored.{ids_scored, scored_append}
-use Rattle.slots.proofs.Slices.{same_then}
 use Rattle.slots.specs.View.{live_neighbors}
 use Rattle.slots.specs.Store.{Arrays, Store, vector_of, store_view, store_ops, write_neighbors}
-use Rattle.slots.specs.Lent.{SameSlices}
-use Rattle.slots.specs.declared.graph.RowsMut.{RowsMut}
 use Rattle.slots.proofs.Writes.{Whole, after_write, store_writes}
 use Rattle.prune.specs.Prune.{prune}
 use Rattle.row.specs.Row.{Together, index_of, LiveScored, WrotePruned}
-use Rattle.row.proofs.Kept.{together_shaped}
+use Rattle.row.specs.Lent.{held}
+use Rattle.row.specs.declared.pruner.Pruner.{Pruner}
+use Rattle.row.proofs.Kept.{together_shaped, pruner_then}
 use Rattle.repair.specs.Repair.{Link, insert_and_prune}
 use Rattle.repair.proofs.Sources.{both_ways}
 use Rattle.std.proofs.lemmas.List.{take_more}
 use Rattle.links.specs.declared.span.Pair.{Pair}
-use Rattle.links.specs.declared.linker.Linker.{Linker}
-use Rattle.links.specs.Inner.Linking.{held, between, apply_link, link, from, from_each, by_source, pairs_of, link_words, Room, Pairs, Joined, Applied, Made}
+use Rattle.links.specs.Inner.Linking.{between, apply_link, link, from, from_each, by_source, pairs_of, link_words, Room, Pairs, Joined, Applied, Made}
 
 -- ---- a target is added
 module _ {dim : ℕ} {vectors : List ℕ} {s t d : ℕ} (m : Measured (between dim vectors s t) d) {w : List ℕ} {at n : ℕ} {b : Bool} (k : b ≡ elem t (ids (cands w at n))) where
@@ -139,36 +137,28 @@ applied_together {alpha} {a} {a'} {ls} o f =
       degree_most = rw g.degree o.degree_most;
     }
 
-pub made_none : (l : Linker) (w : List ℕ) (at : ℕ) (words : ℕ → ℕ) → Made l [] w at words l w
+pub made_none : {table : ℕ} (l : Pruner table) (w : List ℕ) (at : ℕ) (words : ℕ → ℕ) → Made l [] w at words l w
 made_none l w at words =
     record {
       applied = applied_none l.alpha (held l) w at (words l.rows.now.degree);
-      slices = record { degree = refl; targets = refl; edges = refl; versions = refl };
-      rows = refl;
-      alpha = refl;
-      marks = refl;
-      space = refl;
+      same = record { slices = record { degree = refl; targets = refl; edges = refl; versions = refl }; rows = refl; alpha = refl; marks = refl; space = refl };
     }
 
-module _ {l l₁ : Linker} {ls : List Link} {w w₁ : List ℕ} {at : ℕ} {words : ℕ → ℕ} (f : Made l ls w at words l₁ w₁) where
-  pub made_then : {ks : List Link} {l₂ : Linker} {w₂ : List ℕ} → Made l₁ ks w₁ at words l₂ w₂ → Made l (ls ++ ks) w at words l₂ w₂
+module _ {table : ℕ} {l l₁ : Pruner table} {ls : List Link} {w w₁ : List ℕ} {at : ℕ} {words : ℕ → ℕ} (f : Made l ls w at words l₁ w₁) where
+  pub made_then : {ks : List Link} {l₂ : Pruner table} {w₂ : List ℕ} → Made l₁ ks w₁ at words l₂ w₂ → Made l (ls ++ ks) w at words l₂ w₂
   made_then {ks} {l₂} {w₂} g =
       let h : Applied l₁.alpha (held l₁) ks (held l₂) w₁ at (words l.rows.now.degree) w₂ =
-      subst (λ (d : ℕ). Applied l₁.alpha (held l₁) ks (held l₂) w₁ at (words d) w₂) f.slices.degree g.applied in
+      subst (λ (d : ℕ). Applied l₁.alpha (held l₁) ks (held l₂) w₁ at (words d) w₂) f.same.slices.degree g.applied in
       record {
-        applied = applied_then f.applied (subst (λ (x : Float). Applied x (held l₁) ks (held l₂) w₁ at (words l.rows.now.degree) w₂) f.alpha h);
-        slices = same_then f.slices g.slices;
-        rows = g.rows ∙ f.rows;
-        alpha = g.alpha ∙ f.alpha;
-        marks = g.marks ∙ f.marks;
-        space = g.space ∙ f.space;
+        applied = applied_then f.applied (subst (λ (x : Float). Applied x (held l₁) ks (held l₂) w₁ at (words l.rows.now.degree) w₂) f.same.alpha h);
+        same = pruner_then f.same g.same;
       }
 
   pub made_marks : length l₁.marks.now ≡ length l.marks.now
-  made_marks = rw f.marks
+  made_marks = rw f.same.marks
 
-pub made_room : {l l₁ : Linker} {ls : List Link} {w w₁ : List ℕ} {at : ℕ} → Made l ls w at link_words l₁ w₁ → Room l.rows.now.degree w at → Room l₁.rows.now.degree w₁ at
-made_room f o = record { inside = rw f.slices.degree (omega (arith, o.inside, f.applied.size)); below = rw f.slices.degree o.below }
+pub made_room : {table : ℕ} {l l₁ : Pruner table} {ls : List Link} {w w₁ : List ℕ} {at : ℕ} → Made l ls w at link_words l₁ w₁ → Room l.rows.now.degree w at → Room l₁.rows.now.degree w₁ at
+made_room f o = record { inside = rw f.same.slices.degree (omega (arith, o.inside, f.applied.size)); below = rw f.same.slices.degree o.below }
 
 -- ---- links of one source
 module _ (s : ℕ) where
@@ -208,22 +198,22 @@ by_each b ls [] = refl
 by_each b ls (s ∷ ss) = foldl_append apply_link b (from s ls) (from_each ls ss) ∙ by_each (by_source ls b s) ls ss
 
 -- ---- link after link, as the functions leave them
-pub from_both : (s x p : ℕ) → {l l₁ : Linker} {w w₁ : List ℕ} {at : ℕ} {words : ℕ → ℕ} → Made l (from s (link x p ∷ []) ++ from s (link p x ∷ [])) w at words l₁ w₁ → Made l (from s (both_ways x p)) w at words l₁ w₁
+pub from_both : (s x p : ℕ) → {table : ℕ} {l l₁ : Pruner table} {w w₁ : List ℕ} {at : ℕ} {words : ℕ → ℕ} → Made l (from s (link x p ∷ []) ++ from s (link p x ∷ [])) w at words l₁ w₁ → Made l (from s (both_ways x p)) w at words l₁ w₁
 from_both s x p f = rw (from_append s (link x p ∷ []) (link p x ∷ [])) f
 
 pub pair_inside : {slots : ℕ} (ps : List Pair) → Pairs slots ps → (i : ℕ) (d : Pair) → i < length ps → ((get_or ps i d).slot < slots) × ((get_or ps i d).parent < slots)
 pair_inside {slots} ps k i d h = all_at d (λ p. (p.slot < slots) × (p.parent < slots)) ps k i h
 
-pub source_then : (s : ℕ) (ps : List Pair) (i : ℕ) (d : Pair) → i < length ps → {l l₁ l₂ : Linker} {w w₁ w₂ : List ℕ} {at : ℕ} {words : ℕ → ℕ}
+pub source_then : (s : ℕ) (ps : List Pair) (i : ℕ) (d : Pair) → i < length ps → {table : ℕ} {l l₁ l₂ : Pruner table} {w w₁ w₂ : List ℕ} {at : ℕ} {words : ℕ → ℕ}
     → Made l (from s (pairs_of (take i ps))) w at words l₁ w₁ → Made l₁ (from s (both_ways (get_or ps i d).slot (get_or ps i d).parent)) w₁ at words l₂ w₂
     → Made l (from s (pairs_of (take (i + 1) ps))) w at words l₂ w₂
 source_then s ps i d h f g = rw (pairs_more s ps i d h) (made_then f g)
 
-pub each_none : (ls : List Link) (from : ℕ) (l : Linker) (w : List ℕ) {at : ℕ} {words : ℕ → ℕ} → Made l (from_each ls (ids (cands w from 0))) w at words l w
+pub each_none : (ls : List Link) (from : ℕ) {table : ℕ} (l : Pruner table) (w : List ℕ) {at : ℕ} {words : ℕ → ℕ} → Made l (from_each ls (ids (cands w from 0))) w at words l w
 unfolding cands
 each_none ls from l w = made_none l w _ _
 
-pub each_then : (ls : List Link) (from : ℕ) {m at i s : ℕ} → from + 2 * m ≤ at → i < m → {l l₁ l₂ : Linker} {w w₁ w₂ : List ℕ} {words : ℕ → ℕ} → s ≡ (cand w₁ (from + 2 * i)).id
+pub each_then : (ls : List Link) (from : ℕ) {m at i s : ℕ} → from + 2 * m ≤ at → i < m → {table : ℕ} {l l₁ l₂ : Pruner table} {w w₁ w₂ : List ℕ} {words : ℕ → ℕ} → s ≡ (cand w₁ (from + 2 * i)).id
     → Made l (from_each ls (ids (cands w from i))) w at words l₁ w₁ → Made l₁ (filter (λ l. eqb l.source s) ls) w₁ at words l₂ w₂
     → Made l (from_each ls (ids (cands w from (i + 1)))) w at words l₂ w₂
 each_then ls b {at = at} {i = i} o h {w = w} e f g =

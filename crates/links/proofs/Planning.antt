@@ -28,7 +28,7 @@ use Rattle.repair.specs.Repair.{Link, span, repair_links}
 use Rattle.repair.proofs.Sources.{repair_sources}
 use Rattle.repair.proofs.Span.{span_enough, others_fewer, repair_enough}
 use Rattle.links.specs.declared.span.Pair.{Pair}
-use Rattle.links.specs.declared.linker.Linker.{Linker}
+use Rattle.row.specs.declared.pruner.Pruner.{Pruner}
 use Rattle.links.specs.Inner.Linking.{between, apply_link, pairs_of, from_each, by_source, link_words, Room, Pairs, Applied, Made}
 use Rattle.links.specs.Inner.Planning.{Stored, Behind, Nearest, Scored, plan_words, Area, Plot, Planned, Spanned, Plan, count_at, Plans, plan_at, plans_at}
 use Rattle.links.proofs.Linking.{made_none, made_then, by_each, concat_snoc}
@@ -99,7 +99,7 @@ unique_others : (p : ℕ → Bool) (l : List ℕ) → Unique l → Unique (filte
 unique_others p l u = rw (map-id (filter p l)) at (unique_filter (λ x. x) p l (rw (map-id l) u))
 
 -- ---- a plan
-pub plan_none : (l : Linker) (d : ℕ → ℕ → ℕ) (repair_degree entry : ℕ) (w : List ℕ) (at n base : ℕ) (words : ℕ → ℕ) → n ≡ 0 → Made l (repair_links d repair_degree entry (ids (cands w at n))) w base words l w
+pub plan_none : {table : ℕ} (l : Pruner table) (d : ℕ → ℕ → ℕ) (repair_degree entry : ℕ) (w : List ℕ) (at n base : ℕ) (words : ℕ → ℕ) → n ≡ 0 → Made l (repair_links d repair_degree entry (ids (cands w at n))) w base words l w
 unfolding repair_links cands
 plan_none l d repair_degree entry w at n base words e = rw e (made_none l w base words)
 
@@ -267,10 +267,10 @@ module _ {a : Arrays} {w : List ℕ} {entry at n base : ℕ} (o : Together a) (h
               }
 
 -- ---- plan after plan
-pub made_area : {l l₁ : Linker} {ls : List Link} {w w₁ : List ℕ} {base : ℕ} → Made l ls w base plan_words l₁ w₁ → Area l.rows.now.degree w base → Area l₁.rows.now.degree w₁ base
-made_area f g = record { inside = rw f.slices.degree (omega (arith, g.inside, f.applied.size)); below = rw f.slices.degree g.below }
+pub made_area : {table : ℕ} {l l₁ : Pruner table} {ls : List Link} {w w₁ : List ℕ} {base : ℕ} → Made l ls w base plan_words l₁ w₁ → Area l.rows.now.degree w base → Area l₁.rows.now.degree w₁ base
+made_area f g = record { inside = rw f.same.slices.degree (omega (arith, g.inside, f.applied.size)); below = rw f.same.slices.degree g.below }
 
-module _ {l l₁ : Linker} {w w₁ : List ℕ} (repair_degree entry : ℕ) {stats plans count base j : ℕ}
+module _ {table : ℕ} {l l₁ : Pruner table} {w w₁ : List ℕ} (repair_degree entry : ℕ) {stats plans count base j : ℕ}
     (f : Made l (plans_at (between l.kept.space.dim l.kept.space.vectors.now) repair_degree entry w stats plans j) w base plan_words l₁ w₁) (b : Plans l.marks.now w stats plans count base) (h : j < count) where
   number : count_at w₁ stats j ≡ count_at w stats j
   number = f.applied.same (stats + 4 * j + 2) (λ (u : base ≤ stats + 4 * j + 2). absurd (omega (arith, b.counted)))
@@ -287,15 +287,15 @@ module _ {l l₁ : Linker} {w w₁ : List ℕ} (repair_degree entry : ℕ) {stat
       ∙ ap (cands w (plans + 640 * j)) number
 
   pub plans_next : Plan l₁.marks.now w₁ (plans + 640 * j) (count_at w₁ stats j) × (plans + 640 * j + 2 * count_at w₁ stats j ≤ base)
-  plans_next = (record { few = few; live = rw (f.marks, given) (b.each j h).live; once = rw given (b.each j h).once }, below)
+  plans_next = (record { few = few; live = rw (f.same.marks, given) (b.each j h).live; once = rw given (b.each j h).once }, below)
 
-  pub plans_more : {l₂ : Linker} {w₂ : List ℕ}
+  pub plans_more : {l₂ : Pruner table} {w₂ : List ℕ}
       → Made l₁ (repair_links (between l₁.kept.space.dim l₁.kept.space.vectors.now) repair_degree entry (ids (cands w₁ (plans + 640 * j) (count_at w₁ stats j)))) w₁ base plan_words l₂ w₂
       → Made l (plans_at (between l.kept.space.dim l.kept.space.vectors.now) repair_degree entry w stats plans (j + 1)) w base plan_words l₂ w₂
   plans_more g =
       let d = between l.kept.space.dim l.kept.space.vectors.now in
       let s : repair_links (between l₁.kept.space.dim l₁.kept.space.vectors.now) repair_degree entry (ids (cands w₁ (plans + 640 * j) (count_at w₁ stats j))) ≡ plan_at d repair_degree entry w stats plans j =
-      rw (f.space, given) in
+      rw (f.same.space, given) in
       let k : plans_at d repair_degree entry w stats plans (j + 1) ≡ plans_at d repair_degree entry w stats plans j ++ plan_at d repair_degree entry w stats plans j =
       ap (concat_map (plan_at d repair_degree entry w stats plans)) (rw (add-one j) (sym (rw (zero-add j) at (range_snoc 0 j)))) ∙ concat_snoc (plan_at d repair_degree entry w stats plans) (range 0 j) j in
       rw k (made_then f (rw s at g))

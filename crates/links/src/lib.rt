@@ -2,8 +2,8 @@
 #![tactic(auto)]
 
 mod link;
-mod linker;
 mod plan;
+mod sources;
 mod span;
 
 pub use plan::{Table, apply_plans, attempted};

@@ -1,12 +1,8 @@
 // The candidates of a plan, connected one after the other: the nearest to a connected one first, paired with those nearest to it, to be linked both ways.
-// Candidates lie in words that C lends, so a list is a place and a number; words and pairs are no fields of a struct, since a `&mut` slice in a field loses its
-// elements where it is passed on.
+// Candidates lie in words that C lends, so a list is a place and a number.
 ghost use Rattle.std.specs.Prelude.{◌≡◌, ◌++◌, ◌+◌, ◌*◌, ◌<◌, ◌≤◌, length};
-ghost use Rattle.candidates.specs.Candidates.{ids};
-ghost use Rattle.candidates.specs.Inner.Words.{cands};
-ghost use Rattle.repair.specs.Repair.{links};
 ghost use Rattle.links.specs.Inner.Linking.{between, links_at, pairs_of};
-ghost use Rattle.links.specs.Inner.Planning.{Stored, Behind, Nearest, Scored, Lowered, Plot, PairedNearest, Planned, Connected, Spanned};
+ghost use Rattle.links.specs.Inner.Planning.{Stored, Behind, Nearest, Scored, Lowered};
 
 use candidates::{dist_at, id_at, put, sort_by_distance};
 use distances::slot_distance;
@@ -71,78 +67,65 @@ fn pair_each(x: u32, scratch: &[u32], to: usize, pairs: &mut [Pair])
     }
 }
 
-// Pairs slot `x` with the `repair_degree` nearest of the `k` connected ones at `base`, of equals the earlier. Returns how many pairs they are.
-fn pair_nearest(
-    space: &Space<'_>,
-    repair_degree: usize,
-    x: u32,
-    scratch: &mut [u32],
-    base: usize,
-    k: usize,
-    pairs: &mut [Pair],
-) -> usize
-    requires { Stored space.now.dim space.now.vectors.now x scratch.old base k × (k ≤ 320) × Plot scratch.old base × (repair_degree ≤ 16) × (16 ≤ length pairs.old) }
-    ensures { PairedNearest (links (between space.now.dim space.now.vectors.now) repair_degree (ids (cands scratch.old base k)) x)
-        scratch.old base scratch.new pairs.new result }
-{
-    let to = base + 1280;
-    score(space, x, scratch, base, k, to);
-    sort_by_distance(scratch, to, k);
-    let n = repair_degree.min(k);
-    pair_each(x, scratch, to, &mut pairs[..n]);
-    n
+// What a plan is made with: the vectors, how many connected ones each slot is paired with, and the place of its words. The words and the pairs are arguments of
+// their own: as fields, each contract would also have to say that they stay the same slices, which is no plainer.
+#[derive(Clone, Copy)]
+pub struct Spanner<'a> {
+    pub space: Space<'a>,
+    pub degree: usize,
+    pub base: usize,
 }
 
-// Connects the nearest of the `m` that remain; of the candidates at `base` the first `k` are connected. The last takes its place. Returns how many pairs
-// it makes.
-fn connect(
-    space: &Space<'_>,
-    repair_degree: usize,
-    scratch: &mut [u32],
-    base: usize,
-    k: usize,
-    m: usize,
-    pairs: &mut [Pair],
-) -> usize
-    requires { Planned space.now.dim space.now.vectors.now scratch.old base k m × (0 < m) × Plot scratch.old base × (repair_degree ≤ 16) × (16 ≤ length pairs.old) }
-    ensures { Connected space.now.dim space.now.vectors.now repair_degree scratch.old base k m scratch.new pairs.new result }
-{
-    let rem = base + 640;
-    let i = nearest(scratch, rem, m);
-    let next = id_at(scratch, rem, i);
-    let r = pair_nearest(space, repair_degree, next, scratch, base, k, pairs);
-    put(scratch, base + 2 * k, 0, next);
-    let last = m - 1;
-    let dist = dist_at(scratch, rem, last);
-    let id = id_at(scratch, rem, last);
-    put(scratch, rem + 2 * i, dist, id);
-    lower(space, next, scratch, rem, last);
-    r
-}
+impl Spanner<'_> {
+    ghost use Rattle.std.specs.Prelude.{◌≡◌, ◌<◌, ◌≤◌, length};
+    ghost use Rattle.candidates.specs.Candidates.{ids};
+    ghost use Rattle.candidates.specs.Inner.Words.{cands};
+    ghost use Rattle.repair.specs.Repair.{links};
+    ghost use Rattle.links.specs.Inner.Linking.{between};
+    ghost use Rattle.links.specs.Inner.Planning.{Stored, Plot, PairedNearest, Planned, Connected, Spanned};
 
-// Connects all that remain, `n` of them, with the first of the candidates at `base`. Returns how many pairs of linked slots there are.
-pub fn span(
-    space: &Space<'_>,
-    repair_degree: usize,
-    scratch: &mut [u32],
-    base: usize,
-    n: usize,
-    pairs: &mut [Pair],
-) -> usize
-    requires { Planned space.now.dim space.now.vectors.now scratch.old base 1 n × Plot scratch.old base × (repair_degree ≤ 16) × (length pairs.old ≡ 5120) }
-    ensures { Spanned space.now.dim space.now.vectors.now repair_degree scratch.old base n scratch.new pairs.new result }
-{
-    let mut t: usize = 0;
-    for i in 0..n {
-        t += connect(
-            space,
-            repair_degree,
-            scratch,
-            base,
-            i + 1,
-            n - i,
-            &mut pairs[t..],
-        );
+    // Pairs slot `x` with the `degree` nearest of the `k` connected ones at `base`, of equals the earlier. Returns how many pairs they are.
+    fn pair_nearest(&self, x: u32, scratch: &mut [u32], k: usize, pairs: &mut [Pair]) -> usize
+        requires { Stored self.now.space.dim self.now.space.vectors.now x scratch.old self.now.base k × (k ≤ 320) × Plot scratch.old self.now.base × (self.now.degree ≤ 16) × (16 ≤ length pairs.old) }
+        ensures { PairedNearest (links (between self.now.space.dim self.now.space.vectors.now) self.now.degree (ids (cands scratch.old self.now.base k)) x)
+            scratch.old self.now.base scratch.new pairs.new result }
+    {
+        let to = self.base + 1280;
+        score(&self.space, x, scratch, self.base, k, to);
+        sort_by_distance(scratch, to, k);
+        let n = self.degree.min(k);
+        pair_each(x, scratch, to, &mut pairs[..n]);
+        n
     }
-    t
+
+    // Connects the nearest of the `m` that remain; of the candidates at `base` the first `k` are connected. The last takes its place. Returns how many pairs
+    // it makes.
+    fn connect(&self, scratch: &mut [u32], k: usize, m: usize, pairs: &mut [Pair]) -> usize
+        requires { Planned self.now.space.dim self.now.space.vectors.now scratch.old self.now.base k m × (0 < m) × Plot scratch.old self.now.base × (self.now.degree ≤ 16) × (16 ≤ length pairs.old) }
+        ensures { Connected self.now.space.dim self.now.space.vectors.now self.now.degree scratch.old self.now.base k m scratch.new pairs.new result }
+    {
+        let rem = self.base + 640;
+        let i = nearest(scratch, rem, m);
+        let next = id_at(scratch, rem, i);
+        let r = self.pair_nearest(next, scratch, k, pairs);
+        put(scratch, self.base + 2 * k, 0, next);
+        let last = m - 1;
+        let dist = dist_at(scratch, rem, last);
+        let id = id_at(scratch, rem, last);
+        put(scratch, rem + 2 * i, dist, id);
+        lower(&self.space, next, scratch, rem, last);
+        r
+    }
+
+    // Connects all that remain, `n` of them, with the first of the candidates at `base`. Returns how many pairs of linked slots there are.
+    pub fn span(&self, scratch: &mut [u32], n: usize, pairs: &mut [Pair]) -> usize
+        requires { Planned self.now.space.dim self.now.space.vectors.now scratch.old self.now.base 1 n × Plot scratch.old self.now.base × (self.now.degree ≤ 16) × (length pairs.old ≡ 5120) }
+        ensures { Spanned self.now.space.dim self.now.space.vectors.now self.now.degree scratch.old self.now.base n scratch.new pairs.new result }
+    {
+        let mut t: usize = 0;
+        for i in 0..n {
+            t += self.connect(scratch, i + 1, n - i, &mut pairs[t..]);
+        }
+        t
+    }
 }

@@ -1,10 +1,10 @@
 // The lines of calls that leave an index as it is, each compared with the stored answer.
 #![tactic(auto)]
 
-use index::{Index, Refusal};
-use lines::prepare::{Lent, State, alpha_of, bytes, part, part_mut};
+use index::{Index, Refusal, Slices};
+use lines::prepare::{Arrays, State, alpha_of, bytes, part, part_mut};
 use lines::words::Looking;
-use reading::{Reading, Value};
+use reading::{Found, Reading, Searching, Value};
 use text::{Differs, Numbers};
 
 // What a number asks for.
@@ -55,22 +55,9 @@ fn expect_value(line: &mut Numbers<'_>, got: Result<Value, Refusal>) -> Result<(
 }
 
 // Performs a line `read`.
-fn read(
-    line: &mut Numbers<'_>,
-    index: Index,
-    vectors: &[u8],
-    targets: &[u32],
-    edges: &[u16],
-    versions: &[u16],
-    marks: &[u8],
-    pool: &[u32],
-    numbers: &[u32],
-    summary: &[u32],
-) -> Result<(), Differs> {
+fn read(line: &mut Numbers<'_>, index: Index, slices: &Slices<'_>) -> Result<(), Differs> {
     let what = reading(line.number()?, line.number()?, line.number()?)?;
-    let got = reading::read(
-        index, vectors, targets, edges, versions, marks, pool, numbers, summary, what,
-    );
+    let got = reading::read(index, slices, what);
     expect_value(line, got)
 }
 
@@ -86,23 +73,9 @@ fn expect_bytes(line: &mut Numbers<'_>, got: &[u8]) -> Result<(), Differs> {
 }
 
 // Performs a line `vector`.
-fn read_vector(
-    line: &mut Numbers<'_>,
-    index: Index,
-    vectors: &[u8],
-    targets: &[u32],
-    edges: &[u16],
-    versions: &[u16],
-    marks: &[u8],
-    pool: &[u32],
-    numbers: &[u32],
-    summary: &[u32],
-) -> Result<(), Differs> {
+fn read_vector(line: &mut Numbers<'_>, index: Index, slices: &Slices<'_>) -> Result<(), Differs> {
     let slot = line.number()?;
-    let got = reading::read_vector(
-        index, vectors, targets, edges, versions, marks, pool, numbers, summary, slot,
-    );
-    expect_bytes(line, got)
+    expect_bytes(line, reading::read_vector(index, slices, slot))
 }
 
 // Performs a line `words`.
@@ -158,85 +131,48 @@ fn expect_found(
 // Performs a line `search`.
 fn search(
     line: &mut Numbers<'_>,
-    index: Index,
-    lent: Lent,
-    vectors: &[u8],
-    targets: &[u32],
-    edges: &[u16],
-    versions: &[u16],
-    marks: &[u8],
-    pool: &[u32],
-    numbers: &[u32],
-    summary: &[u32],
+    state: State,
+    slices: &Slices<'_>,
     scratch: &mut [u32],
 ) -> Result<(), Differs> {
     let mut query = [0u8; 1024];
     let mut slots = [0u32; 1024];
     let mut dists = [0.0f32; 1024];
     let mut figures = [0u32; 1024];
+    let lent = state.lent;
     let k = line.argument();
     let beam = line.argument();
     let count = line.argument() as usize;
     let read = bytes(line, count, &mut query);
-    let found = reading::search(
-        index,
-        vectors,
-        targets,
-        edges,
-        versions,
-        marks,
-        pool,
-        numbers,
-        summary,
-        part(&query, count),
+    let asked = Searching {
+        query: part(&query, count),
         k,
         beam,
-        part_mut(&mut slots, lent.slots),
-        part_mut(&mut dists, lent.dists),
-        part_mut(&mut figures, lent.found),
-        part_mut(scratch, lent.words),
-    );
+    };
+    let mut found = Found {
+        slots: part_mut(&mut slots, lent.slots),
+        dists: part_mut(&mut dists, lent.dists),
+        numbers: part_mut(&mut figures, lent.found),
+    };
+    let scratch = part_mut(scratch, lent.words);
+    let answer = reading::search(state.index, slices, &asked, &mut found, scratch);
     read?;
-    expect_found(line, found, &slots, &dists, &figures)
+    expect_found(line, answer, &slots, &dists, &figures)
 }
 
 // Performs a line that leaves the index as it is.
-// The slices go one by one: tried as a struct of arrays, of which the borrow check covers no part that is lent to a call.
 pub fn perform(
     what: Looking,
     line: &mut Numbers<'_>,
     state: State,
-    vectors: &[u8],
-    targets: &[u32],
-    edges: &[u16],
-    versions: &[u16],
-    marks: &[u8],
-    pool: &[u32],
-    numbers: &[u32],
-    summary: &[u32],
+    arrays: &Arrays<'_>,
     scratch: &mut [u32],
 ) -> Result<(), Differs> {
-    let lent = state.lent;
-    let index = state.index;
-    let vectors = part(vectors, lent.vectors);
-    let targets = part(targets, lent.targets);
-    let edges = part(edges, lent.edges);
-    let versions = part(versions, lent.versions);
-    let marks = part(marks, lent.marks);
-    let pool = part(pool, lent.pool);
-    let numbers = part(numbers, lent.numbers);
-    let summary = part(summary, lent.summary);
+    let slices = arrays.slices(state.lent);
     match what {
-        Looking::Read => read(
-            line, index, vectors, targets, edges, versions, marks, pool, numbers, summary,
-        )?,
-        Looking::Vector => read_vector(
-            line, index, vectors, targets, edges, versions, marks, pool, numbers, summary,
-        )?,
-        Looking::Search => search(
-            line, index, lent, vectors, targets, edges, versions, marks, pool, numbers, summary,
-            scratch,
-        )?,
+        Looking::Read => read(line, state.index, &slices)?,
+        Looking::Vector => read_vector(line, state.index, &slices)?,
+        Looking::Search => search(line, state, &slices, scratch)?,
         Looking::Words => size(line)?,
     }
     line.end()

@@ -2,15 +2,15 @@
 use Prim.Native.Nat.{ℕ, zero, suc, ◌+◌, ◌-◌, ◌≤◌, ◌<◌}
 use mathlib.Core.Bool.{Bool, true, false, ◌&&◌, ◌||◌, true≢false}
 use mathlib.Core.Path.{◌≡◌, refl, ap, sym, ◌∙◌}
-use mathlib.Core.List.{List, [], ◌∷◌, ◌++◌}
+use mathlib.Core.List.{List, [], ◌∷◌, ◌++◌, append-nil}
 use native.Mathlib.Omega.{arith}
 use borrow.Author.Tests.{eq-eqb, ltb-true, lt-ltb}
 use lib.Dec.{eqb, ltb}
-use lib.ListN.{length, take, drop, get_or, replicate, take-append-drop, length-append, get_or-append}
+use lib.ListN.{length, take, drop, get_or, replicate, take-append-drop, length-append, length-take, drop_of_length-le, get_or-append}
 use borrow.Rule.Slice.PartMut.{put_mid}
 use Rattle.std.proofs.lemmas.Slice.{put_mid-paste}
 use lib.Seq.{paste, take_all, drop-drop, length-take-le, take_at, drop_at, take-paste, drop-paste, length-paste, get_or-take}
-use Rattle.lists.specs.Lists.{All, filter, range, elem, times, insert_by}
+use Rattle.lists.specs.Lists.{All, filter, range, elem, times, insert_by, put_front}
 use Rattle.lists.proofs.All.{all_map, all_sort, all_append}
 use Rattle.lists.proofs.Alike.{one_length}
 use Rattle.lists.proofs.Filter.{filter_and}
@@ -291,11 +291,13 @@ module _ {numbers summary : List ℕ} {live : ℕ} {slots : List ℕ} {n : ℕ} 
 
   -- the same of an order that equals it
   -- the new slots are pasted behind the live ones
-  pub entering_pasted : {part : List ℕ} → part ≡ take n slots → put_mid live (live + n - live) summary part ≡ paste summary live slots n
+  pub entering_pasted : {part : List ℕ} → part ≡ put_front (take n slots) (take (live + n - live) (drop live summary)) → put_mid live (live + n - live) summary part ≡ paste summary live slots n
   entering_pasted {part} e =
       let a : length (take n slots) ≡ n = length-take-le n slots f.given in
       let b : take n (take n slots) ≡ take n slots = take_all n (take n slots) (omega arith) in
-      put_mid-paste live (live + n - live) summary part (take n slots) n e (omega arith) (sym a) ∙ rw b
+      let k : length (take (live + n - live) (drop live summary)) ≤ length (take n slots) = simp length-take (omega (arith, a)) in
+      let w : part ≡ take n slots = rw (drop_of_length-le (take (live + n - live) (drop live summary)) k, append-nil) at e in
+      put_mid-paste live (live + n - live) summary part (take n slots) n w (omega arith) (sym a) ∙ rw b
 
   pub entering_ready : {order : List ℕ} → order ≡ paste summary live slots n → Placed numbers order (live + n) × Risen numbers order live × (live ≤ live + n)
   entering_ready e = (rw e entering_placed, rw e entering_risen, omega arith)

@@ -1,5 +1,5 @@
 -- Numbers that stand twice: what the chunks found give together. Assumes nothing.
-use Prim.Native.Nat.{ℕ, zero, suc, ◌+◌, ◌-◌, ◌≤◌, ◌<◌}
+use Prim.Native.Nat.{ℕ, zero, suc, ◌+◌, ◌-◌, ◌*◌, ◌≤◌, ◌<◌}
 use mathlib.Core.Bool.{Bool, true, false, cond, true≢false}
 use mathlib.Core.Path.{◌≡◌, refl, ap, sym, ◌∙◌}
 use mathlib.Core.List.{List, [], ◌∷◌}
@@ -11,6 +11,9 @@ use lib.ListN.{length, take, drop, get_or, length-drop}
 use lib.Seq.{length-take-le, get_or-take, get_or-drop, take_at}
 use Rattle.std.specs.Prelude.{Option, Some, None, is_some}
 use Rattle.std.specs.Bool.{MatchBool}
+use Rattle.std.specs.Int.{div_ceil}
+use Rattle.std.proofs.lemmas.Grind.{div_ceil_times}
+use native.Mathlib.Nat.{mul-le-mul_right}
 use Rattle.std.specs.List.{HoldsAt, AllWithin}
 use Rattle.lists.specs.Lists.{All, elem, times, range, put_front}
 use Rattle.lists.proofs.All.{all_map}
@@ -211,11 +214,16 @@ module _ {given order : List ℕ} {a n : ℕ} {x : Bool} (c : Chunk given order 
 
 -- ---- chunk by chunk
 
+-- past the last part there is nothing
+pub parts_done : {n size part parts : ℕ} → 0 < size → parts ≡ div_ceil n size → parts ≤ part → n ≤ part * size
+parts_done {n} {size} {part} {parts} some e h =
+    let y : parts * size ≤ part * size = mul-le-mul_right size h in
+    omega (arith, (div_ceil_times n size some).0, rw e at y)
+
 pub record Clear (given : List ℕ) (a : ℕ) : Type 0 where
-  pub most : a ≤ length given
-  pub above : (p : ℕ) → p < a → get_or given p 0 ≡ 0 → ⊥
+  pub above : (p : ℕ) → p < a → p < length given → get_or given p 0 ≡ 0 → ⊥
   pub once : (p j : ℕ) → p < a → p < j → j < length given → get_or given p 0 ≡ get_or given j 0 → ⊥
 
 pub clear_done : {given : List ℕ} {a : ℕ} → length given ≤ a → Clear given a → false ≡ taken [] given
 clear_done {given} h k =
-    sym (taken_no [] given (λ i l. (k.above i (omega arith), refl)) (λ i j l w. k.once i j (omega arith) l w))
+    sym (taken_no [] given (λ i l. (k.above i (omega arith) l, refl)) (λ i j l w. k.once i j (omega arith) l w))

@@ -1,11 +1,10 @@
 // The test of row 6: numbers, marks and summary belong together.
-ghost use Rattle.std.specs.Prelude.{not, ◌≡◌, ◌≤◌, length, take, drop};
+ghost use Rattle.std.specs.Prelude.{not, ◌≡◌, ◌≤◌, length};
 ghost use Rattle.lists.specs.Lists.{range};
 ghost use Rattle.slots.specs.Store.{is_valid};
 ghost use Rattle.numbers.specs.Numbers.{numbers_fit, rising, all_blank, labels_ok};
 ghost use Rattle.numbers.specs.Inner.Fits.{all_fit};
 
-use super::writing::number_at;
 use slots::rows::BLANK;
 
 // Whether a number of a block does not fit its slot's mark: with no exit, so that the compiler takes 16 at a time.
@@ -32,14 +31,13 @@ fn numbers_misfit(marks: &[u8], numbers: &[u32]) -> bool
     false
 }
 
-// Whether one of the first `live` words of the summary names no slot, or one whose number is not above the one before it.
-fn falls(numbers: &[u32], summary: &[u32], live: usize) -> bool
-    requires { live ≤ length summary.now }
-    ensures { result ≡ not (rising (length numbers.now) numbers.now 0 (take live summary.now)) }
+// Whether one of some words names no slot, or one whose number is not above the one before it.
+fn falls(numbers: &[u32], slots: &[u32]) -> bool
+    ensures { result ≡ not (rising (length numbers.now) numbers.now 0 slots.now) }
 {
     let mut low: u32 = 0;
-    for s in &summary[..live] {
-        let number = number_at(numbers, *s as usize);
+    for s in slots {
+        let number = numbers.get(*s as usize).copied().unwrap_or(0);
         if number <= low {
             return true;
         }
@@ -48,18 +46,19 @@ fn falls(numbers: &[u32], summary: &[u32], live: usize) -> bool
     false
 }
 
-// Whether a word from index `from` on is not blank.
-fn holds_slot(summary: &[u32], from: usize) -> bool
-    requires { from ≤ length summary.now }
-    ensures { result ≡ not (all_blank (drop from summary.now)) }
+// Whether one of some words is not blank.
+fn holds_slot(words: &[u32]) -> bool
+    ensures { result ≡ not (all_blank words.now) }
 {
-    summary[from..].iter().any(|s| *s != BLANK)
+    words.iter().any(|s| *s != BLANK)
 }
 
-// Whether numbers and summary break a rule, where `live` slots are live.
+// Whether numbers and summary break a rule, where `live` slots are live: a number that the index says, and no length of a slice.
 pub fn labels_bad(marks: &[u8], numbers: &[u32], summary: &[u32], live: usize) -> bool
     requires { (length numbers.now ≡ length marks.now) × (length summary.now ≡ length marks.now) × (live ≤ length marks.now) }
     ensures { result ≡ not (labels_ok (is_valid marks.now) (length marks.now) live numbers.now summary.now) }
 {
-    numbers_misfit(marks, numbers) || falls(numbers, summary, live) || holds_slot(summary, live)
+    numbers_misfit(marks, numbers)
+        || falls(numbers, &summary[..live])
+        || holds_slot(&summary[live..])
 }

@@ -1,11 +1,10 @@
-// Whether a number of a list is 0 or stands twice, with no lent memory.
+// Whether a number of a list is 0 or stands twice, with no lent memory: `order` has a fixed length, and the `n` places of a part stand in its first words.
 ghost use Rattle.std.specs.Prelude.{[], ◌≡◌, ◌+◌, ◌≤◌, ◌<◌, length};
 ghost use Rattle.numbers.specs.Numbers.{taken};
 ghost use Rattle.numbers.specs.Inner.Chunks.{Chunk, Sifted, Later, Checked};
 
 use super::naming::place;
 use super::summary::count_up;
-use super::writing::number_at;
 use sorting::sort;
 
 // Whether two of the chunk's numbers are equal, or one is 0.
@@ -15,7 +14,7 @@ fn equal_or_zero(given: &[u32], order: &[u32], a: usize, n: usize) -> bool
 {
     let mut low: u32 = 0;
     for i in 0..n {
-        let number = number_at(given, order[i] as usize);
+        let number = given[order[i] as usize];
         if number == low {
             return true;
         }
@@ -45,18 +44,17 @@ fn chunk_repeats(given: &[u32], order: &mut [u32], a: usize, n: usize) -> bool
 }
 
 // Whether a number is 0 or stands twice; `order` holds the places of one part at a time.
-// Not a `for`: a `step_by` would leave its measure to be proved by hand just as this loop does.
 fn repeated_by(given: &[u32], order: &mut [u32]) -> bool
     requires { (0 < length order.old) × (length given.now ≤ 65536) }
     ensures { result ≡ taken [] given.now }
 {
-    let mut a: usize = 0;
-    while a < given.len() {
-        let n = order.len().min(given.len() - a);
+    let size = order.len();
+    for part in 0..given.len().div_ceil(size) {
+        let a = part * size;
+        let n = size.min(given.len() - a);
         if chunk_repeats(given, order, a, n) {
             return true;
         }
-        a += n;
     }
     false
 }

@@ -11,4 +11,4 @@ pub use fits::labels_bad;
 pub use fresh::repeated;
 pub use naming::Labels;
 pub use summary::{enter, strike, summarize};
-pub use writing::{copy_numbers, number_at, write_numbers};
+pub use writing::{copy_numbers, write_numbers};

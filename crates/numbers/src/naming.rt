@@ -7,7 +7,6 @@ ghost use Rattle.numbers.specs.Inner.Chunks.{Met};
 ghost use Rattle.numbers.specs.Inner.Held.{any_in, carrier};
 ghost use Rattle.numbers.specs.Inner.Listed.{Listed};
 
-use super::writing::number_at;
 use slots::rows::BLANK;
 use sorting::below;
 
@@ -20,13 +19,13 @@ pub struct Labels<'a> {
     pub ghost listed: { Listed numbers.now summary.now live },
 }
 
-// The place of `key` among the first `n` of `order`.
+// The place of `key` among the first `n` of `order`, which has a fixed length.
 pub fn place(keys: &[u32], order: &[u32], n: usize, key: u32) -> Option<usize>
     requires { Placed keys.now order.now n × Risen keys.now order.now n }
     ensures { Met keys.now order.now n key result }
 {
     let r = below(keys, order, n, key);
-    (r < n && number_at(keys, order[r] as usize) == key).then_some(r)
+    (r < n && keys[order[r] as usize] == key).then_some(r)
 }
 
 impl Labels<'_> {

@@ -1,10 +1,12 @@
-// The summary written: by making, insert and delete.
+// The summary written: by making, insert and delete. The number of its slots stands beside it since its memory is fixed: a word for each slot, of which the first
+// name those that are live.
 ghost use Rattle.std.specs.Prelude.{◌≡◌, ◌+◌, ◌≤◌, length};
 ghost use Rattle.lists.specs.Lists.{range, put_front};
 ghost use Rattle.numbers.specs.Inner.Listed.{Apart, Summarized, Entering, Entered, Packed, Struck};
 
 use super::writing::zero_dead;
 use slots::marks::is_valid;
+use slots::parts::copy;
 use slots::rows::BLANK;
 use sorting::{settle, sort};
 
@@ -34,7 +36,7 @@ pub fn enter(numbers: &[u32], summary: &mut [u32], live: usize, slots: &[u32], n
     ensures { Entered numbers.now summary.old live slots.now n summary.new }
 {
     let end = live + n;
-    summary[live..end].copy_from_slice(&slots[..n]);
+    copy(&mut summary[live..end], &slots[..n]);
     if n <= 16 {
         settle(numbers, summary, live, end);
         return;

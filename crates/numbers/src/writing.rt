@@ -4,20 +4,13 @@ ghost use Rattle.lists.specs.Lists.{All, put_front};
 ghost use Rattle.slots.specs.Store.{is_valid};
 ghost use Rattle.numbers.specs.Numbers.{number_of, write_numbers, live_numbers};
 
-// The number of slot `s`; 0 for a slot outside.
-pub fn number_at(numbers: &[u32], s: usize) -> u32
-    ensures { result ≡ number_of numbers.now s }
-{
-    numbers.get(s).copied().unwrap_or(0)
-}
-
-// Writes the numbers of the first `n` of `slots` to the front of `out`.
+// Writes the numbers of the first `n` of `slots`, which C lends and may be longer, to the front of `out`.
 pub fn copy_numbers(numbers: &[u32], slots: &[u32], n: usize, out: &mut [u32])
     requires { (n ≤ length slots.now) × (n ≤ length out.old) }
     ensures { out.new ≡ put_front (map (number_of numbers.now) (take n slots.now)) out.old }
 {
     for i in 0..n {
-        out[i] = number_at(numbers, slots[i] as usize);
+        out[i] = numbers.get(slots[i] as usize).copied().unwrap_or(0);
     }
 }
 

@@ -13,34 +13,50 @@ use lib.Ieee.{Float, binary32, nan, lt, le, of_bits, of_int}
 use Rattle.lists.specs.Lists.{foldl, range}
 use Rattle.candidates.specs.Candidates.{Candidate}
 use Rattle.vectors.specs.Distance.{f32}
-use Rattle.vectors.specs.declared.Space.{Space}
 use Rattle.candidates.specs.Quotient.{largest}
 use Rattle.candidates.specs.Inner.Words.{cand, cands, put, Outside}
 use Rattle.candidates.proofs.Words.{cands_none, cands_at, cands_length, cands_push, cands_kept, put_length, put_outside, outside_none, outside_wide, outside_then}
+use Rattle.vectors.specs.declared.Space.{Space}
+use Rattle.prune.proofs.Settling.{given_kept}
 use Rattle.prune.specs.Prune.{no_candidate, Selection, thresholds_from, thresholds, raise, select, consider, pass}
 use Rattle.prune.specs.Inner.Selecting.{next_threshold, selection, settled, Given, Room, Considered, Selected}
+use Rattle.prune.specs.Lent.{SameSelector}
+use Rattle.prune.specs.declared.Selector.{Selector}
 
 -- the candidates stay while the room at `to` is written
 pub apart_kept : {degree : ℕ} {w₀ : List ℕ} {a n to : ℕ} → Room degree w₀ a n to → (w w' : List ℕ) → Outside to (2 * degree) w w' → cands w' a n ≡ cands w a n
 apart_kept {degree} {w₀} {a} {n} {to} p w w' f =
     cands_kept to (2 * degree) w w' f a n (λ (q : to < a + 2 * n). ⊎_elim (λ (h : a + 2 * n ≤ to). absurd (omega arith)) (λ (h : to + 2 * degree ≤ a). h) p.apart)
 
+-- ---- what is gone over
+pub same_none : {N : ℕ} (s : Selector N) → SameSelector s s
+same_none s = record { alpha = refl; kept = refl; space = refl; factors = refl; count = refl; words = refl; a = refl }
+
+pub same_then : {N : ℕ} {s s' s'' : Selector N} → SameSelector s s' → SameSelector s' s'' → SameSelector s s''
+same_then f g = record { alpha = g.alpha ∙ f.alpha; kept = g.kept ∙ f.kept; space = g.space ∙ f.space; factors = g.factors ∙ f.factors; count = g.count ∙ f.count; words = g.words ∙ f.words; a = g.a ∙ f.a }
+
 -- ---- one candidate
 module _ (alpha : Float) (d : ℕ → ℕ → ℕ) (t : Float) (i : ℕ) (factors : List Float) (w : List ℕ) (to m : ℕ) where
   pub considered_over : (c : List Candidate) → lt t (get_or factors i nan) ≡ true → Considered alpha d c t i factors w to m factors w m
   considered_over c e = record { does = rw e; more = omega arith; sizes = refl; size = refl; same = outside_none (to + 2 * m) 2 w }
 
-  pub considered_taken : (a n : ℕ) {factors' : List Float} {dist id : ℕ} → lt t (get_or factors i nan) ≡ false → i < n → to + 2 * m + 1 < length w
+  pub considered_taken : (a n : ℕ) {factors' : List Float} {dist id : ℕ} → lt t (get_or factors i nan) ≡ false → i < n → Room (m + 1) w a n to
       → length factors' ≡ length factors → factors' ≡ settled alpha d (cands w a n) i factors → dist ≡ (cand w (a + 2 * i)).dist → id ≡ (cand w (a + 2 * i)).id
       → Considered alpha d (cands w a n) t i factors w to m factors' (put w (to + 2 * m) dist id) (m + 1)
   considered_taken a n {factors'} {dist} {id} e h l k g u v =
       record {
-        does = rw (e, ← g, cands_push w dist id to m l, cands_at w a n i h, u, v);
+        does = rw (e, ← g, cands_push w dist id to m (omega (arith, l.inside)), cands_at w a n i h, u, v);
         more = omega arith;
         sizes = k;
         size = put_length w (to + 2 * m) dist id;
         same = put_outside w (to + 2 * m) dist id;
       }
+
+-- and the candidates stay
+pub considered_given : {space : Space} {w w' : List ℕ} {a n to : ℕ} (m dist id : ℕ) → Room (m + 1) w a n to → w' ≡ put w (to + 2 * m) dist id → Given space w a n → Given space w' a n
+considered_given {w = w} {to = to} m dist id p e g =
+    let x = outside_wide (to + 2 * m) 2 to (2 * (m + 1)) w (put w (to + 2 * m) dist id) (put_outside w (to + 2 * m) dist id) (omega arith) (omega arith) in
+    rw e (given_kept w (put w (to + 2 * m) dist id) p (put_length w (to + 2 * m) dist id) x g)
 
 -- ---- thresholds
 -- those of the k passes left, the first of them with t
@@ -201,13 +217,3 @@ module _ {degree : ℕ} {alpha : Float} {d : ℕ → ℕ → ℕ} {a n to : ℕ}
 
     pub passing_last : n ≤ i → le alpha t ≡ true → Selected degree alpha d factors₀ w₀ a n to m w
     passing_last h e = selected {factors = factors} f.room (f.size ∙ g.size) u (rw e₁ at (scanning_last f h e) ∙ g.goes)
-
-    -- the next candidate can be considered
-    pub passing_given : {space : Space} → Given space w₀ a n → i < n → (m ≡ degree → ⊥) → to + 2 * degree ≤ length w₀
-        → Given space w a (length factors) × (i < length factors) × (to + 2 * m + 1 < length w)
-    passing_given q h l r =
-        let s : cands w a (length factors) ≡ cands w₀ a n = ap (λ (z : ℕ). cands w a z) f.sizes ∙ apart_kept p w₀ w u in (
-          record { short = q.short; inside = omega (arith, f.sizes, f.size, g.size, q.inside); small = rw s q.small; stored = rw s q.stored; numbered = rw s q.numbered },
-          omega (arith, f.sizes),
-          omega (arith, f.room, f.size, g.size),
-        )

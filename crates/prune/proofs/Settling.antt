@@ -1,6 +1,7 @@
 -- A candidate is taken: the factors after it are raised, one after the other. Assumes nothing.
 use Prim.Native.Nat.{ℕ, suc, ◌+◌, ◌-◌, ◌*◌, ◌≤◌, ◌<◌}
 use mathlib.Core.Path.{◌≡◌, refl, sym, ◌∙◌}
+use mathlib.Core.Logic.{⊎_elim}
 use mathlib.Core.Bool.{Bool, true, false, cond}
 use mathlib.Core.List.{List}
 use native.Mathlib.Numerals.{add-one}
@@ -15,10 +16,10 @@ use Rattle.vectors.specs.Lent.{HasVector}
 use Rattle.vectors.specs.declared.Space.{Space}
 use Rattle.candidates.specs.Candidates.{Candidate}
 use Rattle.candidates.specs.Quotient.{largest, fmax, quotient}
-use Rattle.candidates.specs.Inner.Words.{cand, cands}
-use Rattle.candidates.proofs.Words.{cands_at, cands_length, cands_each}
+use Rattle.candidates.specs.Inner.Words.{cand, cands, Outside}
+use Rattle.candidates.proofs.Words.{cands_at, cands_length}
 use Rattle.prune.specs.Prune.{raise}
-use Rattle.prune.specs.Inner.Selecting.{raised_factor, settled, Given}
+use Rattle.prune.specs.Inner.Selecting.{raised_factor, settled, Given, Room}
 
 -- so that the examples are checked first
 
@@ -72,10 +73,31 @@ raising_done {alpha} {d} {w} {a} {n} {i} factors₀ {factors} {j} h l f =
 -- ---- what the candidates are asked
 module _ {space : Space} {w : List ℕ} {a n : ℕ} (g : Given space w a n) {k : ℕ} (h : k < n) where
   pub given_small : {own : ℕ} → own ≡ (cand w (a + 2 * k)).dist → own ≤ 16777216
-  given_small e = rw e (cands_each (λ c. c.dist ≤ 16777216) w a n g.small k h)
+  given_small e = rw e (g.small k h)
 
   pub given_stored : {s : ℕ} → s ≡ (cand w (a + 2 * k)).id → HasVector space s
-  given_stored e = rw e (cands_each (λ c. HasVector space c.id) w a n g.stored k h)
+  given_stored e = rw e (g.stored k h)
 
   pub given_numbered : {s : ℕ} → s ≡ (cand w (a + 2 * k)).id → s < 65536
-  given_numbered e = rw e (cands_each (λ c. c.id < 65536) w a n g.numbered k h)
+  given_numbered e = rw e (g.numbered k h)
+
+-- they stay so while words apart from them are written
+pub given_kept : {space : Space} {degree : ℕ} {w₀ : List ℕ} {a n to : ℕ} (w w' : List ℕ) → Room degree w₀ a n to → length w' ≡ length w → Outside to (2 * degree) w w'
+    → Given space w a n → Given space w' a n
+given_kept {space} {degree} {w₀} {a} {n} {to} w w' p e f g =
+    record {
+      short = g.short;
+      inside = omega (arith, e, g.inside);
+      small = λ k h. rw (kept_dist k h) (g.small k h);
+      stored = λ k h. rw (kept_id k h) (g.stored k h);
+      numbered = λ k h. rw (kept_id k h) (g.numbered k h);
+    }
+  where
+    beside : (j : ℕ) → a ≤ j → j < a + 2 * n → to ≤ j → to + 2 * degree ≤ j
+    beside j l m q = ⊎_elim (λ (h : a + 2 * n ≤ to). absurd (omega arith)) (λ (h : to + 2 * degree ≤ a). omega arith) p.apart
+
+    kept_dist : (k : ℕ) → k < n → get_or w' (a + 2 * k) 0 ≡ get_or w (a + 2 * k) 0
+    kept_dist k h = f (a + 2 * k) (beside (a + 2 * k) (omega arith) (omega arith))
+
+    kept_id : (k : ℕ) → k < n → get_or w' (a + 2 * k + 1) 0 ≡ get_or w (a + 2 * k + 1) 0
+    kept_id k h = f (a + 2 * k + 1) (beside (a + 2 * k + 1) (omega arith) (omega arith))

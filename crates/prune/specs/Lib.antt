@@ -1,3 +1,4 @@
 pub mod Prune
 pub mod RobustPrune
 pub mod Inner
+pub mod Lent

@@ -8,7 +8,7 @@ ghost use Rattle.candidates.specs.Quotient.{fmax, fmin};
 ghost use Rattle.candidates.specs.Inner.Words.{cands, Left};
 ghost use Rattle.slots.specs.Store.{is_valid};
 ghost use Rattle.prune.specs.Prune.{considered};
-ghost use Rattle.prune.specs.Inner.Selecting.{next_threshold, raised_factor, settled, Given, Considered, Room, Selected, Picked, Ready, Pruned};
+ghost use Rattle.prune.specs.Inner.Selecting.{next_threshold, raised_factor, settled, Given, Room, Considered, Selected, Ready, Pruned};
 
 use distances::Kept;
 
@@ -55,101 +55,115 @@ fn raised<const N: usize>(
     larger(f, candidates::quotient(own, pair))
 }
 
-// Candidate `i` of those at `a` is taken: its factor becomes the largest, and those after it are raised.
-fn settle<const N: usize>(
-    alpha: f32,
-    kept: &mut Kept<'_, N>,
-    factors: &mut [f32],
-    words: &[u32],
-    a: usize,
-    i: usize,
-)
-    requires { Given kept.old.space words.now a (length factors.old) × (i < length factors.old) }
-    ensures { (factors.new ≡ settled alpha (slot_distance (space_of kept.old.space)) (cands words.now a (length factors.old)) i factors.old) × (kept.new.space ≡ kept.old.space) }
-{
-    let n = factors.len();
-    let y = candidates::id_at(words, a, i);
-    factors[i] = candidates::LARGEST;
-    for j in i + 1..n {
-        let own = candidates::dist_at(words, a, j);
-        let x = candidates::id_at(words, a, j);
-        factors[j] = raised(factors[j], alpha, own, kept, x, y);
-    }
-}
-
-// Candidate `i` is taken unless its factor is above the threshold. Returns how many are taken.
-fn consider<const N: usize>(
-    alpha: f32,
-    kept: &mut Kept<'_, N>,
-    factors: &mut [f32],
-    words: &mut [u32],
-    a: usize,
-    i: usize,
-    to: usize,
-    m: usize,
-    threshold: f32,
-) -> usize
-    requires { Given kept.old.space words.old a (length factors.old) × (i < length factors.old) × (to + 2 * m + 1 < length words.old) }
-    ensures { Considered alpha (slot_distance (space_of kept.old.space)) (cands words.old a (length factors.old)) threshold i
-        factors.old words.old to m factors.new words.new result × (kept.new.space ≡ kept.old.space) }
-{
-    if factors[i] > threshold {
-        return m;
-    }
-    settle(alpha, kept, factors, words, a, i);
-    let dist = candidates::dist_at(words, a, i);
-    let id = candidates::id_at(words, a, i);
-    candidates::put(words, to + 2 * m, dist, id);
-    m + 1
-}
-
-// The passes over as many candidates at `a` as there are factors. Returns how many are taken; they lie at `to`.
-// Both loops stand here, since they end together, by a label.
-fn select<const N: usize>(
+// Where the candidates taken go: at `to` of the words, as many as the degree at most.
+#[derive(Clone, Copy)]
+struct Output {
     degree: usize,
-    alpha: f32,
-    kept: &mut Kept<'_, N>,
-    factors: &mut [f32],
-    words: &mut [u32],
-    a: usize,
     to: usize,
-) -> usize
-    requires { Given kept.old.space words.old a (length factors.old) × Room degree words.old a (length factors.old) to }
-    ensures { Selected degree alpha (slot_distance (space_of kept.old.space)) factors.old words.old a (length factors.old) to result words.new × (kept.new.space ≡ kept.old.space) }
-{
-    let n = factors.len();
-    let mut m: usize = 0;
-    let mut threshold: f32 = 1.0;
-    'passes: for _ in 0..PASSES {
-        for i in 0..n {
-            if m == degree {
-                break 'passes;
+}
+
+// What the passes of a selection go over: candidates at `a` of the words, a factor each, and the distances that are kept meanwhile. That a table of `N` distances has
+// a size at all (`sized`) is a field, since a reference to one does not tell.
+#[derive(Drop)]
+struct Selector<'k, 's, 'f, 'w, const N: usize> {
+    alpha: f32,
+    kept: &'k mut Kept<'s, N>,
+    factors: &'f mut [f32],
+    words: &'w mut [u32],
+    a: usize,
+    ghost sized: { 24 + N * 8 < 9223372036854775808 },
+    ghost given: { Given kept.now.space words.now a (length factors.now) },
+}
+
+impl<const N: usize> Selector<'_, '_, '_, '_, N> {
+    ghost use Rattle.prune.specs.Lent.{SameSelector};
+
+    // Candidate `i` is taken: its factor becomes the largest, and those after it are raised.
+    fn settle(&mut self, i: usize)
+        requires { i < length self.old.factors.now }
+        ensures { (self.new.factors.now ≡ settled self.old.alpha (slot_distance (space_of self.old.kept.now.space)) (cands self.old.words.now self.old.a (length self.old.factors.now)) i self.old.factors.now)
+            × (self.new.words.now ≡ self.old.words.now) × SameSelector self.old self.new }
+    {
+        let alpha = self.alpha;
+        let a = self.a;
+        let words = &mut *self.words;
+        let factors = &mut *self.factors;
+        let kept = &mut *self.kept;
+        let n = factors.len();
+        let y = candidates::id_at(words, a, i);
+        factors[i] = candidates::LARGEST;
+        for j in i + 1..n {
+            let own = candidates::dist_at(words, a, j);
+            let x = candidates::id_at(words, a, j);
+            factors[j] = raised(factors[j], alpha, own, kept, x, y);
+        }
+    }
+
+    // Candidate `i` is taken unless its factor is above the threshold; `m` lie at `to` already. Returns how many are taken.
+    fn consider(&mut self, i: usize, to: usize, m: usize, threshold: f32) -> usize
+        requires { (i < length self.old.factors.now) × Room (m + 1) self.old.words.now self.old.a (length self.old.factors.now) to }
+        ensures { Considered self.old.alpha (slot_distance (space_of self.old.kept.now.space)) (cands self.old.words.now self.old.a (length self.old.factors.now)) threshold i
+            self.old.factors.now self.old.words.now to m self.new.factors.now self.new.words.now result × SameSelector self.old self.new }
+    {
+        if self.factors[i] > threshold {
+            return m;
+        }
+        self.settle(i);
+        let words = &mut *self.words;
+        let dist = candidates::dist_at(words, self.a, i);
+        let id = candidates::id_at(words, self.a, i);
+        candidates::put(words, to + 2 * m, dist, id);
+        m + 1
+    }
+
+    // The passes over the candidates. Returns how many are taken; they lie at `out`. Both loops stand here, since they end together, by a label.
+    fn select(&mut self, out: Output) -> usize
+        requires { Room out.degree self.old.words.now self.old.a (length self.old.factors.now) out.to }
+        ensures { Selected out.degree self.old.alpha (slot_distance (space_of self.old.kept.now.space)) self.old.factors.now self.old.words.now self.old.a (length self.old.factors.now) out.to result self.new.words.now
+            × SameSelector self.old self.new }
+    {
+        let alpha = self.alpha;
+        let Output { degree, to } = out;
+        let n = self.factors.len();
+        let mut m: usize = 0;
+        let mut threshold: f32 = 1.0;
+        'passes: for _ in 0..PASSES {
+            for i in 0..n {
+                if m == degree {
+                    break 'passes;
+                }
+                m = self.consider(i, to, m, threshold);
             }
-            m = consider(alpha, kept, factors, words, a, i, to, m, threshold);
+            if threshold >= alpha {
+                break;
+            }
+            threshold = following(threshold, alpha);
         }
-        if threshold >= alpha {
-            break;
-        }
-        threshold = following(threshold, alpha);
+        m
     }
-    m
 }
 
-// Selects from the `n` candidates at `a`, 750 at most. Returns how many are taken; they lie at `to`.
+// Selects from as many candidates at `a` as there are factors. A function of its own: with the selector made beside the array of factors it was not proved what it
+// leaves in `words` and `kept`.
 fn pick<const N: usize>(
-    degree: usize,
     alpha: f32,
     kept: &mut Kept<'_, N>,
+    factors: &mut [f32],
     words: &mut [u32],
     a: usize,
-    n: usize,
-    to: usize,
+    out: Output,
 ) -> usize
-    requires { Given kept.old.space words.old a n × Room degree words.old a n to × (n ≤ 750) }
-    ensures { Picked degree alpha (slot_distance (space_of kept.old.space)) words.old a n to result words.new × (kept.new.space ≡ kept.old.space) }
+    requires { Given kept.old.space words.old a (length factors.old) × Room out.degree words.old a (length factors.old) out.to }
+    ensures { Selected out.degree alpha (slot_distance (space_of kept.old.space)) factors.old words.old a (length factors.old) out.to result words.new × (kept.new.space ≡ kept.old.space) }
 {
-    let mut factors = [0.0f32; 750];
-    select(degree, alpha, kept, &mut factors[..n], words, a, to)
+    let mut selector = Selector {
+        alpha,
+        kept,
+        factors,
+        words,
+        a,
+    };
+    selector.select(out)
 }
 
 // What is selected from: no source, no dead slot, by distance, each slot's first, 750 at most. Returns how many are left.
@@ -163,7 +177,7 @@ fn prepare(marks: &[u8], source: u32, words: &mut [u32], a: usize, n: usize) -> 
 }
 
 // Selects the neighbours of slot `source` from the `n` candidates at `a`, which it rearranges. Returns how many they are; they lie at `to`. Distances
-// that the table `kept` has are read there.
+// that the table `kept` has are read there. Its callers have these nine in structs that differ, so that a struct of it would be made for the call alone.
 pub fn prune_scored<const N: usize>(
     degree: usize,
     alpha: f32,
@@ -179,5 +193,7 @@ pub fn prune_scored<const N: usize>(
     ensures { Pruned degree alpha (is_valid marks.now) (slot_distance (space_of kept.old.space)) source scratch.old a n to result scratch.new × (kept.new.space ≡ kept.old.space) }
 {
     let m = prepare(marks, source, scratch, a, n);
-    pick(degree, alpha, kept, scratch, a, m, to)
+    let mut factors = [0.0f32; 750];
+    let out = Output { degree, to };
+    pick(alpha, kept, &mut factors[..m], scratch, a, out)
 }

@@ -13,15 +13,13 @@ use lib.Seq.{take_all, take_at}
 use Rattle.lists.specs.Lists.{put_front}
 use Rattle.lists.proofs.All.{all_take}
 use Rattle.lists.proofs.Front.{front_map}
-use Rattle.slots.specs.Sizes.{Slices, Lengths, lengths_of, limits}
+use Rattle.slots.specs.Sizes.{Slices, limits}
 use Rattle.slots.specs.Scratch.{size_answer, marks_at}
 use Rattle.candidates.specs.Candidates.{Candidate, ids}
 use Rattle.vectors.specs.Distance.{f32}
 use Rattle.candidates.specs.Inner.Words.{cand, cands, Small}
 use Rattle.candidates.proofs.Words.{cands_none, cands_length, cands_snoc, cands_each, cands_take}
-use Rattle.vectors.specs.Vector.{Bytes}
-use Rattle.slots.specs.Inner.Rows.{RowShape}
-use Rattle.slots.specs.Store.{store_view, store_ops, arrays}
+use Rattle.slots.specs.Store.{Arrays, store_view, store_ops}
 use Rattle.numbers.specs.Numbers.{number_of}
 use Rattle.walk.specs.Walk.{search_pool}
 use Rattle.walk.specs.Inner.Scratch.{Ready, Pool}
@@ -32,37 +30,38 @@ use Rattle.index.specs.declared.Refusal.TheVariants as Refused
 use Rattle.index.specs.Refusal.{number_of as row_of}
 use Rattle.calls.specs.Calls.{Search, search, Call, found, refused_as}
 use Rattle.calls.specs.Refusals.{tests}
-use Rattle.calls.specs.Outputs.{distances, room_of, written}
+use Rattle.calls.specs.Outputs.{Outputs, distances, room_of, written}
 use Rattle.calls.specs.State.{stored, shown}
 use Rattle.calls.specs.Step.{refusal, perform}
 use Rattle.calls.specs.Runs.{lent_of, slices_of, call_of, run_refusal}
-use Rattle.index.specs.Index.{state_of}
-use Rattle.index.specs.Inner.Deciding.{Labels, labels_of, Decided, Passed}
+use Rattle.index.specs.Index.{state_of, arrays_of}
+use Rattle.index.specs.Inner.Deciding.{Decided, Passed}
 use Rattle.reading.specs.Inner.Finding.{search_tests, Fits, Shown}
-use Rattle.reading.specs.Search.{found_as, search_outputs, Searches}
+use Rattle.reading.specs.Search.{search_outputs, searching_of, found_of, found_as, Searches}
+use Rattle.reading.specs.declared.searching.Searching.{Searching}
+use Rattle.reading.specs.declared.searching.Found.{Found}
 use Rattle.calls.proofs.Tests.{first_none, or_neither}
-use Rattle.index.proofs.Decide.{decided_before, decided_after, turned_back, let_through, own_none, not_wrong, passed, passed_rows, passed_marks, passed_bytes, step_back, step_on}
+use Rattle.index.proofs.Decide.{decided_after, turned_back, let_through, own_none, not_wrong, passed, passed_marks, step_back, step_on}
 
 -- ---- rows 7 and 8
 
-module _ {index : Index} {lent : Lengths} {looked : Labels} (query k beam slots dists numbers scratch : ℕ) {A : Type 0} {r : Result A Refusal}
-    (d : Decided index lent looked (not (eqb query index.dim)) [] r) where
+module _ {index : Index} {s : Slices} (a : Search) (outputs : Outputs) (scratch : ℕ) {wrong : Bool} {A : Type 0} {r : Result A Refusal} (d : Decided index s wrong [] r) {v : A} (z : r ≡ Ok v)
+    {first room : ℕ} (e : first ≡ min (length outputs.slots) (length outputs.dists)) (m : room ≡ min first (length outputs.numbers)) {over : Bool} (o : over ≡ (ltb limits.beam a.beam || ltb room a.k)) where
   abbrev Turns : Result A Refusal → Type 0
-  Turns n = Decided index lent looked (not (eqb query index.dim)) (search_tests index.capacity k beam slots dists numbers scratch) n
+  Turns n = Decided index s wrong (search_tests index.capacity a outputs scratch) n
 
-  pub turns_before : {e : Refusal} → r ≡ Err e → Turns (Err e)
-  turns_before z = decided_before d _ z
+  over_room : over ≡ (ltb limits.beam a.beam || ltb (min (min (length outputs.slots) (length outputs.dists)) (length outputs.numbers)) a.k)
+  over_room = o ∙ ap (λ l. ltb limits.beam a.beam || ltb l a.k) (m ∙ ap (λ l. min l (length outputs.numbers)) e)
 
-  module _ {q : Bool} {a : A} (z : r ≡ Ok a) (o : q ≡ (ltb limits.beam beam || ltb (min (min slots dists) numbers) k)) where
-    pub turns_over : q ≡ true → Turns (Err Refused.Limits)
-    turns_over t = decided_after d _ (Err Refused.Limits) z (rw (sym o ∙ t))
+  pub turns_over : over ≡ true → Turns (Err Refused.Limits)
+  turns_over t = decided_after d _ (Err Refused.Limits) z (rw (sym over_room ∙ t))
 
-    module _ {s : Bool} (f : q ≡ false) (h : s ≡ ltb scratch (size_answer index.capacity)) where
-      pub turns_short : s ≡ true → Turns (Err Refused.Scratch)
-      turns_short t = decided_after d _ (Err Refused.Scratch) z (rw (sym o ∙ f, sym h ∙ t))
+  module _ {short : Bool} (f : over ≡ false) (h : short ≡ ltb scratch (size_answer index.capacity)) where
+    pub turns_short : short ≡ true → Turns (Err Refused.Scratch)
+    turns_short t = decided_after d _ (Err Refused.Scratch) z (rw (sym over_room ∙ f, sym h ∙ t))
 
-      pub turns_none : {v : A} → s ≡ false → Turns (Ok v)
-      turns_none {v} t = decided_after d _ (Ok v) z (rw (sym o ∙ f, sym h ∙ t))
+    pub turns_none : {v : A} → short ≡ false → Turns (Ok v)
+    turns_none {v} t = decided_after d _ (Ok v) z (rw (sym over_room ∙ f, sym h ∙ t))
 
 -- ---- candidates shown one by one
 
@@ -100,12 +99,12 @@ module _ {w : List ℕ} {n : ℕ} {slots : List ℕ} {dists : List Float} {slots
 
 -- ---- a search
 
-module _ (index : Index) (s : Slices) (a : Search) (slots : List ℕ) (dists : List Float) (numbers scratch : List ℕ) {A : Type 0} {r : Result A Refusal}
-    (d : Decided index (lengths_of s) (labels_of s) (not (eqb (length a.query) index.dim)) (search_tests index.capacity a.k a.beam (length slots) (length dists) (length numbers) (length scratch)) r) where
+module _ {index : Index} {s : Slices} (a : Searching) (f : Found) (scratch : List ℕ) {A : Type 0} {r : Result A Refusal}
+    (d : Decided index s (not (eqb (length a.query.now) index.dim)) (search_tests index.capacity (searching_of a) (found_of f) (length scratch)) r) where
   abbrev call : Call
-  call = record { lent = lent_of s (search_outputs slots dists numbers) scratch; operation = search a }
+  call = record { lent = lent_of s (found_of f) scratch; operation = search (searching_of a) }
 
-  pub searches_back : {e : Refusal} → r ≡ Err e → Searches index s a (search_outputs slots dists numbers) scratch (search_outputs slots dists numbers) scratch (Err e)
+  pub searches_back : {e : Refusal} → r ≡ Err e → Searches index s (searching_of a) (found_of f) scratch (found_of f) scratch (Err e)
   unfolding tests refused_as found_as written state_of stored store_ops store_view shown room_of call_of slices_of
   searches_back {e} z =
       record {
@@ -120,7 +119,7 @@ module _ (index : Index) (s : Slices) (a : Search) (slots : List ℕ) (dists : L
     able = passed index s d z
 
     abbrev over : Bool
-    over = ltb limits.beam a.beam || ltb (min (min (length slots) (length dists)) (length numbers)) a.k
+    over = ltb limits.beam a.beam || ltb (min (min (length f.slots.now) (length f.dists.now)) (length f.numbers.now)) a.k
 
     abbrev small : Bool
     small = ltb (length scratch) (size_answer index.capacity)
@@ -133,92 +132,89 @@ module _ (index : Index) (s : Slices) (a : Search) (slots : List ℕ) (dists : L
     unfolding limits
     beam_most = ltb-false 1024 a.beam (or_neither (ltb 1024 a.beam) _ own.0).0
 
-    pub room : a.k ≤ min (min (length slots) (length dists)) (length numbers)
-    room = ltb-false (min (min (length slots) (length dists)) (length numbers)) a.k (or_neither (ltb limits.beam a.beam) _ own.0).1
+    room : a.k ≤ min (min (length f.slots.now) (length f.dists.now)) (length f.numbers.now)
+    room = ltb-false (min (min (length f.slots.now) (length f.dists.now)) (length f.numbers.now)) a.k (or_neither (ltb limits.beam a.beam) _ own.0).1
 
     words : marks_at + length s.marks ≤ length scratch
     unfolding size_answer
     words = let h = ltb-false (length scratch) (size_answer index.capacity) own.1 in omega (arith, h, passed_marks able)
 
-    pub search_lent : Bytes index.dim (length s.marks) s.vectors × RowShape index.degree s.targets s.edges s.versions s.marks
-    search_lent = (passed_bytes able, passed_rows able)
+    -- of the graph that is walked
+    module _ {g : Arrays} (same : g ≡ arrays_of index s) where
+      pub search_ready : Ready g a.query.now index.entry a.beam scratch
+      search_ready =
+          rw same (record {
+            query_long = eqb-true (length a.query.now) index.dim (not-false _ (not_wrong index s d z));
+            start_inside = rw (passed_marks able) able.entry_inside;
+            beam_most = beam_most;
+            room = words;
+          })
 
-    pub search_ready : Ready (arrays index.dim index.degree s.vectors s.targets s.edges s.versions s.marks) a.query index.entry a.beam scratch
-    search_ready =
-        record {
-          query_long = eqb-true (length a.query) index.dim (not-false _ (not_wrong index s d z));
-          start_inside = rw (passed_marks able) able.entry_inside;
-          beam_most = beam_most;
-          room = words;
-        }
+      module _ {scratch' : List ℕ} {all n : ℕ} (walked : Pool g a.query.now index.entry a.beam scratch scratch' all) (e : n ≡ min all a.k) where
+        few : n ≤ 1024
+        few = omega (arith, walked.few, beam_most)
 
-    module _ {scratch' : List ℕ} {all n : ℕ}
-        (f : Pool (arrays index.dim index.degree s.vectors s.targets s.edges s.versions s.marks) a.query index.entry a.beam scratch scratch' all)
-        (e : n ≡ min all a.k) where
-      pub few : n ≤ 1024
-      few = omega (arith, f.few, beam_most)
+        first : take a.k (cands scratch' 0 all) ≡ cands scratch' 0 n
+        first = rw e (go (ltb all a.k) refl)
+          where
+            go : (q : Bool) → ltb all a.k ≡ q → take a.k (cands scratch' 0 all) ≡ cands scratch' 0 (min all a.k)
+            go true h =
+                let l = ltb-true all a.k h in
+                let m : min all a.k ≡ all = omega arith in
+                let b : length (cands scratch' 0 all) ≤ a.k = rw (cands_length scratch' 0 all) (omega arith) in
+                rw m (take_all a.k (cands scratch' 0 all) b)
+            go false h =
+                let l = ltb-false all a.k h in
+                let m : min all a.k ≡ a.k = omega arith in
+                rw m (cands_take scratch' 0 all a.k l)
 
-      first : take a.k (cands scratch' 0 all) ≡ cands scratch' 0 n
-      first = rw e (go (ltb all a.k) refl)
-        where
-          go : (q : Bool) → ltb all a.k ≡ q → take a.k (cands scratch' 0 all) ≡ cands scratch' 0 (min all a.k)
-          go true h =
-              let l = ltb-true all a.k h in
-              let m : min all a.k ≡ all = omega arith in
-              let b : length (cands scratch' 0 all) ≤ a.k = rw (cands_length scratch' 0 all) (omega arith) in
-              rw m (take_all a.k (cands scratch' 0 all) b)
-          go false h =
-              let l = ltb-false all a.k h in
-              let m : min all a.k ≡ a.k = omega arith in
-              rw m (cands_take scratch' 0 all a.k l)
-
-      pub search_fits : Fits scratch' n slots dists
-      search_fits =
-          record {
-            few = few;
-            long = omega (arith, words, f.size);
-            small = subst Small first (all_take (λ c. c.dist ≤ 16777216) a.k (cands scratch' 0 all) f.small);
-            slots_long = omega (arith, e, room);
-            dists_long = omega (arith, e, room);
-          }
-
-      -- room for their numbers, beside slots as many as before
-      pub search_copies : {m : ℕ} → m ≡ length slots → (n ≤ m) × (n ≤ length numbers)
-      search_copies l = (omega (arith, e, room), omega (arith, e, room))
-
-      nearest_found : cands scratch' 0 n ≡ take a.k (search_pool (store_view (state_of index s).graph) a.query a.beam)
-      unfolding state_of
-      nearest_found = sym first ∙ ap (take a.k) (f.list (state_of index s).graph refl (sym (passed_marks able)) refl)
-
-      not_refused : (m : ℕ) → refusal stored (state_of index s) call ≡ some m → ⊥
-      unfolding refusal tests state_of stored store_ops store_view shown room_of
-      not_refused m h = let g = sym (let_through index s d z) ∙ h in cc
-
-      module _ {slots' : List ℕ} {dists' : List Float} {numbers' : List ℕ} (h : Shown scratch' n slots dists slots' dists')
-          (g : numbers' ≡ put_front (map (number_of s.numbers) (take n slots')) numbers) where
-        -- the numbers found
-        abbrev figures : List ℕ
-        figures = map (number_of s.numbers) (ids (cands scratch' 0 n))
-
-        -- the slots written are those whose numbers are copied
-        shown_first : take n slots' ≡ ids (cands scratch' 0 n)
-        shown_first =
-            let l = ids (cands scratch' 0 n) in
-            ap (take n) h.slots_written ∙ take_at l (drop (length l) slots) n (length-map (cands scratch' 0 n) (λ c. c.id) ∙ cands_length scratch' 0 n)
-
-        figures_written : numbers' ≡ put_front figures numbers
-        figures_written = g ∙ ap (λ l. put_front (map (number_of s.numbers) l) numbers) shown_first
-
-        pub searches_on : Searches index s a (search_outputs slots dists numbers) scratch (search_outputs slots' dists' numbers') scratch' (Ok n)
-        unfolding tests perform found_as written state_of stored store_ops store_view shown room_of call_of slices_of run_refusal
-        searches_on =
+        pub search_fits : Fits scratch' n f.slots.now f.dists.now
+        search_fits =
             record {
-              nearest = cands scratch' 0 n;
-              numbers = figures;
-              counts = λ m o. let q : n ≡ m = cc in sym q ∙ sym (cands_length scratch' 0 n);
-              meets = record {
-                does = ap (λ cs. (state_of index s, found cs (map (number_of s.numbers) (ids cs)))) nearest_found ∙ sym (step_on (state_of index s) call (let_through index s d z));
-                writes = λ i. search_outputs (h.slots_written i) (h.dists_written i) (figures_written i);
-                keeps = λ m o. absurd (not_refused m o);
-              };
+              few = few;
+              long = omega (arith, words, walked.size);
+              small = subst Small first (all_take (λ c. c.dist ≤ 16777216) a.k (cands scratch' 0 all) walked.small);
+              slots_long = omega (arith, e, room);
+              dists_long = omega (arith, e, room);
             }
+
+        -- room for their numbers, beside slots as many as before
+        pub search_copies : {m : ℕ} → m ≡ length f.slots.now → (n ≤ m) × (n ≤ length f.numbers.now)
+        search_copies l = (omega (arith, e, room), omega (arith, e, room))
+
+        nearest_found : cands scratch' 0 n ≡ take a.k (search_pool (store_view (state_of index s).graph) a.query.now a.beam)
+        unfolding state_of
+        nearest_found = sym first ∙ ap (take a.k) (walked.list (state_of index s).graph (sym same) (rw same (sym (passed_marks able))) refl)
+
+        not_refused : (m : ℕ) → refusal stored (state_of index s) call ≡ some m → ⊥
+        unfolding refusal tests state_of stored store_ops store_view shown room_of
+        not_refused m h = let g = sym (let_through index s d z) ∙ h in cc
+
+        module _ {slots' : List ℕ} {dists' : List Float} {numbers' : List ℕ} (h : Shown scratch' n f.slots.now f.dists.now slots' dists')
+            (copied : numbers' ≡ put_front (map (number_of s.numbers) (take n slots')) f.numbers.now) where
+          -- the numbers found
+          abbrev figures : List ℕ
+          figures = map (number_of s.numbers) (ids (cands scratch' 0 n))
+
+          -- the slots written are those whose numbers are copied
+          shown_first : take n slots' ≡ ids (cands scratch' 0 n)
+          shown_first =
+              let l = ids (cands scratch' 0 n) in
+              ap (take n) h.slots_written ∙ take_at l (drop (length l) f.slots.now) n (length-map (cands scratch' 0 n) (λ c. c.id) ∙ cands_length scratch' 0 n)
+
+          figures_written : numbers' ≡ put_front figures f.numbers.now
+          figures_written = copied ∙ ap (λ l. put_front (map (number_of s.numbers) l) f.numbers.now) shown_first
+
+          pub searches_on : Searches index s (searching_of a) (found_of f) scratch (search_outputs slots' dists' numbers') scratch' (Ok n)
+          unfolding tests perform found_as written state_of stored store_ops store_view shown room_of call_of slices_of run_refusal
+          searches_on =
+              record {
+                nearest = cands scratch' 0 n;
+                numbers = figures;
+                counts = λ m o. let q : n ≡ m = cc in sym q ∙ sym (cands_length scratch' 0 n);
+                meets = record {
+                  does = ap (λ cs. (state_of index s, found cs (map (number_of s.numbers) (ids cs)))) nearest_found ∙ sym (step_on (state_of index s) call (let_through index s d z));
+                  writes = λ i. search_outputs (h.slots_written i) (h.dists_written i) (figures_written i);
+                  keeps = λ m o. absurd (not_refused m o);
+                };
+              }

@@ -13,27 +13,25 @@ use Rattle.std.specs.Option.{option_map, unwrap_or}
 use Rattle.std.proofs.lemmas.Option.{unwrap_or-slice_get}
 use Rattle.std.proofs.lemmas.Iterator.Adapters.{option_map_id}
 use Rattle.lists.specs.Lists.{filter, part as part_of}
-use Rattle.slots.specs.Store.{blank, is_valid, current, refs_of, vector_of, store_view, store_ops, Arrays, arrays}
+use Rattle.slots.specs.Store.{blank, is_valid, current, refs_of, vector_of, store_view, store_ops, Arrays}
 use Rattle.slots.specs.Inner.Rows.{RowShape, ref_at, live_from, LiveVector}
 use Rattle.std.specs.Prelude.{Option, Some, None, Result, Ok, Err}
 use Rattle.slots.proofs.Places.{live_from_whole, live_from_end, live_from_at, live_from_dead}
-use Rattle.numbers.specs.Numbers.{number_of}
 use Rattle.index.specs.declared.Index.{Index}
 use Rattle.reading.specs.declared.Reading.{Reading}
-use Rattle.reading.specs.declared.Reading.TheVariants.{Dim, Capacity, Degree, Alpha, Entry, Live, Mark, Version, Number as Figure, Target}
 use Rattle.reading.specs.declared.Value.{Value}
 use Rattle.reading.specs.declared.Value.TheVariants.{Number, Alpha as Factor, Version as Stamp}
-use Rattle.slots.specs.Sizes.{Slices, lengths_of}
-use Rattle.calls.specs.Calls.{read_vector, read, Operation, Call, number, version, vector, refused_as}
+use Rattle.slots.specs.Sizes.{Slices}
+use Rattle.calls.specs.Calls.{read_vector, read, Operation, Call, vector, refused_as}
 use Rattle.calls.specs.Outputs.{no_outputs, written}
 use Rattle.calls.specs.Refusals.{tests}
 use Rattle.calls.specs.State.{stored}
-use Rattle.calls.specs.Step.{reading, perform}
+use Rattle.calls.specs.Step.{perform}
 use Rattle.calls.specs.Runs.{lent_of, slices_of, call_of}
 use Rattle.index.specs.declared.Refusal.{Refusal}
 use Rattle.index.specs.Refusal.{number_of as row_of}
 use Rattle.index.specs.Index.{state_of}
-use Rattle.index.specs.Inner.Deciding.{labels_of, Decided}
+use Rattle.index.specs.Inner.Deciding.{Decided}
 use Rattle.reading.specs.Inner.Answering.{Answers}
 use Rattle.reading.specs.Read.{reading_of, answer_of, Reads, ReadsVector, GivesVector}
 use Rattle.index.proofs.Decide.{turned_back, let_through, step_back, step_on}
@@ -59,57 +57,11 @@ module _ (a : Arrays) (f : RowShape a.degree a.targets a.edges a.versions a.mark
       ∙ ap (λ l. get_or l place blank) (given_from a.degree 0 (omega arith) ∙ live_from_whole a s)
 
 -- a slot outside has no row
-pub no_row : {degree : ℕ} {targets edges versions marks : List ℕ} (s place : ℕ) → RowShape degree targets edges versions marks → length marks ≤ s
-    → (dim : ℕ) (vectors : List ℕ) → blank ≡ get_or (filter (is_valid marks) (refs_of (arrays dim degree vectors targets edges versions marks) s)) place blank
+pub no_row : (a : Arrays) (s place : ℕ) → RowShape a.degree a.targets a.edges a.versions a.marks → length a.marks ≤ s → blank ≡ get_or (filter (is_valid a.marks) (refs_of a s)) place blank
 unfolding refs_of current
-no_row {degree} {targets} {edges} {versions} {marks} s place f h dim vectors =
-    let k : length targets ≤ s * degree = rw f.targets_long (mul-le-mul_right degree h) in
-    rw (drop_of_length-le targets k, take-nil degree)
-
--- ---- one number
-
-module _ {index : Index} {targets edges versions marks numbers : List ℕ} {q : Reading} where
-  pub answers_dim : q ≡ Dim → Answers index targets edges versions marks numbers q (Number index.dim)
-  unfolding reading_of answer_of reading stored store_ops store_view state_of
-  answers_dim e = record { does = λ vectors pool summary. rw e }
-
-  pub answers_capacity : q ≡ Capacity → Answers index targets edges versions marks numbers q (Number index.capacity)
-  unfolding reading_of answer_of reading stored store_ops store_view state_of
-  answers_capacity e = record { does = λ vectors pool summary. rw e }
-
-  pub answers_degree : q ≡ Degree → Answers index targets edges versions marks numbers q (Number index.degree)
-  unfolding reading_of answer_of reading stored store_ops store_view state_of
-  answers_degree e = record { does = λ vectors pool summary. rw e }
-
-  pub answers_alpha : q ≡ Alpha → Answers index targets edges versions marks numbers q (Factor index.alpha)
-  unfolding reading_of answer_of reading stored store_ops store_view state_of
-  answers_alpha e = record { does = λ vectors pool summary. rw e }
-
-  pub answers_entry : q ≡ Entry → Answers index targets edges versions marks numbers q (Number index.entry)
-  unfolding reading_of answer_of reading stored store_ops store_view state_of
-  answers_entry e = record { does = λ vectors pool summary. rw e }
-
-  pub answers_live : q ≡ Live → Answers index targets edges versions marks numbers q (Number index.live)
-  unfolding reading_of answer_of reading stored store_ops store_view state_of
-  answers_live e = record { does = λ vectors pool summary. rw e }
-
-  pub answers_mark : {s r : ℕ} → q ≡ Mark s → r ≡ cond (is_valid marks s) 1 0 → Answers index targets edges versions marks numbers q (Number r)
-  unfolding reading_of answer_of reading stored store_ops store_view state_of
-  answers_mark e h = record { does = λ vectors pool summary. rw e (ap number h) }
-
-  pub answers_version : {s r : ℕ} → q ≡ Version s → r ≡ get_or versions s 0 → Answers index targets edges versions marks numbers q (Stamp r)
-  unfolding reading_of answer_of reading stored store_ops store_view state_of
-  answers_version e h = record { does = λ vectors pool summary. rw e (ap version h) }
-
-  pub answers_number : {s r : ℕ} → q ≡ Figure s → r ≡ number_of numbers s → Answers index targets edges versions marks numbers q (Number r)
-  unfolding reading_of answer_of reading stored store_ops store_view state_of
-  answers_number e h = record { does = λ vectors pool summary. rw e (ap number h) }
-
-  pub answers_target : {s place r : ℕ} → q ≡ Target s place
-      → ((dim : ℕ) (vectors : List ℕ) → r ≡ get_or (filter (is_valid marks) (refs_of (arrays dim index.degree vectors targets edges versions marks) s)) place blank)
-      → Answers index targets edges versions marks numbers q (Number r)
-  unfolding reading_of answer_of reading stored store_ops store_view state_of
-  answers_target e h = record { does = λ vectors pool summary. rw e (ap number (h index.dim vectors)) }
+no_row a s place f h =
+    let k : length a.targets ≤ s * a.degree = rw f.targets_long (mul-le-mul_right a.degree h) in
+    rw (drop_of_length-le a.targets k, take-nil a.degree)
 
 -- ---- a reading, turned back or not
 
@@ -121,7 +73,7 @@ only_answered (Ok (Number n)) = refl
 only_answered (Ok (Factor a)) = refl
 only_answered (Ok (Stamp n)) = refl
 
-module _ (index : Index) (s : Slices) {A : Type 0} {r : Result A Refusal} (d : Decided index (lengths_of s) (labels_of s) false [] r) where
+module _ {index : Index} {s : Slices} {A : Type 0} {r : Result A Refusal} (d : Decided index s false [] r) where
   -- the call on these slices
   abbrev call : Operation → Call
   call o = record { lent = lent_of s no_outputs []; operation = o }
@@ -131,12 +83,12 @@ module _ (index : Index) (s : Slices) {A : Type 0} {r : Result A Refusal} (d : D
   reads_back {q} {e} z =
       record { meets = record { does = sym (step_back (state_of index s) (call (read (reading_of q))) (row_of e) (turned_back index s d z)); writes = refl; keeps = λ k e. refl } }
 
-  pub reads_on : {q : Reading} {v : Value} {a : A} → r ≡ Ok a → Answers index s.targets s.edges s.versions s.marks s.numbers q v → Reads index s q (Ok v)
+  pub reads_on : {q : Reading} {v : Value} {a : A} → r ≡ Ok a → Answers index s q v → Reads index s q (Ok v)
   unfolding tests perform call_of slices_of state_of
   reads_on {q} {v} z a =
       record {
         meets = record {
-          does = ap (λ a. (state_of index s, a)) (a.does s.vectors s.pool s.summary) ∙ sym (step_on (state_of index s) (call (read (reading_of q))) (let_through index s d z));
+          does = ap (λ a. (state_of index s, a)) a.does ∙ sym (step_on (state_of index s) (call (read (reading_of q))) (let_through index s d z));
           writes = only_answered (Ok v);
           keeps = λ k e. refl;
         };

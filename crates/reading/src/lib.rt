@@ -5,7 +5,7 @@ mod readings;
 mod searching;
 
 pub use readings::{read, read_vector};
-pub use searching::search;
+pub use searching::{Found, Searching, search};
 
 // What can be read of an index as one number.
 #[derive(Clone, Copy)]

@@ -1,51 +1,59 @@
 // Search.
 ghost use Rattle.std.specs.Prelude.{not, ◌||◌, ◌≡◌, min, eqb, ltb, length};
-ghost use Rattle.slots.specs.Sizes.{limits, slices};
-ghost use Rattle.vectors.specs.Vector.{Bytes};
-ghost use Rattle.slots.specs.Store.{arrays};
-ghost use Rattle.slots.specs.Inner.Rows.{RowShape};
-ghost use Rattle.walk.specs.Inner.Scratch.{Ready, Pool};
-ghost use Rattle.index.specs.Index.{lengths_in};
-ghost use Rattle.index.specs.Inner.Deciding.{labels, Decided};
-ghost use Rattle.reading.specs.Search.{searching, search_outputs, Searches};
+ghost use Rattle.slots.specs.Sizes.{limits};
+ghost use Rattle.index.specs.Lent.{slices_of};
+ghost use Rattle.index.specs.Inner.Deciding.{Decided};
+ghost use Rattle.reading.specs.Search.{searching_of, found_of, SameFound, Searches};
 ghost use Rattle.reading.specs.Inner.Finding.{search_tests, Fits, Shown};
 
 use candidates::{Candidate, dist_at, id_at};
 use index::refusals::{check_index, scratch_short};
-use index::{Index, Lengths, Refusal};
+use index::{Index, Refusal, Slices};
 use numbers::copy_numbers;
-use slots::{Graph, Rows, limits};
-use vectors::Space;
+use slots::limits;
 
-// Row 7: the beam is over its limit, or more are asked for than an output holds.
+// Row 7: the beam is over its limit, or more are asked for than the shortest output holds.
 #[tactic(auto, unfolding(slots::specs::Sizes::limits))]
-fn search_over(k: u32, beam: u32, slots: usize, dists: usize, numbers: usize) -> bool
-    ensures { result ≡ (ltb limits.beam beam || ltb (min (min slots dists) numbers) k) }
+fn search_over(k: u32, beam: u32, room: usize) -> bool
+    ensures { result ≡ (ltb limits.beam beam || ltb room k) }
 {
-    limits::BEAM < beam || slots.min(dists).min(numbers) < k as usize
+    limits::BEAM < beam || room < k as usize
+}
+
+// What a search asks for: the `k` nearest to a query, found with a beam.
+#[derive(Clone, Copy)]
+pub struct Searching<'a> {
+    pub query: &'a [u8],
+    pub k: u32,
+    pub beam: u32,
+}
+
+// The lists that a search writes what it finds to: slots, distances and figure numbers.
+#[derive(Drop)]
+pub struct Found<'a> {
+    pub slots: &'a mut [u32],
+    pub dists: &'a mut [f32],
+    pub numbers: &'a mut [u32],
 }
 
 // Turns a search back by the first of rows 1, 2, 3, 6, 7 and 8 that holds.
 fn check_search(
     index: Index,
-    lent: Lengths,
-    marks: &[u8],
-    numbers: &[u32],
-    summary: &[u32],
-    query: usize,
-    k: u32,
-    beam: u32,
-    slots: usize,
-    dists: usize,
-    found: usize,
+    slices: &Slices<'_>,
+    asked: &Searching<'_>,
+    found: &Found<'_>,
     scratch: usize,
 ) -> Result<(), Refusal>
-    requires { (lent.marks ≡ length marks.now) × (lent.numbers ≡ length numbers.now) × (lent.summary ≡ length summary.now) }
-    ensures { Decided index (lengths_in lent) (labels marks.now numbers.now summary.now) (not (eqb query index.dim)) (search_tests index.capacity k beam slots dists found scratch) result }
+    ensures { Decided index (slices_of slices.now) (not (eqb (length asked.now.query.now) index.dim)) (search_tests index.capacity (searching_of asked.now) (found_of found.now) scratch) result }
 {
-    let wrong = query != index.dim as usize;
-    check_index(index, lent, marks, numbers, summary, wrong)?;
-    if search_over(k, beam, slots, dists, found) {
+    let wrong = asked.query.len() != index.dim as usize;
+    check_index(index, slices, wrong)?;
+    let room = found
+        .slots
+        .len()
+        .min(found.dists.len())
+        .min(found.numbers.len());
+    if search_over(asked.k, asked.beam, room) {
         return Err(Refusal::Limits);
     }
     if scratch_short(index.capacity, scratch) {
@@ -66,89 +74,30 @@ fn show(words: &[u32], n: usize, slots: &mut [u32], dists: &mut [f32])
     }
 }
 
-// The walk from the entry, in the scratch. Returns how many candidates it found.
-fn walk_from_entry(
-    index: Index,
-    vectors: &[u8],
-    targets: &[u32],
-    edges: &[u16],
-    versions: &[u16],
-    marks: &[u8],
-    query: &[u8],
-    beam: u32,
-    scratch: &mut [u32],
-) -> usize
-    requires lent { Bytes index.dim (length marks.now) vectors.now × RowShape index.degree targets.now edges.now versions.now marks.now }
-    requires ready { Ready (arrays index.dim index.degree vectors.now targets.now edges.now versions.now marks.now) query.now index.entry beam scratch.old }
-    ensures { Pool (arrays index.dim index.degree vectors.now targets.now edges.now versions.now marks.now) query.now index.entry beam scratch.old scratch.new result }
-{
-    let graph = Graph {
-        space: Space {
-            dim: index.dim as usize,
-            vectors,
-        },
-        rows: Rows {
-            degree: index.degree as usize,
-            targets,
-            edges,
-            versions,
-            marks,
-        },
-    };
-    walk::search_pool(&graph, query, index.entry, beam as usize, scratch)
-}
-
-// The `k` nearest that the walk from the entry finds: their slots, distances and figure numbers, nearest first.
+// The `k` nearest that the walk from the entry finds: their slots, distances and figure numbers, nearest first. Returns how many they are.
 pub fn search(
     index: Index,
-    vectors: &[u8],
-    targets: &[u32],
-    edges: &[u16],
-    versions: &[u16],
-    marks: &[u8],
-    pool: &[u32],
-    numbers: &[u32],
-    summary: &[u32],
-    query: &[u8],
-    k: u32,
-    beam: u32,
-    slots: &mut [u32],
-    dists: &mut [f32],
-    found_numbers: &mut [u32],
+    slices: &Slices<'_>,
+    asked: &Searching<'_>,
+    found: &mut Found<'_>,
     scratch: &mut [u32],
 ) -> Result<u32, Refusal>
-    ensures { Searches index (slices vectors.now targets.now edges.now versions.now marks.now pool.now numbers.now summary.now) (searching query.now k beam)
-        (search_outputs slots.old dists.old found_numbers.old) scratch.old (search_outputs slots.new dists.new found_numbers.new) scratch.new result }
+    ensures { Searches index (slices_of slices.now) (searching_of asked.now) (found_of found.old) scratch.old (found_of found.new) scratch.new result × SameFound found.old found.new }
 {
-    let lent = Lengths {
-        vectors: vectors.len(),
-        targets: targets.len(),
-        edges: edges.len(),
-        versions: versions.len(),
-        marks: marks.len(),
-        pool: pool.len(),
-        numbers: numbers.len(),
-        summary: summary.len(),
-    };
-    check_search(
-        index,
-        lent,
-        marks,
-        numbers,
-        summary,
-        query.len(),
-        k,
-        beam,
-        slots.len(),
-        dists.len(),
-        found_numbers.len(),
-        scratch.len(),
-    )?;
-    let found = walk_from_entry(
-        index, vectors, targets, edges, versions, marks, query, beam, scratch,
+    check_search(index, slices, asked, found, scratch.len())?;
+    let graph = slices.graph(index);
+    let pool = walk::search_pool(
+        &graph,
+        asked.query,
+        index.entry,
+        asked.beam as usize,
+        scratch,
     );
-    let n = found.min(k as usize);
+    let n = pool.min(asked.k as usize);
+    let slots = &mut *found.slots;
+    let dists = &mut *found.dists;
+    let numbers = &mut *found.numbers;
     show(scratch, n, slots, dists);
-    copy_numbers(numbers, slots, n, found_numbers);
+    copy_numbers(slices.numbers, slots, n, numbers);
     Ok(n as u32)
 }

@@ -7,7 +7,7 @@
 ghost use Rattle.std.specs.Prelude.{◌≤◌, length, IfOk};
 
 use index::Index;
-use lines::prepare::{Lent, State};
+use lines::prepare::{Arrays, Lent, State};
 use lines::words::{Call, Changing, Guarding, Looking, parted};
 use std::io;
 use std::io::Read;
@@ -70,62 +70,23 @@ fn nothing() -> State {
             live: 0,
             guard: None,
         },
-        lent: Lent {
-            vectors: 0,
-            targets: 0,
-            edges: 0,
-            versions: 0,
-            marks: 0,
-            pool: 0,
-            numbers: 0,
-            summary: 0,
-            slots: 0,
-            dists: 0,
-            found: 0,
-            words: 0,
-            given: 0,
-            rows: 0,
-            figures: 0,
-        },
+        lent: Lent::default(),
     }
 }
 
 // Performs a line, and says what it asks for.
-// The slices go one by one: tried as a struct of arrays, of which the borrow check covers no part that is lent to a call.
 fn perform(
     line: &[u8],
     state: &mut State,
-    given: &mut [u8],
-    rows: &mut [u32],
-    figures: &mut [u32],
-    vectors: &mut [u8],
-    targets: &mut [u32],
-    edges: &mut [u16],
-    versions: &mut [u16],
-    marks: &mut [u8],
-    pool: &mut [u32],
-    numbers: &mut [u32],
-    summary: &mut [u32],
+    arrays: &mut Arrays<'_>,
     scratch: &mut [u32],
 ) -> Result<Call, Differs> {
     let (call, mut rest) = parted(line)?;
     match call {
-        Call::Prepare(what) => lines::prepare::perform(
-            what, &mut rest, state, given, rows, figures, vectors, targets, edges, versions, marks,
-            numbers, summary,
-        )?,
-        Call::Change(what) => changes::perform(
-            what, &mut rest, state, given, rows, figures, vectors, targets, edges, versions, marks,
-            pool, numbers, summary, scratch,
-        )?,
-        Call::Guard(what) => guards::perform(
-            what, &mut rest, state, rows, vectors, targets, edges, versions, marks, pool, numbers,
-            summary, scratch,
-        )?,
-        Call::Look(what) => looks::perform(
-            what, &mut rest, *state, vectors, targets, edges, versions, marks, pool, numbers,
-            summary, scratch,
-        )?,
+        Call::Prepare(what) => lines::prepare::perform(what, &mut rest, state, arrays)?,
+        Call::Change(what) => changes::perform(what, &mut rest, state, arrays, scratch)?,
+        Call::Guard(what) => guards::perform(what, &mut rest, state, arrays, scratch)?,
+        Call::Look(what) => looks::perform(what, &mut rest, *state, arrays, scratch)?,
     }
     Ok(call)
 }
@@ -159,17 +120,7 @@ fn replay(
     rt: &impl Print,
     errors: &impl Print,
     list: &[u8],
-    given: &mut [u8],
-    rows: &mut [u32],
-    figures: &mut [u32],
-    vectors: &mut [u8],
-    targets: &mut [u32],
-    edges: &mut [u16],
-    versions: &mut [u16],
-    marks: &mut [u8],
-    pool: &mut [u32],
-    numbers: &mut [u32],
-    summary: &mut [u32],
+    arrays: &mut Arrays<'_>,
     scratch: &mut [u32],
 ) -> io::Result<Counts> {
     let mut counts = Counts {
@@ -183,10 +134,7 @@ fn replay(
         if line.starts_with(b"#") {
             continue;
         }
-        let performed = perform(
-            line, &mut state, given, rows, figures, vectors, targets, edges, versions, marks, pool,
-            numbers, summary, scratch,
-        );
+        let performed = perform(line, &mut state, arrays, scratch);
         count(rt, errors, &mut counts, line, performed)?;
     }
     Ok(counts)
@@ -206,23 +154,20 @@ fn replay_list(rt: &impl Print, errors: &impl Print, list: &[u8]) -> io::Result<
     let mut numbers = [0u32; 65536];
     let mut summary = [0u32; 65536];
     let mut scratch = [0u32; 235520];
-    let counts = replay(
-        rt,
-        errors,
-        list,
-        &mut given,
-        &mut rows,
-        &mut figures,
-        &mut vectors,
-        &mut targets,
-        &mut edges,
-        &mut versions,
-        &mut marks,
-        &mut pool,
-        &mut numbers,
-        &mut summary,
-        &mut scratch,
-    )?;
+    let mut arrays = Arrays {
+        given: &mut given,
+        rows: &mut rows,
+        figures: &mut figures,
+        vectors: &mut vectors,
+        targets: &mut targets,
+        edges: &mut edges,
+        versions: &mut versions,
+        marks: &mut marks,
+        pool: &mut pool,
+        numbers: &mut numbers,
+        summary: &mut summary,
+    };
+    let counts = replay(rt, errors, list, &mut arrays, &mut scratch)?;
     counts.report(rt)
 }
 

@@ -1,6 +1,6 @@
 -- What a changed slice keeps: slices that belong together, and another slot's row as it is worked out. Assumes nothing.
 use Prim.Native.Nat.{ℕ, ◌<◌}
-use mathlib.Core.Path.{◌≡◌, refl, ap, sym, ◌∙◌}
+use mathlib.Core.Path.{◌≡◌, refl, ap, sym, ◌∙◌, subst}
 use mathlib.Core.List.{List}
 use lib.ListN.{length}
 use lib.Ieee.{Float}
@@ -8,8 +8,11 @@ use Rattle.vectors.specs.Space.{slot_distance}
 use Rattle.candidates.specs.Candidates.{Candidate, scored}
 use Rattle.slots.specs.View.{live_neighbors}
 use Rattle.slots.specs.Store.{Arrays, Shaped, Store, vector_of, store_view, store_ops, with_arrays, write_neighbors, arrays}
-use Rattle.slots.proofs.Writes.{Whole, after_write, neighbors_kept}
+use Rattle.slots.proofs.Writes.{Whole, after_write, neighbors_kept, store_writes}
 use Rattle.prune.specs.Prune.{prune}
+use Rattle.slots.proofs.Slices.{same_then}
+use Rattle.row.specs.Lent.{SamePruner}
+use Rattle.row.specs.declared.pruner.Pruner.{Pruner}
 use Rattle.row.specs.Row.{Together, index_of, live_scored}
 
 -- ---- the slices
@@ -38,9 +41,40 @@ together_shaped x =
       marks_long = refl;
     }
 
+-- what writing a row leaves as it is: the sizes of all slices
+module _ (alpha : Float) (a a' : Arrays) (s : ℕ) (x : List ℕ) (o : Together a) (e : index_of alpha 0 a' ≡ store_ops.write (index_of alpha 0 a) s x) where
+  abbrev b : Store
+  b = index_of alpha 0 a
+
+  size_kept : (f : Store → ℕ) → (s < b.capacity → f (with_arrays b (write_neighbors b.arrays s x)) ≡ f b) → f (index_of alpha 0 a') ≡ f b
+  size_kept f h = ap f e ∙ after_write (λ d. f d ≡ f b) b s x h refl
+
+  pub together_written : Together a'
+  together_written =
+      let capacity : length a'.marks ≡ length a.marks = size_kept (λ d. d.capacity) (λ h. refl) in
+      let dim : a'.dim ≡ a.dim = size_kept (λ d. d.arrays.dim) (λ h. unfold write_neighbors in refl) in
+      let degree : a'.degree ≡ a.degree = size_kept (λ d. d.arrays.degree) (λ h. unfold write_neighbors in refl) in
+      let g : Whole (index_of alpha 0 a') = subst Whole (sym e) (store_writes.ok b s x (together_shaped o)) in
+      record {
+        bytes = record { long = g.vectors_long; small = rw dim o.bytes.small };
+        rows =
+            record {
+              targets_long = g.targets_long;
+              edges_long = g.edges_long;
+              versions_long = g.versions_long;
+              few = rw capacity o.rows.few;
+            };
+        degree_most = rw degree o.degree_most;
+      }
+
 -- the index with other slices, as many marks among them
 pub index_with : (alpha : Float) (entry : ℕ) (a a' : Arrays) → length a'.marks ≡ length a.marks → index_of alpha entry a' ≡ with_arrays (index_of alpha entry a) a'
 index_with alpha entry a a' e = ap (λ (n : ℕ). record { arrays = a'; capacity = n; alpha = alpha; entry = entry }) e
+
+-- a pruner stays, call after call
+pub pruner_then : {n : ℕ} {p p₁ p₂ : Pruner n} → SamePruner p p₁ → SamePruner p₁ p₂ → SamePruner p p₂
+pruner_then f g =
+    record { slices = same_then f.slices g.slices; rows = g.rows ∙ f.rows; alpha = g.alpha ∙ f.alpha; marks = g.marks ∙ f.marks; space = g.space ∙ f.space }
 
 -- ---- a row is written: what is read of another slot stays, and so does every selection
 distances_kept : (b : Store) (s t : ℕ) (x row : List ℕ)

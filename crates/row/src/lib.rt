@@ -1,15 +1,18 @@
-// The row of a slot, worked out in lent words: its live targets with their distances, and a selection of candidates that is written as the row.
+// The row of a slot, worked out in lent words: its live targets with their distances, and a selection of candidates that is written as the row. C lends the words
+// as one block, so a list of candidates is a place and a number.
 #![tactic(auto)]
 
 ghost use Rattle.std.specs.Prelude.{◌≡◌, ◌+◌, ◌*◌, ◌<◌, ◌≤◌, length};
-ghost use Rattle.vectors.specs.Vector.{Bytes};
-ghost use Rattle.slots.specs.Lent.{graph_of, rows_mut_of, SameSlices};
-ghost use Rattle.row.specs.Row.{Together, LiveScored, Writable, WroteIds, Prunable, WrotePruned};
+ghost use Rattle.slots.specs.Lent.{graph_of, SameSlices};
+ghost use Rattle.row.specs.Row.{LiveScored, Writable, WroteIds};
 
-use distances::Kept;
+mod pruner;
+
+pub use pruner::Pruner;
 use slots::{Graph, RowsMut};
 
-// The live row of slot `s`, each target with its distance to `s`, as candidates at `at`. Returns how many they are.
+// The live row of slot `s`, each target with its distance to `s`, as candidates at `at`. Returns how many they are. Written by hand: with `filter_map` and
+// `zip` over the words their number would still have to be counted, so that is no plainer.
 pub fn live_scored(graph: &Graph<'_>, s: u32, scratch: &mut [u32], at: usize) -> usize
     requires { (s < length (graph_of graph.now).marks) × (at + 2 * (graph_of graph.now).degree ≤ length scratch.old) }
     ensures { LiveScored (graph_of graph.now) s scratch.old at result scratch.new }
@@ -40,26 +43,4 @@ pub fn write_ids(
 {
     candidates::copy_ids(scratch, at, n, to);
     rows.write(s as usize, &scratch[to..to + n]);
-}
-
-// Selects from the `n` candidates at `at`, which it rearranges, and writes the selection as the row of slot `s`. The selection lies at `to`. Distances that the
-// table `kept` has are read there.
-pub fn write_pruned<const N: usize>(
-    alpha: f32,
-    kept: &mut Kept<'_, N>,
-    rows: &mut RowsMut<'_>,
-    marks: &[u8],
-    s: u32,
-    scratch: &mut [u32],
-    at: usize,
-    n: usize,
-    to: usize,
-)
-    requires together { Together (rows_mut_of kept.old.space.dim kept.old.space.vectors.now rows.old marks.now) }
-    requires s_in_bounds { (s < length marks.now) × Prunable rows.old.degree scratch.old at n to }
-    ensures { WrotePruned alpha (rows_mut_of kept.old.space.dim kept.old.space.vectors.now rows.old marks.now) s scratch.old at n to
-        (rows_mut_of kept.old.space.dim kept.old.space.vectors.now rows.new marks.now) scratch.new × SameSlices rows.old rows.new × (kept.new.space ≡ kept.old.space) }
-{
-    let r = prune::prune_scored(rows.degree, alpha, kept, marks, s, scratch, at, n, to);
-    write_ids(rows, s, scratch, to, r, to);
 }

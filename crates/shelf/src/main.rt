@@ -1,10 +1,10 @@
 // Document 01's small shelf: it is made with the numbers 30, 10 and 20, 6 is inserted with 41 and slot 1 deleted; then it is printed, as read.
 #![tactic(auto)]
 
-use index::{Index, Refusal};
+use index::{DeleteSlices, Index, InsertSlices, Making, NewSlices, Refusal};
 use reading::{Reading, Value};
 use std::io;
-use updating::Naming;
+use updating::{Changed, Deleting, Inserting, Naming};
 
 const BLANK: u32 = u32::MAX;
 
@@ -46,115 +46,99 @@ fn print_shelf<F: Fn(Reading) -> u32>(rt: &impl Print, read: &F) -> io::Result<(
     Ok(())
 }
 
-// Inserts 6, deletes slot 1 and prints what is left.
-fn change(
-    rt: &impl Print,
+// Makes the shelf.
+fn make(slices: &mut NewSlices<'_>) -> Result<Index, Refusal> {
+    let given = Making {
+        dim: 1,
+        capacity: 4,
+        degree: 2,
+        alpha: 1.0,
+        entry: 1,
+        count: 3,
+        bytes: &[0, 3, 10],
+        rows: &[1, BLANK, 0, 2, 1, BLANK],
+        numbers: &[30, 10, 20],
+    };
+    index::create(&given, slices)
+}
+
+// Inserts 6 with the number 41.
+fn insert(
     index: Index,
-    vectors: &mut [u8; 4],
-    targets: &mut [u32; 8],
-    edges: &mut [u16; 8],
-    versions: &mut [u16; 4],
-    marks: &mut [u8; 4],
-    pool: &[u32; 1024],
-    numbers: &mut [u32; 4],
-    summary: &mut [u32; 4],
-) -> io::Result<()> {
-    let mut scratch = [0u32; 169988];
+    slices: &mut NewSlices<'_>,
+    scratch: &mut [u32],
+) -> Result<Changed, Refusal> {
     let mut slots = [0u32; 1];
-    let bytes = [6u8];
-    let given = [41u32];
-    let ids = [1u32];
-    let inserted = updating::insert(
-        index,
-        vectors,
-        targets,
-        edges,
+    let asked = Inserting {
+        bytes: &[6],
+        numbers: &[41],
+        beam: 2,
+    };
+    let versions = &mut *slices.versions;
+    let pool = &mut *slices.pool;
+    let mut slices = InsertSlices {
+        vectors: slices.vectors,
+        targets: slices.targets,
+        edges: slices.edges,
         versions,
-        marks,
+        marks: slices.marks,
         pool,
-        numbers,
-        summary,
-        &bytes,
-        &given,
-        2,
-        &mut slots,
-        &mut scratch,
-    );
-    let Ok(fuller) = inserted else {
-        return Ok(());
+        numbers: slices.numbers,
+        summary: slices.summary,
     };
-    let deleted = updating::delete(
-        fuller.index,
+    updating::insert(index, &mut slices, &asked, &mut slots, scratch)
+}
+
+// Deletes slot 1.
+fn delete(
+    index: Index,
+    slices: &mut NewSlices<'_>,
+    scratch: &mut [u32],
+) -> Result<Changed, Refusal> {
+    let asked = Deleting {
+        names: &[1],
+        naming: Naming::Slots,
+        repair_beam: 2,
+        repair_degree: 1,
+    };
+    let vectors = &mut *slices.vectors;
+    let pool = &mut *slices.pool;
+    let mut slices = DeleteSlices {
         vectors,
-        targets,
-        edges,
-        versions,
-        marks,
+        targets: slices.targets,
+        edges: slices.edges,
+        versions: slices.versions,
+        marks: slices.marks,
         pool,
-        numbers,
-        summary,
-        &ids,
-        Naming::Slots,
-        2,
-        1,
-        1,
-        &mut scratch,
-    );
-    let Ok(left) = deleted else {
-        return Ok(());
+        numbers: slices.numbers,
+        summary: slices.summary,
     };
-    let read = |what: Reading| {
-        number(reading::read(
-            left.index, vectors, targets, edges, versions, marks, pool, numbers, summary, what,
-        ))
-    };
-    print_shelf(rt, &read)
+    updating::delete(index, &mut slices, &asked, 1, scratch)
+}
+
+// Makes the shelf, inserts 6 and deletes slot 1, with as many words of scratch as `index::scratch_words` says.
+fn changed(slices: &mut NewSlices<'_>) -> Result<Index, Refusal> {
+    let mut scratch = [0u32; 169988];
+    let shelf = make(slices)?;
+    let fuller = insert(shelf, slices, &mut scratch)?;
+    let left = delete(fuller.index, slices, &mut scratch)?;
+    Ok(left.index)
 }
 
 fn main(rt: HostRuntime) -> io::Result<()> {
-    let mut vectors = [0u8; 4];
-    let mut targets = [0u32; 8];
-    let mut edges = [0u16; 8];
-    let mut versions = [0u16; 4];
-    let mut marks = [0u8; 4];
-    let mut pool = [0u32; 1024];
-    let mut numbers = [0u32; 4];
-    let mut summary = [0u32; 4];
-    let bytes = [0u8, 3, 10];
-    let rows = [1u32, BLANK, 0, 2, 1, BLANK];
-    let given = [30u32, 10, 20];
-    let made = index::create(
-        1,
-        4,
-        2,
-        1.0,
-        1,
-        3,
-        &bytes,
-        &rows,
-        &given,
-        &mut vectors,
-        &mut targets,
-        &mut edges,
-        &mut versions,
-        &mut marks,
-        &mut pool,
-        &mut numbers,
-        &mut summary,
-    );
-    let Ok(shelf) = made else {
+    let mut slices = NewSlices {
+        vectors: &mut [0; 4],
+        targets: &mut [0; 8],
+        edges: &mut [0; 8],
+        versions: &mut [0; 4],
+        marks: &mut [0; 4],
+        pool: &mut [0; 1024],
+        numbers: &mut [0; 4],
+        summary: &mut [0; 4],
+    };
+    let Ok(index) = changed(&mut slices) else {
         return Ok(());
     };
-    change(
-        &rt,
-        shelf,
-        &mut vectors,
-        &mut targets,
-        &mut edges,
-        &mut versions,
-        &mut marks,
-        &pool,
-        &mut numbers,
-        &mut summary,
-    )
+    let read = |what: Reading| number(reading::read(index, &slices.read(), what));
+    print_shelf(&rt, &read)
 }

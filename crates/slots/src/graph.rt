@@ -32,3 +32,28 @@ pub struct RowsMut<'a> {
     pub edges: &'a mut [u16],
     pub versions: &'a [u16],
 }
+
+impl RowsMut<'_> {
+    ghost use Rattle.std.specs.Prelude.{◌≡◌, length};
+    ghost use Rattle.vectors.specs.Vector.{Bytes};
+    ghost use Rattle.slots.specs.Inner.Rows.{RowShape};
+    ghost use Rattle.slots.specs.Lent.{graph_of, rows_mut_of};
+
+    // The graph that the rows make, beside vectors and marks.
+    pub fn graph<'a>(&'a self, space: Space<'a>, marks: &'a [u8]) -> Graph<'a>
+        requires bytes { Bytes space.dim (length marks.now) space.vectors.now }
+        requires shape { RowShape self.now.degree self.now.targets.now self.now.edges.now self.now.versions.now marks.now }
+        ensures { graph_of result ≡ rows_mut_of space.entry.dim space.entry.vectors.now self.now marks.now }
+    {
+        Graph {
+            space,
+            rows: Rows {
+                degree: self.degree,
+                targets: &*self.targets,
+                edges: &*self.edges,
+                versions: self.versions,
+                marks,
+            },
+        }
+    }
+}

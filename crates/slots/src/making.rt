@@ -15,6 +15,7 @@ fn mark_given(marks: &mut [u8], given: usize)
 }
 
 // Writes a new index: the given vectors and rows into the first slots, which are live; zeros and blanks into the others.
+// It is lent the slices one by one: the struct of an index's slices is of the crate `index`, above, and one of six slices for that one caller would be no plainer.
 pub fn write_new(
     dim: usize,
     capacity: usize,

@@ -1,18 +1,11 @@
-// A mark and a version for each slot.
-ghost use Rattle.std.specs.Prelude.{◌≡◌, ◌+◌, ◌<◌, ◌≤◌, length, slice_index};
+// A mark for each slot.
+ghost use Rattle.std.specs.Prelude.{◌≡◌, ◌+◌, ◌<◌, ◌≤◌, length};
 ghost use Rattle.lists.specs.Lists.{filter, range};
 ghost use Rattle.vectors.specs.Vector.{Bytes};
 ghost use Rattle.slots.specs.Store.{is_valid};
 ghost use Rattle.slots.specs.Inner.Rows.{LiveVector};
 
 use vectors::Space;
-
-// A slot number as an index.
-pub fn wide(x: u32) -> usize
-    ensures { result ≡ x }
-{
-    x as usize
-}
 
 // Whether slot `s` is live; a slot outside is not.
 pub fn is_valid(marks: &[u8], s: usize) -> bool
@@ -42,13 +35,6 @@ pub fn count_valid(marks: &[u8]) -> usize
         n += usize::from(count_block(block));
     }
     n
-}
-
-// The version of slot `s`; 0 for a slot outside.
-pub fn node_version(versions: &[u16], s: usize) -> u16
-    ensures { result ≡ slice_index versions.now s }
-{
-    versions.get(s).copied().unwrap_or(0)
 }
 
 // The vector of slot `s` as that part of the lent bytes; the empty part for a slot that is dead or outside.

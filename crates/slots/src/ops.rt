@@ -5,7 +5,6 @@ ghost use Rattle.slots.specs.Inner.Writing.{SlotIn, Filled, Wrote, Killed, Finis
 ghost use Rattle.slots.specs.Lent.{SameSlices};
 
 use super::graph::RowsMut;
-use super::marks::node_version;
 use super::parts::write_vector;
 use super::rows::BLANK;
 
@@ -16,7 +15,7 @@ fn edge_version(versions: &[u16], id: u32) -> u16
     if id == BLANK {
         return 0;
     }
-    node_version(versions, id as usize)
+    versions.get(id as usize).copied().unwrap_or(0)
 }
 
 impl RowsMut<'_> {

@@ -6,9 +6,8 @@ ghost use Rattle.slots.specs.Inner.Rows.{RowShape, ref_at};
 ghost use Rattle.slots.specs.Lent.{rows_of};
 
 use super::graph::Rows;
-use super::marks::node_version;
 
-// The target of a blank reference.
+// The target of a blank reference: a word like the others, not a `None`, since C lends rows as words.
 pub const BLANK: u32 = 4294967295;
 
 impl Rows<'_> {
@@ -60,7 +59,7 @@ impl Rows<'_> {
         if id == BLANK {
             return false;
         }
-        let version = node_version(self.versions, id as usize);
+        let version = self.versions.get(id as usize).copied().unwrap_or(0);
         let base = s * self.degree;
         for at in base..base + self.degree {
             if self.targets[at] == id && self.edges[at] == version {

@@ -1,37 +1,39 @@
 -- Delete: what the code decides and writes is what the definitions say. Assumes nothing.
 use Prim.Native.Nat.{ℕ, ◌+◌, ◌-◌, ◌≤◌}
-use mathlib.Core.Bool.{Bool, true, false, ◌||◌}
+use mathlib.Core.Bool.{true, false, ◌||◌}
 use mathlib.Core.Path.{◌≡◌, refl, sym, ap, ap₂, ◌∙◌, subst}
 use mathlib.Core.List.{List, [], ◌∷◌, map}
 use mathlib.Core.Option.{some}
 use native.Mathlib.Omega.{arith}
 use borrow.Author.Tests.{ltb-false}
 use lib.Dec.{ltb}
+use lib.Ieee.{Float}
 use lib.ListN.{length}
 use Rattle.lists.specs.Lists.{filter, range}
 use Rattle.lists.proofs.Filter.{filter_length}
 use Rattle.lists.proofs.Ranges.{length_range}
-use Rattle.slots.specs.Sizes.{Slices, slices, lengths_of, limits}
+use Rattle.slots.specs.Sizes.{Slices, limits}
 use Rattle.slots.specs.Scratch.{size_answer}
 use Rattle.slots.specs.View.{live_slots, emptied}
-use Rattle.slots.specs.Store.{Store, is_valid, store_view, store_ops, arrays}
+use Rattle.slots.specs.Store.{Arrays, Store, is_valid, store_view, store_ops}
 use Rattle.slots.proofs.Live.{live_and_free, MarksFit, store_marking}
+use Rattle.row.specs.Row.{index_of}
 use Rattle.repair.specs.Delete.{Stats, delete_batch}
-use Rattle.repair.proofs.Count.{live_after_delete, none_revived}
+use Rattle.repair.proofs.Count.{sizes_after_delete, live_after_delete, none_revived}
 use Rattle.numbers.specs.Numbers.{live_numbers, summary_of, Labelled}
 use Rattle.numbers.specs.Inner.Listed.{Struck}
 use Rattle.deletion.specs.Batch.{stats_at, stats_of, Deletable, BatchDeleted}
 use Rattle.deletion.proofs.Batching.{delete_enough, deleted_store}
 use Rattle.calls.specs.Calls.{delete, Call, deleted, refused_as}
-use Rattle.calls.specs.Refusals.{tests}
+use Rattle.calls.specs.Refusals.{delete_over, tests}
 use Rattle.calls.specs.Outputs.{room_of, written}
 use Rattle.calls.specs.State.{State, stored, shown, with_graph}
 use Rattle.calls.specs.Step.{slots_of, deletion, refusal, perform}
 use Rattle.calls.specs.Runs.{lent_of, slices_of, call_of, run_refusal}
 use Rattle.calls.proofs.Tests.{first_none, or_neither}
 use Rattle.index.specs.declared.Index.{Index}
-use Rattle.index.specs.Index.{guard_of, state_of}
-use Rattle.index.specs.Inner.Deciding.{labels_of, Decided, Passed}
+use Rattle.index.specs.Index.{guard_of, state_of, arrays_of}
+use Rattle.index.specs.Inner.Deciding.{Decided, Passed}
 use Rattle.index.proofs.Decide.{turned_back, let_through, own_none, not_wrong, passed, passed_rows, passed_marks, passed_bytes, step_back, step_on}
 use Rattle.std.specs.Prelude.{Result, Ok, Err}
 use Rattle.index.specs.declared.Refusal.{Refusal}
@@ -41,9 +43,17 @@ use Rattle.updating.proofs.Fills.{ok_is}
 use Rattle.updating.specs.Delete.{stats_outputs, deleted_as, index_left, Deletes}
 use Rattle.updating.specs.Inner.Emptying.{delete_tests, slot_delete, with_entry, fewer}
 
--- row 7
-abbrev over_limit : ℕ → ℕ → ℕ → Bool
-over_limit beam degree ids = ltb limits.repair_beam beam || ltb limits.repair_degree degree || ltb limits.ids ids
+-- as many marks are left
+pub marks_kept : {alpha : Float} {a a' : Arrays} {entry beam degree entry' n : ℕ} {ids scratch' : List ℕ} → BatchDeleted a alpha entry beam degree ids a' entry' n scratch'
+    → length a'.marks ≡ length a.marks
+unfolding store_ops store_view
+marks_kept {alpha} {a} {entry = entry} {beam} {degree} {ids = ids} b =
+    sym (ap (λ (x : Store × List Stats). (store_view x.0).sizes.capacity) b.does)
+    ∙ ap (λ z. z.capacity) (sizes_after_delete store_ops MarksFit store_marking (index_of alpha entry a) refl beam degree ids)
+
+-- so there are as many numbers
+pub strike_long : {numbers marks : ℕ} (kept : List ℕ) {now : List ℕ} → numbers ≡ marks → length kept ≡ marks → now ≡ kept → numbers ≡ length now
+strike_long kept long same e = rw e (long ∙ sym same)
 
 -- ---- the batch of an index that passed
 
@@ -51,8 +61,8 @@ module _ {index : Index} {s : Slices} (able : Passed index s) (ids : List ℕ) (
   abbrev given : Store
   given = (state_of index s).graph
 
-  pub delete_able : (scratch : List ℕ) → over_limit beam degree (length ids) ≡ false → ltb (length scratch) (size_answer index.capacity) ≡ false
-      → Deletable (arrays index.dim index.degree s.vectors s.targets s.edges s.versions s.marks) index.entry beam degree ids scratch
+  pub delete_able : (scratch : List ℕ) → delete_over limits (slot_delete ids beam degree) ≡ false → ltb (length scratch) (size_answer index.capacity) ≡ false
+      → Deletable (arrays_of index s) index.entry beam degree ids scratch
   unfolding limits
   delete_able scratch over short =
       let m = passed_marks able in
@@ -75,13 +85,14 @@ module _ {index : Index} {s : Slices} (able : Passed index s) (ids : List ℕ) (
     omega (arith, able.summary_long, able.live_right, filter_length (is_valid s.marks) (range 0 index.capacity), length_range 0 index.capacity),
   )
 
-  module _ {targets' edges' versions' marks' numbers' summary' scratch' : List ℕ} {entry' n : ℕ}
-      (b : BatchDeleted (arrays index.dim index.degree s.vectors s.targets s.edges s.versions s.marks) index.alpha index.entry beam degree ids
-      (arrays index.dim index.degree s.vectors targets' edges' versions' marks') entry' n scratch')
-      (k : Struck marks' s.numbers s.summary index.live numbers' summary')
-      (lm : length marks' ≡ length s.marks) where
+  -- of the slices that it leaves
+  module _ (s' : Slices) {scratch' : List ℕ} {entry' n : ℕ} (b : BatchDeleted (arrays_of index s) index.alpha index.entry beam degree ids (arrays_of index s') entry' n scratch')
+      (k : Struck s'.marks s.numbers s.summary index.live s'.numbers s'.summary) where
+    lm : length s'.marks ≡ length s.marks
+    lm = marks_kept b
+
     abbrev left : Store
-    left = record { arrays = arrays index.dim index.degree s.vectors targets' edges' versions' marks'; capacity = index.capacity; alpha = index.alpha; entry = entry' }
+    left = record { arrays = arrays_of index s'; capacity = index.capacity; alpha = index.alpha; entry = entry' }
 
     abbrev stats_left : List Stats
     stats_left = map (stats_of scratch' (stats_at index.capacity)) (range 0 n)
@@ -112,45 +123,51 @@ module _ {index : Index} {s : Slices} (able : Passed index s) (ids : List ℕ) (
     live_left = omega (arith, live_before)
 
     -- the numbers of those that are live still
-    so_many : length marks' ≡ index.capacity
+    so_many : length s'.marks ≡ index.capacity
     so_many = lm ∙ passed_marks able
 
-    numbers_left : numbers' ≡ live_numbers (is_valid marks') index.capacity s.numbers
-    numbers_left = k.zeroed ∙ ap (λ c. live_numbers (is_valid marks') c s.numbers) so_many
+    numbers_left : s'.numbers ≡ live_numbers (is_valid s'.marks) index.capacity s.numbers
+    numbers_left = k.zeroed ∙ ap (λ c. live_numbers (is_valid s'.marks) c s.numbers) so_many
 
-    still_live : (t : ℕ) → is_valid marks' t ≡ true → is_valid s.marks t ≡ true
+    still_live : (t : ℕ) → is_valid s'.marks t ≡ true → is_valid s.marks t ≡ true
     unfolding store_ops store_view state_of
     still_live t h =
         none_revived store_ops MarksFit store_marking given (passed_marks able) beam degree ids t
         (ap (λ (g : Store). (store_view g).live t) (ap (λ x. x.0) does_delete) ∙ h)
 
-    summary_left : summary' ≡ summary_of (is_valid marks') index.capacity (live_numbers (is_valid marks') index.capacity s.numbers)
+    summary_left : s'.summary ≡ summary_of (is_valid s'.marks) index.capacity (live_numbers (is_valid s'.marks) index.capacity s.numbers)
     unfolding state_of store_view
     summary_left =
         k.listed (is_valid s.marks) (subst (λ c. Labelled (is_valid s.marks) c s.numbers s.summary) (sym so_many) able.labelled)
         (able.live_right ∙ ap (λ c. length (filter (is_valid s.marks) (range 0 c))) (sym so_many)) (λ t h e. still_live t e)
-        ∙ ap₂ (λ (c : ℕ) (l : List ℕ). summary_of (is_valid marks') c l) so_many numbers_left
+        ∙ ap₂ (λ (c : ℕ) (l : List ℕ). summary_of (is_valid s'.marks) c l) so_many numbers_left
 
     -- the index that is left, by value and by its slices, and its stats
-    pub state_left : {i : Index} → i ≡ with_entry index entry' (index.live - n)
-        → (state_of i (slices s.vectors targets' edges' versions' marks' s.pool numbers' summary'), stats_left) ≡ deletion stored (state_of index s) (slot_delete ids beam degree)
+    pub state_left : {i : Index} → s'.pool ≡ s.pool → i ≡ with_entry index entry' (index.live - n)
+        → (state_of i s', stats_left) ≡ deletion stored (state_of index s) (slot_delete ids beam degree)
     unfolding deletion slots_of with_graph state_of stored store_ops store_view
-    state_left e =
-        ap (λ (j : Index). (state_of j (slices s.vectors targets' edges' versions' marks' s.pool numbers' summary'), stats_left)) e
-        ∙ (λ i. (record { graph = left; live = live_left i; guard = guard_of index.guard; pool = s.pool; numbers = numbers_left i; summary = summary_left i }, stats_left))
+    state_left p e =
+        ap (λ (j : Index). (state_of j s', stats_left)) e
+        ∙ (λ i. (record { graph = left; live = live_left i; guard = guard_of index.guard; pool = p i; numbers = numbers_left i; summary = summary_left i }, stats_left))
         ∙ ap (λ (d : Store × List Stats). let v = store_view d.0 in (with_graph stored (state_of index s) d.0 (live_numbers v.live v.sizes.capacity s.numbers), d.1)) (sym does_delete)
 
 -- ---- a delete of slots
 
-module _ (index : Index) (s : Slices) (ids : List ℕ) (beam degree room : ℕ) (scratch : List ℕ) {A : Type 0} {r : Result A Refusal}
-    (d : Decided index (lengths_of s) (labels_of s) (ltb room (length ids)) (delete_tests index.capacity (length ids) beam degree (length scratch)) r) where
+-- of slices that are read as s₀
+module _ (index : Index) {s₀ s : Slices} (same : s₀ ≡ s) (ids : List ℕ) (beam degree room : ℕ) (scratch : List ℕ) {A : Type 0} {r : Result A Refusal}
+    (d₀ : Decided index s₀ (ltb room (length ids)) (delete_tests index (slot_delete ids beam degree) (length scratch)) r) where
+  abbrev Tests : Slices → ℕ → Type 0
+  Tests s room = Decided index s (ltb room (length ids)) (delete_tests index (slot_delete ids beam degree) (length scratch)) r
+
+  d : Tests s room
+  d = subst (λ (x : Slices). Tests x room) same d₀
+
   abbrev call : List Stats → Call
   call before = record { lent = lent_of s (stats_outputs before) scratch; operation = delete (slot_delete ids beam degree) }
 
   -- for a list of that room
-  with_list : (before : List Stats) → length before ≡ room
-      → Decided index (lengths_of s) (labels_of s) (ltb (length before) (length ids)) (delete_tests index.capacity (length ids) beam degree (length scratch)) r
-  with_list before e = subst (λ (k : ℕ). Decided index (lengths_of s) (labels_of s) (ltb k (length ids)) (delete_tests index.capacity (length ids) beam degree (length scratch)) r) (sym e) d
+  with_list : (before : List Stats) → length before ≡ room → Tests s (length before)
+  with_list before e = subst (λ (k : ℕ). Tests s k) (sym e) d
 
   pub deletes_back : {x : Refusal} → r ≡ Err x → Deletes index s (slot_delete ids beam degree) room scratch s scratch (Err x)
   unfolding tests refused_as deleted_as index_left written state_of stored store_ops store_view shown room_of call_of slices_of
@@ -166,34 +183,35 @@ module _ (index : Index) (s : Slices) (ids : List ℕ) (beam degree room : ℕ) 
     pub able : Passed index s
     able = passed index s d z
 
-    over : over_limit beam degree (length ids) ≡ false
-    over = (first_none 7 _ ((8, ltb (length scratch) (size_answer index.capacity)) ∷ []) (own_none index s d z)).0
+    own : (delete_over limits (slot_delete ids beam degree) ≡ false) × (ltb (length scratch) (size_answer index.capacity) ≡ false)
+    own =
+        let short = ltb (length scratch) (size_answer index.capacity) in
+        let e = first_none 7 (delete_over limits (slot_delete ids beam degree)) ((8, short) ∷ []) (own_none index s d z) in
+        (e.0, (first_none 8 short [] e.1).0)
 
-    short : ltb (length scratch) (size_answer index.capacity) ≡ false
-    short = (first_none 8 _ [] (first_none 7 (over_limit beam degree (length ids)) ((8, ltb (length scratch) (size_answer index.capacity)) ∷ []) (own_none index s d z)).1).0
-
-    pub deletes_able : Deletable (arrays index.dim index.degree s.vectors s.targets s.edges s.versions s.marks) index.entry beam degree ids scratch
+    pub deletes_able : Deletable (arrays_of index s) index.entry beam degree ids scratch
         × (length s.numbers ≡ length s.marks) × (index.live ≤ length s.summary)
-    deletes_able = let k = strike_able able ids beam degree in (delete_able able ids beam degree scratch over short, k.0, k.1)
+    deletes_able = let k = strike_able able ids beam degree in (delete_able able ids beam degree scratch own.0 own.1, k.0, k.1)
 
-    module _ {targets' edges' versions' marks' numbers' summary' scratch' : List ℕ} {entry' n : ℕ}
-        (b : BatchDeleted (arrays index.dim index.degree s.vectors s.targets s.edges s.versions s.marks) index.alpha index.entry beam degree ids
-        (arrays index.dim index.degree s.vectors targets' edges' versions' marks') entry' n scratch'
-        × Struck marks' s.numbers s.summary index.live numbers' summary')
-        (lm : length marks' ≡ length s.marks) where
-      not_refused : (before : List Stats) → length before ≡ room → (m : ℕ) → refusal stored (state_of index s) (call before) ≡ some m → ⊥
-      unfolding refusal tests state_of stored store_ops store_view shown room_of
-      not_refused before e m h = let g = sym (let_through index s (with_list before e) z) ∙ h in let x : ◌≡◌ {A = ℕ} 0 1 = cc in omega arith
+    not_refused : (before : List Stats) → length before ≡ room → (m : ℕ) → refusal stored (state_of index s) (call before) ≡ some m → ⊥
+    unfolding refusal tests state_of stored store_ops store_view shown room_of
+    not_refused before e m h = let g = sym (let_through index s (with_list before e) z) ∙ h in let x : ◌≡◌ {A = ℕ} 0 1 = cc in omega arith
 
-      pub deletes_on : {c : Changed} → c ≡ fewer index entry' n
-          → Deletes index s (slot_delete ids beam degree) room scratch (slices s.vectors targets' edges' versions' marks' s.pool numbers' summary') scratch' (Ok c)
+    module _ (s' : Slices) {scratch' : List ℕ} {entry' n : ℕ}
+        (b : BatchDeleted (arrays_of index s) index.alpha index.entry beam degree ids (arrays_of index s') entry' n scratch')
+        (k : Struck s'.marks s.numbers s.summary index.live s'.numbers s'.summary) where
+      pub deletes_few : n ≤ index.live
+      deletes_few = (fewer_fits able ids beam degree s' b k).0
+
+      pub deletes_on : {c : Changed} → s'.pool ≡ s.pool → c ≡ fewer index entry' n
+          → Deletes index s (slot_delete ids beam degree) room scratch s' scratch' (Ok c)
       unfolding tests perform deleted_as index_left written state_of stored store_ops store_view shown room_of call_of slices_of run_refusal
-      deletes_on {c} e =
-          let w = state_left able ids beam degree b.0 b.1 lm (ap (λ x. x.index) e) in
+      deletes_on {c} p e =
+          let w = state_left able ids beam degree s' b k p (ap (λ x. x.index) e) in
           record {
             stats = map (stats_of scratch' (stats_at index.capacity)) (range 0 n);
             words = λ k g. ap (λ (x : ℕ). map (stats_of scratch' (stats_at index.capacity)) (range 0 x)) (counted k g);
-            fits = λ k g. omega (arith, counted k g, b.0.few, ltb-false room (length ids) (not_wrong index s d z));
+            fits = λ k g. omega (arith, counted k g, b.few, ltb-false room (length ids) (not_wrong index s d z));
             meets = λ before l. record {
               does = ap (λ (v : State Store × List Stats). (v.0, deleted v.1)) w ∙ sym (step_on (state_of index s) (call before) (let_through index s (with_list before l) z));
               writes = refl;

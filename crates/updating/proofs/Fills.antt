@@ -12,14 +12,15 @@ use lib.Seq.{length-take-le, take-append-le, take-length}
 use Rattle.lists.specs.Lists.{filter, range, elem, put_front}
 use Rattle.lists.proofs.Filtered.{count_both}
 use Rattle.lists.proofs.Ranges.{length_range}
-use Rattle.slots.specs.Sizes.{Slices, slices, Lengths, lengths_of, limits, alpha_ok}
+use Rattle.slots.specs.Sizes.{Slices, limits, alpha_ok}
 use Rattle.slots.specs.Scratch.{size_answer}
 use Rattle.slots.specs.View.{live_slots}
-use Rattle.slots.specs.Store.{Store, is_valid, store_view, store_ops, arrays}
+use Rattle.slots.specs.Store.{Store, is_valid, store_view, store_ops}
 use Rattle.slots.proofs.Live.{MarksFit, store_marking}
 use Rattle.numbers.specs.Numbers.{taken, write_numbers, summary_of}
 use Rattle.numbers.specs.Inner.Listed.{Listed, Inserting, Entering}
 use Rattle.numbers.proofs.Listing.{inserting_entering}
+use Rattle.row.specs.Row.{index_of}
 use Rattle.insert.specs.Insert.{insert_batch}
 use Rattle.insert.proofs.Free.{sizes_after_insert, live_after_insert}
 use Rattle.insertion.specs.Batch.{Insertable, BatchInserted}
@@ -34,93 +35,92 @@ use Rattle.calls.proofs.Tests.{first_none, or_neither}
 use Rattle.calls.proofs.Count.{Insertable as InsertFinds, insert_finds}
 use Rattle.calls.proofs.Labelled.{inserting_now, filled_now}
 use Rattle.index.specs.declared.Index.{Index}
-use Rattle.index.specs.Index.{guard_of, state_of}
-use Rattle.index.specs.Inner.Deciding.{labels, labels_of, Decided, Passed}
-use Rattle.index.proofs.Decide.{decided_before, decided_after, decided_live, decided_passed, decided_listed, decided_not_wrong, turned_back, let_through, own_none, not_wrong, passed, passed_none, passed_rows, passed_marks, passed_bytes, step_back, step_on}
+use Rattle.index.specs.Index.{guard_of, state_of, arrays_of}
+use Rattle.index.specs.Inner.Deciding.{Decided, Passed}
+use Rattle.index.proofs.Decide.{decided_before, decided_after, turned_back, let_through, own_none, not_wrong, passed, passed_none, passed_rows, passed_marks, passed_bytes, passed_live, passed_listed, step_back, step_on}
 use Rattle.std.specs.Prelude.{Result, Ok, Err}
 use Rattle.index.specs.declared.Refusal.{Refusal}
 use Rattle.index.specs.declared.Refusal.TheVariants as Refused
 use Rattle.index.specs.Refusal.{number_of}
 use Rattle.updating.specs.declared.Changed.{Changed}
 use Rattle.updating.specs.Insert.{insert_outputs, inserted_as, index_after, Inserts}
-use Rattle.updating.specs.Inner.Filling.{insert_tests, with_live, Labelable, Relabelled}
+use Rattle.updating.specs.Inner.Filling.{insert_wrong, insert_tests, with_live, Labelable, Relabelled}
 
 pub ok_is : {A E : Type 0} {x y : A} → ◌≡◌ {A = Result A E} (Ok x) (Ok y) → x ≡ y
 ok_is e = cc
 
 -- ---- rows 7 to 10, and 15
 
-module _ (index : Index) {lent : Lengths} {marks numbers summary : List ℕ} (bytes : ℕ) (given : List ℕ) (beam slots scratch : ℕ) {n : ℕ} {A : Type 0} {r : Result A Refusal} {wrong : Bool}
-    (long : (lent.marks ≡ length marks) × (lent.numbers ≡ length numbers) × (lent.summary ≡ length summary))
-    (e : n ≡ bytes / index.dim) (w : wrong ≡ (ltb slots n || not (eqb (length given) n))) (d : Decided index lent (labels marks numbers summary) wrong [] r) where
+module _ (index : Index) (s : Slices) (a : Insert) (slots scratch : ℕ) {n : ℕ} {wrong : Bool} {A : Type 0} {r : Result A Refusal}
+    (e : n ≡ length a.bytes / index.dim) (w : wrong ≡ (ltb slots n || not (eqb (length a.numbers) n))) (d : Decided index s wrong [] r) where
   abbrev Turns : Result A Refusal → Type 0
-  Turns k =
-      Decided index lent (labels marks numbers summary) (ltb slots (bytes / index.dim) || not (eqb (length given) (bytes / index.dim))) (insert_tests index marks numbers bytes given beam scratch) k
+  Turns k = Decided index s (insert_wrong index a slots) (insert_tests index s a scratch) k
 
-  right : Decided index lent (labels marks numbers summary) (ltb slots (bytes / index.dim) || not (eqb (length given) (bytes / index.dim))) [] r
-  right =
-      subst (λ (x : ℕ). Decided index lent (labels marks numbers summary) (ltb slots x || not (eqb (length given) x)) [] r) e
-      (subst (λ (q : Bool). Decided index lent (labels marks numbers summary) q [] r) w d)
+  right : Decided index s (insert_wrong index a slots) [] r
+  right = subst (λ (q : Bool). Decided index s q [] r) (w ∙ ap (λ (x : ℕ). ltb slots x || not (eqb (length a.numbers) x)) e) d
 
   pub turns_before : {x : Refusal} → r ≡ Err x → Turns (Err x)
   turns_before z = decided_before right _ z
 
   module _ {u : A} (z : r ≡ Ok u) where
+    holds : Passed index s
+    holds = passed index s d z
+
     -- the live slots are counted, so the others are free
-    free_is : index.live + length (filter (λ s. not (is_valid marks s)) (range 0 index.capacity)) ≡ index.capacity
-    free_is = omega (arith, decided_live index long.0 long.1 long.2 d z, count_both (is_valid marks) (range 0 index.capacity), length_range 0 index.capacity)
+    free_is : index.live + length (filter (λ t. not (is_valid s.marks t)) (range 0 index.capacity)) ≡ index.capacity
+    free_is = omega (arith, passed_live holds, count_both (is_valid s.marks) (range 0 index.capacity), length_range 0 index.capacity)
 
     pub turns_live : index.live ≤ index.capacity
     turns_live = omega (arith, free_is)
 
-    -- the numbers can be looked up
-    pub turns_listed : Listed numbers summary index.live
-    turns_listed = decided_listed index long.0 long.1 long.2 d z
-
-    pub turns_over : 1024 < beam → Turns (Err Refused.Limits)
+    pub turns_over : 1024 < a.beam → Turns (Err Refused.Limits)
     unfolding limits
-    turns_over h = decided_after right _ _ z (rw (lt-ltb 1024 beam h))
+    turns_over h = decided_after right _ _ z (rw (lt-ltb 1024 a.beam h))
 
-    module _ (b : beam ≤ 1024) {q₈ : Bool} (e₈ : q₈ ≡ ltb scratch (size_answer index.capacity)) where
+    module _ (b : a.beam ≤ 1024) {q₈ : Bool} (e₈ : q₈ ≡ ltb scratch (size_answer index.capacity)) where
       pub turns_short : q₈ ≡ true → Turns (Err Refused.Scratch)
       unfolding limits
-      turns_short t = decided_after right _ _ z (rw (le-ltb 1024 beam b, sym e₈ ∙ t))
+      turns_short t = decided_after right _ _ z (rw (le-ltb 1024 a.beam b, sym e₈ ∙ t))
 
       module _ (f₈ : q₈ ≡ false) where
-        pub turns_left : (bytes ≡ n * index.dim → ⊥) → Turns (Err Refused.Bytes)
+        pub turns_left : (length a.bytes ≡ n * index.dim → ⊥) → Turns (Err Refused.Bytes)
         unfolding limits
-        turns_left t = decided_after right _ _ z (rw (le-ltb 1024 beam b, sym e₈ ∙ f₈, ne_eqb bytes (bytes / index.dim * index.dim) (λ x. t (x ∙ ap (λ m. m * index.dim) (sym e)))))
+        turns_left t =
+            decided_after right _ _ z
+            (rw (le-ltb 1024 a.beam b, sym e₈ ∙ f₈, ne_eqb (length a.bytes) (length a.bytes / index.dim * index.dim) (λ x. t (x ∙ ap (λ m. m * index.dim) (sym e)))))
 
-        module _ (f₉ : bytes ≡ n * index.dim) {q₁₀ : Bool} (e₁₀ : q₁₀ ≡ ltb (index.capacity - index.live) n) where
-          whole_is : eqb bytes (bytes / index.dim * index.dim) ≡ true
-          whole_is = eq-eqb bytes (bytes / index.dim * index.dim) (f₉ ∙ ap (λ m. m * index.dim) e)
+        module _ (f₉ : length a.bytes ≡ n * index.dim) {q₁₀ : Bool} (e₁₀ : q₁₀ ≡ ltb (index.capacity - index.live) n) where
+          whole_is : eqb (length a.bytes) (length a.bytes / index.dim * index.dim) ≡ true
+          whole_is = eq-eqb (length a.bytes) (length a.bytes / index.dim * index.dim) (f₉ ∙ ap (λ m. m * index.dim) e)
 
-          few : q₁₀ ≡ ltb (length (filter (λ s. not (is_valid marks s)) (range 0 index.capacity))) (bytes / index.dim)
+          few : q₁₀ ≡ ltb (length (filter (λ t. not (is_valid s.marks t)) (range 0 index.capacity))) (length a.bytes / index.dim)
           few = e₁₀ ∙ ap₂ ltb (omega (arith, free_is)) e
 
           pub turns_few : q₁₀ ≡ true → Turns (Err Refused.Full)
           unfolding limits
-          turns_few t = decided_after right _ _ z (rw (le-ltb 1024 beam b, sym e₈ ∙ f₈, whole_is, sym few ∙ t))
+          turns_few t = decided_after right _ _ z (rw (le-ltb 1024 a.beam b, sym e₈ ∙ f₈, whole_is, sym few ∙ t))
 
           module _ (f₁₀ : q₁₀ ≡ false) where
-            -- no more numbers than slots
-            pub turns_short_list : length given ≤ 65536
-            turns_short_list =
-                omega (
-                  arith,
-                  ltb-false (index.capacity - index.live) n (sym e₁₀ ∙ f₁₀),
-                  (decided_passed index long.0 long.1 long.2 d z).capacity_high,
-                  eqb-true (length given) n (not-false (eqb (length given) n) (or_neither (ltb slots n) (not (eqb (length given) n)) (sym w ∙ decided_not_wrong index long.0 long.1 long.2 d z)).1),
-                )
+            -- the numbers can be looked up, and no more are given than there are slots
+            pub turns_listed : Listed s.numbers s.summary index.live × (length a.numbers ≤ 65536)
+            turns_listed = (
+              passed_listed holds,
+              omega (
+                arith,
+                ltb-false (index.capacity - index.live) n (sym e₁₀ ∙ f₁₀),
+                holds.capacity_high,
+                eqb-true (length a.numbers) n (not-false (eqb (length a.numbers) n) (or_neither (ltb slots n) (not (eqb (length a.numbers) n)) (sym w ∙ not_wrong index s d z)).1),
+              ),
+            )
 
-            module _ {q₁₅ : Bool} (e₁₅ : q₁₅ ≡ taken numbers given) where
+            module _ {q₁₅ : Bool} (e₁₅ : q₁₅ ≡ taken s.numbers a.numbers) where
               pub turns_taken : q₁₅ ≡ true → Turns (Err Refused.Numbers)
               unfolding limits
-              turns_taken t = decided_after right _ _ z (rw (le-ltb 1024 beam b, sym e₈ ∙ f₈, whole_is, sym few ∙ f₁₀, sym e₁₅ ∙ t))
+              turns_taken t = decided_after right _ _ z (rw (le-ltb 1024 a.beam b, sym e₈ ∙ f₈, whole_is, sym few ∙ f₁₀, sym e₁₅ ∙ t))
 
               pub turns_none : {v : A} → q₁₅ ≡ false → Turns (Ok v)
               unfolding limits
-              turns_none t = decided_after right _ _ z (rw (le-ltb 1024 beam b, sym e₈ ∙ f₈, whole_is, sym few ∙ f₁₀, sym e₁₅ ∙ t))
+              turns_none t = decided_after right _ _ z (rw (le-ltb 1024 a.beam b, sym e₈ ∙ f₈, whole_is, sym few ∙ f₁₀, sym e₁₅ ∙ t))
 
 -- ---- numbers and summary
 
@@ -132,9 +132,12 @@ module _ {numbers summary : List ℕ} {live : ℕ} {slots given : List ℕ} (k :
 
 -- ---- an insert
 
-module _ (index : Index) (s : Slices) (a : Insert) (slots scratch : List ℕ) {A : Type 0} {r : Result A Refusal}
-    (d : Decided index (lengths_of s) (labels_of s) (ltb (length slots) (length a.bytes / index.dim) || not (eqb (length a.numbers) (length a.bytes / index.dim)))
-    (insert_tests index s.marks s.numbers (length a.bytes) a.numbers a.beam (length scratch)) r) where
+-- of slices that are read as s₀
+module _ (index : Index) {s₀ s : Slices} (same : s₀ ≡ s) (a : Insert) (slots scratch : List ℕ) {A : Type 0} {r : Result A Refusal}
+    (d₀ : Decided index s₀ (insert_wrong index a (length slots)) (insert_tests index s₀ a (length scratch)) r) where
+  d : Decided index s (insert_wrong index a (length slots)) (insert_tests index s a (length scratch)) r
+  d = subst (λ (x : Slices). Decided index x (insert_wrong index a (length slots)) (insert_tests index x a (length scratch)) r) same d₀
+
   abbrev call : Call
   call = record { lent = lent_of s (insert_outputs slots) scratch; operation = insert a }
 
@@ -187,7 +190,7 @@ module _ (index : Index) (s : Slices) (a : Insert) (slots scratch : List ℕ) {A
     unfolding shown stored store_ops store_view state_of
     enough_free = finds.room
 
-    pub insert_able : Insertable (arrays index.dim index.degree s.vectors s.targets s.edges s.versions s.marks) index.alpha index.entry a.beam a.bytes slots scratch
+    pub insert_able : Insertable (arrays_of index s) index.alpha index.entry a.beam a.bytes slots scratch
     unfolding store_view
     insert_able =
         let p = able in
@@ -202,30 +205,25 @@ module _ (index : Index) (s : Slices) (a : Insert) (slots scratch : List ℕ) {A
           enough = rw m (omega (arith, insert_enough index.capacity index.degree p.degree_high, ltb-false (length scratch) (size_answer index.capacity) own.1));
         }
 
-    module _ {vectors' targets' edges' marks' slots' : List ℕ} {n : ℕ}
-        (b : BatchInserted (arrays index.dim index.degree s.vectors s.targets s.edges s.versions s.marks) index.alpha index.entry a.beam a.bytes slots
-        (arrays index.dim index.degree vectors' targets' edges' s.versions marks') slots' n)
-        (lm : length marks' ≡ length s.marks) where
+    -- of the slices that the batch leaves
+    module _ (s' : Slices) {slots' : List ℕ} {n : ℕ} (b : BatchInserted (arrays_of index s) index.alpha index.entry a.beam a.bytes slots (arrays_of index s') slots' n) where
+      lm : length s'.marks ≡ length s.marks
+      unfolding store_ops store_view
+      lm =
+          ap (λ (g : Store). (store_view g).sizes.capacity) b.index
+          ∙ ap (λ z. z.capacity) (sizes_after_insert store_ops MarksFit store_marking (index_of index.alpha index.entry (arrays_of index s)) refl a.beam _)
+
       abbrev graph : Store
-      graph = record {
-        arrays = arrays index.dim index.degree s.vectors s.targets s.edges s.versions s.marks;
-        capacity = index.capacity;
-        alpha = index.alpha;
-        entry = index.entry;
-      }
+      graph = (state_of index s).graph
 
       abbrev graph' : Store
-      graph' = record {
-        arrays = arrays index.dim index.degree vectors' targets' edges' s.versions marks';
-        capacity = index.capacity;
-        alpha = index.alpha;
-        entry = index.entry;
-      }
+      graph' = record { arrays = arrays_of index s'; capacity = index.capacity; alpha = index.alpha; entry = index.entry }
 
       abbrev vs : List (List ℕ)
       vs = vectors_of index.dim a.bytes
 
       graph_is : graph' ≡ insert_batch store_ops a.beam graph vs
+      unfolding state_of
       graph_is = inserted_store graph (sym (passed_marks able)) lm b
 
       all : length vs ≡ count
@@ -272,7 +270,7 @@ module _ (index : Index) (s : Slices) (a : Insert) (slots scratch : List ℕ) {A
       unfolding state_of stored store_ops store_view slices_of shown
       inserting_is = inserting_now (state_of index s) call.lent refl a finds
 
-      live_then : (t : ℕ) → t < index.capacity → is_valid marks' t ≡ (is_valid s.marks t || elem t filled)
+      live_then : (t : ℕ) → t < index.capacity → is_valid s'.marks t ≡ (is_valid s.marks t || elem t filled)
       unfolding state_of stored store_ops store_view slices_of shown
       live_then t h = ap (λ (g : Store). (store_view g).live t) graph_is ∙ filled_now (state_of index s) call.lent refl a finds t h
 
@@ -291,33 +289,41 @@ module _ (index : Index) (s : Slices) (a : Insert) (slots scratch : List ℕ) {A
             long = omega (arith, given_many, counted, b.count, ls, insert_able.room_in);
           }
 
-      module _ {numbers' summary' : List ℕ} (k : Relabelled s.numbers s.summary index.live slots' a.numbers numbers' summary') where
-        numbers_are : numbers' ≡ write_numbers filled a.numbers s.numbers
+      -- of slices with the graph that the batch leaves, and the pool that there was
+      module _ (s₂ : Slices) (left : (arrays_of index s₂ ≡ arrays_of index s') × (s₂.pool ≡ s.pool))
+          (k : Relabelled s.numbers s.summary index.live slots' a.numbers s₂.numbers s₂.summary) where
+        numbers_are : s₂.numbers ≡ write_numbers filled a.numbers s.numbers
         numbers_are = k.numbers_new ∙ ap (λ l. write_numbers l a.numbers s.numbers) front_is
 
-        summary_is : summary' ≡ summary_of (is_valid marks') index.capacity (write_numbers filled a.numbers s.numbers)
+        summary_is : s₂.summary ≡ summary_of (is_valid s'.marks) index.capacity (write_numbers filled a.numbers s.numbers)
         summary_is =
             let c = able.numbers_long in
-            k.summary_new (is_valid s.marks) (is_valid marks')
+            k.summary_new (is_valid s.marks) (is_valid s'.marks)
             (subst (λ n. Inserting (is_valid s.marks) n s.numbers s.summary (take (length a.numbers) slots') a.numbers) (sym c)
             (subst (λ l. Inserting (is_valid s.marks) index.capacity s.numbers s.summary l a.numbers) (sym front_is) inserting_is))
             (many_live ∙ ap (λ n. length (filter (is_valid s.marks) (range 0 n))) (sym c))
             (λ t h. live_then t (omega (arith, h, c)) ∙ ap (λ l. is_valid s.marks t || elem t l) (sym front_is))
-            ∙ ap₂ (λ (n : ℕ) (l : List ℕ). summary_of (is_valid marks') n l) c numbers_are
+            ∙ ap₂ (λ (n : ℕ) (l : List ℕ). summary_of (is_valid s'.marks) n l) c numbers_are
 
         not_refused : (m : ℕ) → refusal stored (state_of index s) call ≡ some m → ⊥
         unfolding refusal
         not_refused m h = let g = sym let_on ∙ h in let x : ◌≡◌ {A = ℕ} 0 1 = cc in omega arith
 
         pub inserts_on : {scratch' : List ℕ} {i : Index} → i ≡ with_live index (index.live + n)
-            → Inserts index s a (insert_outputs slots) scratch (slices vectors' targets' edges' s.versions marks' s.pool numbers' summary') (insert_outputs slots') scratch' (Ok (record { index = i; count = n }))
+            → Inserts index s a (insert_outputs slots) scratch s₂ (insert_outputs slots') scratch' (Ok (record { index = i; count = n }))
         unfolding perform with_graph inserted_as index_after written state_of stored store_ops store_view room_of call_of slices_of run_refusal
         inserts_on {scratch'} {i} e =
-            let s' = slices vectors' targets' edges' s.versions marks' s.pool numbers' summary' in
             let numbers = write_numbers filled a.numbers s.numbers in
-            let after : state_of i s' ≡ with_graph stored (state_of index s) (insert_batch store_ops a.beam graph vs) numbers =
-            ap (λ (j : Index). state_of j s') e
-            ∙ (λ i. record { graph = graph'; live = live_is_more i; guard = guard_of index.guard; pool = s.pool; numbers = numbers_are i; summary = summary_is i })
+            let after : state_of i s₂ ≡ with_graph stored (state_of index s) (insert_batch store_ops a.beam graph vs) numbers =
+            ap (λ (j : Index). state_of j s₂) e
+            ∙ (λ i. record {
+              graph = record { arrays = left.0 i; capacity = index.capacity; alpha = index.alpha; entry = index.entry };
+              live = live_is_more i;
+              guard = guard_of index.guard;
+              pool = left.1 i;
+              numbers = numbers_are i;
+              summary = summary_is i;
+            })
             ∙ ap (λ (g : Store). with_graph stored (state_of index s) g numbers) graph_is in
             record {
               filled = filled;

@@ -8,13 +8,14 @@ use Rattle.index.specs.declared.Index.{Index}
 use Rattle.index.specs.declared.Refusal.{Refusal}
 use Rattle.index.specs.Refusal.{number_of}
 use Rattle.updating.specs.declared.Changed.{Changed}
-use Rattle.updating.specs.declared.Naming.{Naming}
-use Rattle.updating.specs.declared.Naming.TheVariants.{Slots, Numbers}
+use Rattle.updating.specs.declared.names.Naming.{Naming}
+use Rattle.updating.specs.declared.names.Naming.TheVariants.{Slots, Numbers}
 use Rattle.calls.specs.Calls as Calls
 use Rattle.calls.specs.Calls.{of_slots, of_numbers, Delete, delete, Answer, refused, deleted}
 use Rattle.calls.specs.Outputs.{Outputs, written}
 use Rattle.calls.specs.Runs.{Meets}
 use Rattle.index.specs.Run.{changing}
+use Rattle.updating.specs.declared.deleting.Deleting as lent
 
 -- ---- the run, and what `delete` promises
 
@@ -24,6 +25,10 @@ naming_of Numbers = of_numbers
 
 abbrev pub deleting : List ℕ → Naming → ℕ → ℕ → Delete
 deleting names naming repair_beam repair_degree = record { names = names; naming = naming_of naming; repair_beam = repair_beam; repair_degree = repair_degree }
+
+-- as the code has it
+abbrev pub deleting_of : lent.Deleting → Delete
+deleting_of a = deleting a.names.now a.naming a.repair_beam a.repair_degree
 
 -- the list that a delete is lent
 abbrev pub stats_outputs : List Stats → Outputs

@@ -9,11 +9,16 @@ use Rattle.calls.specs.Calls.{Insert, insert, Answer, refused, inserted}
 use Rattle.calls.specs.Outputs.{Outputs}
 use Rattle.calls.specs.Runs.{Meets}
 use Rattle.index.specs.Run.{changing}
+use Rattle.updating.specs.declared.inserting.Inserting as lent
 
 -- ---- the run, and what `insert` promises
 
 abbrev pub inserting : List ℕ → List ℕ → ℕ → Insert
 inserting bytes numbers beam = record { bytes = bytes; numbers = numbers; beam = beam }
+
+-- as the code has it
+abbrev pub inserting_of : lent.Inserting → Insert
+inserting_of a = inserting a.bytes.now a.numbers.now a.beam
 
 -- the list that an insert is lent
 abbrev pub insert_outputs : List ℕ → Outputs

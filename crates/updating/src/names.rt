@@ -1,45 +1,53 @@
 // The names of a delete: slots, or figure numbers, which are translated into slots.
-ghost use Rattle.std.specs.Prelude.{◌&&◌, ◌≡◌, ◌≤◌, leb, length};
+ghost use Rattle.std.specs.Prelude.{◌≡◌, ◌≤◌, length};
 ghost use Rattle.slots.specs.Sizes.{limits};
-ghost use Rattle.index.specs.Index.{lengths_in};
-ghost use Rattle.index.specs.Inner.Deciding.{labels};
-ghost use Rattle.updating.specs.Inner.Emptying.{are_numbers, Translated};
+ghost use Rattle.index.specs.Lent.{slices_of};
+ghost use Rattle.updating.specs.Delete.{deleting_of};
+ghost use Rattle.updating.specs.Inner.Emptying.{BySlots};
 
-use super::Naming;
+use super::deleting::Deleting;
 use index::refusals::check_index;
-use index::{Index, Lengths};
+use index::{Index, Slices};
 use numbers::Labels;
 use slots::limits;
 
-// Whether names are to be translated: they are numbers, and not more than a delete may name. More are turned back, whatever they name.
-pub fn by_numbers(naming: Naming, names: usize) -> bool
-    ensures { result ≡ (are_numbers naming && leb names limits.ids) }
-{
-    match naming {
-        Naming::Slots => false,
-        Naming::Numbers => names <= limits::IDS as usize,
-    }
+// What the names of a delete are: slots, or figure numbers.
+#[derive(Clone, Copy, PartialEq)]
+pub enum Naming {
+    Slots,
+    Numbers,
 }
 
-// Writes the slots that carry the numbers `names` to the front of `slots`, unless a test that calls share turns the index back.
-pub fn translate(
+// The same delete by slots; those that its names carry as numbers are written to the front of `slots`. Where a test that calls share turns the index back, or
+// there are more numbers than a delete may name, the names stand for slots: that test, or 7, turns the delete back.
+pub fn by_slots<'a>(
     index: Index,
-    lent: Lengths,
-    marks: &[u8],
-    numbers: &[u32],
-    summary: &[u32],
-    names: &[u32],
-    slots: &mut [u32],
-)
-    requires { (lent.marks ≡ length marks.now) × (lent.numbers ≡ length numbers.now) × (lent.summary ≡ length summary.now) × (length names.now ≤ length slots.old) }
-    ensures { Translated index (lengths_in lent) (labels marks.now numbers.now summary.now) names.now slots.new }
+    slices: &Slices<'_>,
+    asked: Deleting<'a>,
+    slots: &'a mut [u32],
+) -> Deleting<'a>
+    requires { length slots.old ≡ limits.ids }
+    ensures { BySlots index (slices_of slices.now) (deleting_of asked.entry) (deleting_of result) }
 {
-    if let Ok(()) = check_index(index, lent, marks, numbers, summary, false) {
+    let n = asked.names.len();
+    if asked.naming == Naming::Numbers
+        && n <= limits::IDS as usize
+        && check_index(index, slices, false).is_ok()
+    {
         let labels = Labels {
-            numbers,
-            summary,
+            numbers: slices.numbers,
+            summary: slices.summary,
             live: index.live as usize,
         };
-        labels.slots_of(names, slots);
+        labels.slots_of(asked.names, slots);
+        return Deleting {
+            names: &slots[..n],
+            naming: Naming::Slots,
+            ..asked
+        };
+    }
+    Deleting {
+        naming: Naming::Slots,
+        ..asked
     }
 }

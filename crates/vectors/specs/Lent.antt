@@ -7,6 +7,6 @@ use Rattle.vectors.specs.declared.Space as lent
 abbrev pub space_of : lent.Space → Space
 space_of p = space p.dim p.vectors.now
 
--- the bytes hold the vector of slot s
+-- the bytes hold the vector of slot s: a fact of a space and of one slot, so no field of either, and asked where a slot is given
 abbrev pub HasVector : lent.Space → ℕ → Type 0
 HasVector p s = s * p.dim + p.dim ≤ length p.vectors.now

@@ -21,12 +21,12 @@ use Rattle.slots.specs.Scratch.{work_at}
 use Rattle.walk.proofs.Without.{graph_search_without}
 
 -- from the start to the last turn
-pub found_by : (a : Arrays) {query : List ℕ} {start beam width d : ℕ} {ids w v w' : List ℕ} {r : ℕ} → Ready a query start beam w → elem start ids ≡ false
+pub found_by : (a : Arrays) {query : List ℕ} {start beam width d : ℕ} {ids w v w' : List ℕ} {r next : ℕ} → Ready a query start beam w → elem start ids ≡ false
     → width ≡ max beam 1 → d ≡ query_distance (space a.dim a.vectors) query start → Begun (length a.marks) ids d start w v
-    → Stepped (length a.marks) width v (turns width (query_distance (space a.dim a.vectors) query) (near_of a) (length a.marks) (state_of (length a.marks) v 1)) w' r 0
+    → Stepped (length a.marks) width v (turns width (query_distance (space a.dim a.vectors) query) (near_of a) (length a.marks) (state_of (length a.marks) v 1)) w' r next
     → Found a query (near_but ids) start beam w w' r
 unfolding near_but
-found_by a {query} {start} {beam} {width} {d} {ids} {w} {v} {w'} {r} f m e p b g =
+found_by a {query} {start} {beam} {width} {d} {ids} {w} {v} {w'} {r} {next} f m e p b g =
     let capacity : ℕ = length a.marks in
     let dist : ℕ → ℕ = query_distance (space a.dim a.vectors) query in
     let from : state_of capacity v 1 ≡ first_state capacity ids (dist start) start = b.holds ∙ ap (λ (x : ℕ). first_state capacity ids x start) p in
@@ -40,6 +40,10 @@ found_by a {query} {start} {beam} {width} {d} {ids} {w} {v} {w'} {r} f m e p b g
       size = g.size ∙ b.size;
       same = outside_then 0 (work_at capacity) w v w' b.same g.same;
     }
+
+-- so it is of words that are the same
+pub found_settled : {a : Arrays} {query : List ℕ} {near : Arrays → ℕ → List ℕ} {start beam : ℕ} {w v w' : List ℕ} {r : ℕ} → Found a query near start beam w w' r → v ≡ w' → Found a query near start beam w v r
+found_settled f e = rw e f
 
 -- leaving out none
 pub found_all : {a : Arrays} {query : List ℕ} {start beam : ℕ} {w w' : List ℕ} {r : ℕ} → Ready a query start beam w

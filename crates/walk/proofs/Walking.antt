@@ -16,6 +16,8 @@ use Rattle.walk.specs.Walk.{State, unexpanded, enter, ends, meet, expand, turn, 
 use Rattle.vectors.specs.Space.{query_distance, space}
 use Rattle.slots.specs.Store.{Arrays}
 use Rattle.walk.specs.Inner.Scratch.{near_of, mark_word, mark, put_mark, marks_of, state_of, expands, Walkable, Entered, Unexpanded, Next, Stepped}
+use Rattle.walk.specs.declared.words.List as Lent
+use Rattle.walk.specs.Inner.Searching.{SameWords}
 use Rattle.walk.proofs.Ordered.{all_enter, enter_ordered, enter_short}
 use Rattle.slots.specs.Scratch.{marks_at, work_at}
 use Rattle.walk.proofs.Marks.{put_mark_length, mark_cases, mark_kept, mark_at, marks_set, list_kept, outside_mark}
@@ -173,11 +175,6 @@ pub record Walking (a : Arrays) (query : List ℕ) (beam : ℕ) (w₀ : List ℕ
   pub size : length w ≡ length w₀
   pub same : Outside 0 (work_at (length a.marks)) w₀ w
 
--- the cursor at the front
-from_front : {capacity beam : ℕ} {w : List ℕ} {n next : ℕ} → Walkable capacity beam w n next → Walkable capacity beam w n 0
-from_front {w = w} f =
-    record { room = f.room; listed = f.listed; inside = f.inside; met = f.met; passed = omega arith; done = rw (cands_none w 0 0 refl) tt }
-
 module _ {a : Arrays} {query : List ℕ} {beam : ℕ} {w₀ : List ℕ} {to : State} {left : ℕ} {w : List ℕ} {n next : ℕ} (g : Walking a query beam w₀ to left w n next) where
   abbrev capacity : ℕ
   capacity = length a.marks
@@ -188,25 +185,25 @@ module _ {a : Arrays} {query : List ℕ} {beam : ℕ} {w₀ : List ℕ} {to : St
   abbrev near : ℕ → List ℕ
   near = near_of a
 
-  stays : turns beam dist near left (state_of capacity w n) ≡ state_of capacity w n → Stepped capacity beam w₀ to w n 0
-  stays e = record { holds = sym e ∙ g.turns_left; goes = from_front g.goes; size = g.size; same = g.same }
+  stays : turns beam dist near left (state_of capacity w n) ≡ state_of capacity w n → Stepped capacity beam w₀ to w n next
+  stays e = record { holds = sym e ∙ g.turns_left; goes = g.goes; size = g.size; same = g.same }
 
-  pub walking_out : left ≡ 0 → Stepped capacity beam w₀ to w n 0
+  pub walking_out : left ≡ 0 → Stepped capacity beam w₀ to w n next
   walking_out e = stays (rw e (turns_none beam dist near (state_of capacity w n)))
 
   -- nothing is left to expand, or the walk ends before the first that is not expanded
-  walking_all : {i : ℕ} → Unexpanded w n i → i ≡ n → Stepped capacity beam w₀ to w n 0
+  walking_all : {i : ℕ} → Unexpanded w n i → i ≡ n → Stepped capacity beam w₀ to w n next
   walking_all x e = stays (turns_stay beam dist near left (state_of capacity w n) (turn_none beam dist near (state_of capacity w n) _ (next_all g.goes x e)))
 
-  walking_ends : {i : ℕ} → Unexpanded w n i → i < n → ends beam (cands w 0 n) (cand w (2 * i)) ≡ true → Stepped capacity beam w₀ to w n 0
+  walking_ends : {i : ℕ} → Unexpanded w n i → i < n → ends beam (cands w 0 n) (cand w (2 * i)) ≡ true → Stepped capacity beam w₀ to w n next
   walking_ends x h e =
       stays (turns_stay beam dist near left (state_of capacity w n) (turn_ends beam dist near (state_of capacity w n) _ _ _ (next_at g.goes x h) e))
 
   module _ {r : ℕ} (x : Next beam w n r) where
-    pub walking_over : r ≡ n → Stepped capacity beam w₀ to w r 0
-    walking_over e = rw e (go (dec_lt x.first n))
+    pub walking_over : r ≡ n → Stepped capacity beam w₀ to w n next
+    walking_over e = go (dec_lt x.first n)
       where
-        go : Dec (x.first < n) → Stepped capacity beam w₀ to w n 0
+        go : Dec (x.first < n) → Stepped capacity beam w₀ to w n next
         go (yes h) = walking_ends x.found h (x.over e h)
         go (no h) = walking_all x.found (omega (arith, x.found.within))
 
@@ -216,6 +213,10 @@ module _ {a : Arrays} {query : List ℕ} {beam : ℕ} {w₀ : List ℕ} {to : St
 
       pub below : r < n
       below = omega (arith, here.within)
+
+      -- the cursor at the one that is expanded next
+      pub walking_goes : Walkable capacity beam w n r
+      walking_goes = record { room = g.goes.room; listed = g.goes.listed; inside = g.goes.inside; met = g.goes.met; passed = here.within; done = here.done }
 
       pub walking_more : {more : ℕ} {w' : List ℕ} {n' next' : ℕ} → left ≡ suc more
           → Stepped capacity beam w (expands a query beam w n r) w' n' next'
@@ -230,3 +231,8 @@ module _ {a : Arrays} {query : List ℕ} {beam : ℕ} {w₀ : List ℕ} {to : St
             size = y.size ∙ g.size;
             same = outside_then 0 (work_at capacity) w₀ w w' g.same y.same;
           }
+
+-- ---- a list whose words stay the same ones
+
+pub same_words : {l₀ l₁ l₂ : Lent.List} → SameWords l₀ l₁ → SameWords l₁ l₂ → SameWords l₀ l₂
+same_words a b = record { words = b.words ∙ a.words; beam = b.beam ∙ a.beam }

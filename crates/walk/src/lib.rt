@@ -15,7 +15,7 @@ use distances::{query_distance, touch_vector};
 use slots::Graph;
 use slots::marks::is_valid;
 use vectors::Space;
-use words::{EXPANDED, Held};
+use words::{EXPANDED, List};
 
 // How many places of a row are gathered at once, at most.
 const FRESH: usize = 64;
@@ -23,12 +23,11 @@ const FRESH: usize = 64;
 // More than what is touched for a part of a row sums up to.
 const TOUCHED: u32 = 1048576;
 
-// A search: the graph that is walked, the query, and how many candidates the list holds at most.
+// A search: the graph that is walked, and the query.
 #[derive(Clone, Copy)]
 struct Search<'a> {
     graph: Graph<'a>,
     query: &'a [u8],
-    beam: usize,
     ghost query_long: { length query.now ≡ graph.space.dim },
 }
 
@@ -59,6 +58,7 @@ fn add(space: &Space<'_>, id: u32, n: usize, scratch: &mut [u32], fresh: &mut [u
 
 // Gathers the slots of slot `s`'s row that are live and not met, from place `from` up to `to`. Returns how many they are. What is
 // touched counts for nothing, nor does `ahead`, which was touched before: but the compiler, which does not know that, reads it.
+// Seven parameters: slot, places, words and list are others at each call, so a struct of them would be made for each.
 fn gather(
     graph: &Graph<'_>,
     s: usize,
@@ -89,65 +89,60 @@ impl Search<'_> {
     ghost use Rattle.walk.specs.Inner.Scratch.{with_fresh, expands, takes_turns, Fresh};
     ghost use Rattle.walk.specs.Inner.Searching.{Goes, Steps};
 
-    // Touches the row of the candidate behind `held.next`, which is often the one that is expanded next.
-    fn touch_next(&self, held: Held, scratch: &[u32]) -> u32
-        requires { Goes self.now scratch.now held.count held.next × (held.next < held.count) }
+    // Touches the row of the candidate behind `list.next`, which is often the one that is expanded next.
+    fn touch_next(&self, list: &List<'_>) -> u32
+        requires { Goes self.now list.now × (list.now.next < list.now.count) }
         ensures { result ≤ 1020 }
     {
-        let i = held.next + 1;
-        if i < held.count {
-            return self.graph.rows.touch(id_at(scratch, 0, i) as usize);
+        let i = list.next + 1;
+        if i < list.count {
+            return self.graph.rows.touch(id_at(list.words, 0, i) as usize);
         }
         0
     }
 
     // The slots of `fresh` enter the list, each at its distance.
-    fn enter_all(&self, held: Held, fresh: &[u32], scratch: &mut [u32]) -> Held
-        requires { Goes self.now scratch.old held.count held.next × Fresh (length self.now.graph.rows.marks.now) scratch.old held.count fresh.now }
-        ensures { Steps self.now scratch.old (with_fresh (graph_of self.now.graph) self.now.query.now self.now.beam scratch.old held.count fresh.now) scratch.new result.count result.next }
+    fn enter_all(&self, list: &mut List<'_>, fresh: &[u32])
+        requires { Goes self.now list.old × Fresh (length self.now.graph.rows.marks.now) list.old.words.now list.old.count fresh.now }
+        ensures { Steps self.now list.old (with_fresh (graph_of self.now.graph) self.now.query.now list.old.beam list.old.words.now list.old.count fresh.now) list.new }
     {
-        let mut now = held;
         for id in fresh {
             let dist = query_distance(&self.graph.space, self.query, *id as usize);
-            now = words::enter(scratch, self.beam, now, dist, *id);
+            list.enter(dist, *id);
         }
-        now
     }
 
-    // Expands the candidate at `held.next`: its slot is marked, and its live neighbours are met in row order.
-    fn expand(&self, held: Held, scratch: &mut [u32], fresh: &mut [u32]) -> Held
-        requires { Goes self.now scratch.old held.count held.next × (held.next < held.count) × (length fresh.old ≡ 64) }
-        ensures { Steps self.now scratch.old (expands (graph_of self.now.graph) self.now.query.now self.now.beam scratch.old held.count held.next) scratch.new result.count result.next }
+    // Expands the candidate at `list.next`: its slot is marked, and its live neighbours are met in row order.
+    fn expand(&self, list: &mut List<'_>, fresh: &mut [u32])
+        requires { Goes self.now list.old × (list.old.next < list.old.count) × (length fresh.old ≡ 64) }
+        ensures { Steps self.now list.old (expands (graph_of self.now.graph) self.now.query.now list.old.beam list.old.words.now list.old.count list.old.next) list.new }
     {
-        let ahead = self.touch_next(held, scratch);
-        let s = id_at(scratch, 0, held.next) as usize;
-        words::set_mark(scratch, s, EXPANDED);
+        let ahead = self.touch_next(list);
+        let next = list.next;
+        let words = &mut *list.words;
+        let s = id_at(words, 0, next) as usize;
+        words::set_mark(words, s, EXPANDED);
         let degree = self.graph.rows.degree;
-        let mut now = held;
         for from in (0..degree).step_by(FRESH) {
             let to = from + FRESH.min(degree - from);
-            let n = gather(&self.graph, s, from, to, ahead, scratch, fresh);
-            now = self.enter_all(now, &fresh[..n], scratch);
+            let n = gather(&self.graph, s, from, to, ahead, list.words, fresh);
+            self.enter_all(list, &fresh[..n]);
         }
-        now
     }
 
-    // The turns of the walk, from the start alone. Returns how many candidates the list holds then.
-    fn take_turns(&self, scratch: &mut [u32]) -> usize
-        requires { Goes self.now scratch.old 1 0 }
-        ensures { Steps self.now scratch.old (takes_turns (graph_of self.now.graph) self.now.query.now self.now.beam scratch.old 1) scratch.new result 0 }
+    // The turns of the walk: as many as there are slots at most, since each expands another one.
+    fn take_turns(&self, list: &mut List<'_>)
+        requires { Goes self.now list.old }
+        ensures { Steps self.now list.old (takes_turns (graph_of self.now.graph) self.now.query.now list.old.beam list.old.words.now list.old.count) list.new }
     {
         let mut fresh = [0u32; FRESH];
-        let mut held = Held { count: 1, next: 0 };
         for _ in 0..self.graph.rows.marks.len() {
-            let i = words::next(scratch, self.beam, held);
-            if i == held.count {
-                return i;
-            }
-            held.next = i;
-            held = self.expand(held, scratch, &mut fresh);
+            let Some(i) = list.to_expand() else {
+                return;
+            };
+            list.next = i;
+            self.expand(list, &mut fresh);
         }
-        held.count
     }
 }
 
@@ -169,9 +164,15 @@ pub fn residual_search(
     let search = Search {
         graph: *graph,
         query,
-        beam: beam.max(1),
     };
-    search.take_turns(scratch)
+    let mut list = List {
+        words: scratch,
+        beam: beam.max(1),
+        count: 1,
+        next: 0,
+    };
+    search.take_turns(&mut list);
+    list.count
 }
 
 // The walk from `start`: its candidates, nearest first, from word 0 of `scratch` on. Returns how many they are.

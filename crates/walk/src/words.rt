@@ -1,11 +1,9 @@
 // What a walk keeps in the scratch (its map: slots::scratch): the list, and a mark for each slot, which is 0 before the slot is met, 1 when it is met and
 // 2 when it is expanded. A mark takes two bits, so that a word has those of 16 slots. The words behind the marks are not touched.
 ghost use Rattle.std.specs.Prelude.{◌≡◌, ◌+◌, ◌*◌, ◌%◌, ◌<◌, ◌≤◌, length};
-ghost use Rattle.candidates.specs.Inner.Words.{pair, cand, cands};
-ghost use Rattle.walk.specs.Walk as Walk;
 ghost use Rattle.slots.specs.Scratch.{work_at};
 ghost use Rattle.walk.specs.Inner.Scratch as Scratch;
-ghost use Rattle.walk.specs.Inner.Scratch.{mark_word, put_mark, unmet, Listed, Scannable, Entered, Unexpanded, Next, Cleared, LeftOut, Begun};
+ghost use Rattle.walk.specs.Inner.Scratch.{mark_word, put_mark, unmet, Cleared, LeftOut, Begun};
 
 use candidates::{dist_at, id_at, insert_ordered, put};
 use slots::scratch::MARKS;
@@ -15,9 +13,11 @@ const MET: u32 = 1;
 
 pub const EXPANDED: u32 = 2;
 
-// How many candidates the list holds, and how many of its first are known to be expanded. It has no field for the words, since Rattle passes no `&mut` field on.
-#[derive(Clone, Copy)]
-pub struct Held {
+// A walk's words, and its list: how many candidates it holds at most and now, and how many of its first are known to be expanded.
+#[derive(Drop)]
+pub struct List<'w> {
+    pub words: &'w mut [u32],
+    pub beam: usize,
     pub count: usize,
     pub next: usize,
 }
@@ -112,60 +112,65 @@ pub fn begin(scratch: &mut [u32], capacity: usize, ids: &[u32], dist: u32, start
     put(scratch, 0, dist, start);
 }
 
-// The place of the first of `n` candidates whose slot is not expanded, of which the first `from` are; `n` where there is none.
-fn unexpanded(scratch: &[u32], n: usize, from: usize) -> usize
-    requires { Scannable scratch.now n from }
-    ensures { Unexpanded scratch.now n result }
-{
-    for i in from..n {
-        if mark(scratch, id_at(scratch, 0, i) as usize) != EXPANDED {
-            return i;
+impl List<'_> {
+    ghost use Rattle.std.specs.Prelude.{None, Some, ◌≡◌, ℕ, ◌*◌, ◌<◌, ◌≤◌, length};
+    ghost use Rattle.candidates.specs.Inner.Words.{pair, cand, cands};
+    ghost use Rattle.walk.specs.Walk as Walk;
+    ghost use Rattle.walk.specs.Inner.Scratch.{Listed, Scannable, Entered, Unexpanded, Next};
+    ghost use Rattle.walk.specs.Inner.Searching.{SameWords};
+
+    // The place of the first candidate whose slot is not expanded; `count` where there is none.
+    fn unexpanded(&self) -> usize
+        requires { Scannable self.now.words.now self.now.count self.now.next }
+        ensures { Unexpanded self.now.words.now self.now.count result }
+    {
+        for i in self.next..self.count {
+            if mark(self.words, id_at(self.words, 0, i) as usize) != EXPANDED {
+                return i;
+            }
         }
+        self.count
     }
-    n
-}
 
-// Whether the walk ends before candidate `i` of `n` is expanded: the list is full, and the candidate is not nearer than the worst.
-fn ends(scratch: &[u32], beam: usize, n: usize, i: usize) -> bool
-    requires { (i < n) × (2 * n ≤ length scratch.now) }
-    ensures { result ≡ Walk.ends beam (cands scratch.now 0 n) (cand scratch.now (2 * i)) }
-{
-    beam <= n && dist_at(scratch, 0, n - 1) <= dist_at(scratch, 0, i)
-}
+    // Whether the walk ends before candidate `i` is expanded: the list is full, and the candidate is not nearer than the worst.
+    fn ends(&self, i: usize) -> bool
+        requires { (i < self.now.count) × (2 * self.now.count ≤ length self.now.words.now) }
+        ensures { result ≡ Walk.ends self.now.beam (cands self.now.words.now 0 self.now.count) (cand self.now.words.now (2 * i)) }
+    {
+        let n = self.count;
+        self.beam <= n && dist_at(self.words, 0, n - 1) <= dist_at(self.words, 0, i)
+    }
 
-// The place of the candidate that is expanded next; `held.count` where the walk ends.
-pub fn next(scratch: &[u32], beam: usize, held: Held) -> usize
-    requires { Scannable scratch.now held.count held.next }
-    ensures { Next beam scratch.now held.count result }
-{
-    let n = held.count;
-    let i = unexpanded(scratch, n, held.next);
-    if i == n || ends(scratch, beam, n, i) {
-        return n;
+    // The place of the candidate that is expanded next, if the walk does not end.
+    pub fn to_expand(&self) -> Option<usize>
+        requires { Scannable self.now.words.now self.now.count self.now.next }
+        ensures { (result ≡ None → Next self.now.beam self.now.words.now self.now.count self.now.count) × ((i : ℕ) → result ≡ Some i → Next self.now.beam self.now.words.now self.now.count i × (i ≡ self.now.count → ⊥)) }
+    {
+        let i = self.unexpanded();
+        if i == self.count || self.ends(i) {
+            return None;
+        }
+        Some(i)
     }
-    i
-}
 
-// A candidate enters the list where there is room, or where it is nearer than the worst, which leaves.
-pub fn enter(scratch: &mut [u32], beam: usize, held: Held, dist: u32, id: u32) -> Held
-    requires { Listed beam scratch.old held.count × (held.next ≤ held.count) × (dist ≤ 16777216) }
-    ensures { Entered beam scratch.old held.count held.next (pair dist id) scratch.new result.count result.next }
-{
-    let n = held.count;
-    if n < beam {
-        let place = insert_ordered(scratch, 0, n, dist, id);
-        return Held {
-            count: n + 1,
-            next: place.min(held.next),
-        };
-    }
-    let last = n - 1;
-    if dist_at(scratch, 0, last) <= dist {
-        return held;
-    }
-    let place = insert_ordered(scratch, 0, last, dist, id);
-    Held {
-        count: n,
-        next: place.min(held.next),
+    // A candidate enters the list where there is room, or where it is nearer than the worst, which leaves.
+    pub fn enter(&mut self, dist: u32, id: u32)
+        requires { Listed self.old.beam self.old.words.now self.old.count × (self.old.next ≤ self.old.count) × (dist ≤ 16777216) }
+        ensures { Entered self.old.beam self.old.words.now self.old.count self.old.next (pair dist id) self.new.words.now self.new.count self.new.next × SameWords self.old self.new }
+    {
+        let n = self.count;
+        if n < self.beam {
+            let place = insert_ordered(self.words, 0, n, dist, id);
+            self.count = n + 1;
+            self.next = place.min(self.next);
+            return;
+        }
+        let last = n - 1;
+        let words = &mut *self.words;
+        if dist_at(words, 0, last) <= dist {
+            return;
+        }
+        let place = insert_ordered(words, 0, last, dist, id);
+        self.next = place.min(self.next);
     }
 }

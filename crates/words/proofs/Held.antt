@@ -16,7 +16,7 @@ use Rattle.candidates.proofs.Floats.{one_bits}
 use Rattle.slots.specs.Sizes.{alpha_ok}
 use Rattle.index.specs.declared.Index.{Index}
 use Rattle.index.specs.Index as Index
-use Rattle.index.specs.declared.Settings.{Settings}
+use Rattle.index.specs.declared.Guard.{Guard}
 use Rattle.words.specs.IndexWords.{alpha_of, guard_of, index_of, guard_words, value_words, words_of}
 
 -- ---- alpha
@@ -77,23 +77,23 @@ alpha_held a f h =
 
 -- ---- the whole index
 
-guard_held : (a b c d e f : ℕ) (g : Option Settings) → guard_of (a ∷ b ∷ c ∷ d ∷ e ∷ f ∷ guard_words (Index.guard_of g)) ≡ g
+guard_held : (a b c d e f : ℕ) (g : Option Guard) → guard_of (a ∷ b ∷ c ∷ d ∷ e ∷ f ∷ guard_words (Index.guard_of g)) ≡ g
 unfolding guard_of guard_words Index.guard_of
 guard_held a b c d e f None = refl
 guard_held a b c d e f (Some s) = refl
 
 -- what the code writes where a guard is off
-abbrev no_settings : Settings
-no_settings = record { count = 0; multiplier = 0; sample = 0; beam = 0; pool = 0 }
+abbrev no_guard : Guard
+no_guard = record { config = record { count = 0; multiplier = 0; sample = 0; beam = 0 }; pool = 0 }
 
-pub words_told : (i : Index) {on : ℕ} {s : Settings} → on ≡ from_bool (is_some i.guard) → s ≡ unwrap_or i.guard no_settings
-    → i.dim ∷ i.capacity ∷ i.degree ∷ to_bits binary32 i.alpha ∷ i.entry ∷ i.live ∷ on ∷ s.count ∷ s.multiplier ∷ s.sample ∷ s.beam ∷ s.pool ∷ [] ≡ words_of i
+pub words_told : (i : Index) {on : ℕ} {g : Guard} → on ≡ from_bool (is_some i.guard) → g ≡ unwrap_or i.guard no_guard
+    → i.dim ∷ i.capacity ∷ i.degree ∷ to_bits binary32 i.alpha ∷ i.entry ∷ i.live ∷ on ∷ g.config.count ∷ g.config.multiplier ∷ g.config.sample ∷ g.config.beam ∷ g.pool ∷ [] ≡ words_of i
 unfolding value_words guard_words Index.guard_of
 words_told i e f = rw (e, f) (go i.guard)
   where
-    go : (g : Option Settings)
-        → i.dim ∷ i.capacity ∷ i.degree ∷ to_bits binary32 i.alpha ∷ i.entry ∷ i.live ∷ from_bool (is_some g) ∷ (unwrap_or g no_settings).count ∷ (unwrap_or g no_settings).multiplier
-        ∷ (unwrap_or g no_settings).sample ∷ (unwrap_or g no_settings).beam ∷ (unwrap_or g no_settings).pool ∷ []
+    go : (g : Option Guard)
+        → i.dim ∷ i.capacity ∷ i.degree ∷ to_bits binary32 i.alpha ∷ i.entry ∷ i.live ∷ from_bool (is_some g) ∷ (unwrap_or g no_guard).config.count ∷ (unwrap_or g no_guard).config.multiplier
+        ∷ (unwrap_or g no_guard).config.sample ∷ (unwrap_or g no_guard).config.beam ∷ (unwrap_or g no_guard).pool ∷ []
         ≡ i.dim ∷ i.capacity ∷ i.degree ∷ to_bits binary32 i.alpha ∷ i.entry ∷ i.live ∷ guard_words (Index.guard_of g)
     go None = refl
     go (Some s) = refl

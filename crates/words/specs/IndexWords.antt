@@ -6,7 +6,7 @@ use Rattle.guard.specs.Guard.{off, on}
 use Rattle.guard.specs.Guard as Guards
 use Rattle.calls.specs.State.{Value}
 use Rattle.index.specs.declared.Index.{Index}
-use Rattle.index.specs.declared.Settings.{Settings}
+use Rattle.index.specs.declared.Guard.{Guard}
 use Rattle.index.specs.Index.{index_value}
 
 -- word 3 is alpha's bits; a NaN's bits are read as 0.0, which row 2 turns back (`nan_bad`)
@@ -14,9 +14,9 @@ unfoldable pub alpha_of : ℕ → Float
 alpha_of n = cond (nan_bits binary32 n) (of_bits binary32 0) (of_bits binary32 n)
 
 -- words 6 to 11: whether the guard is on, its settings, and the length of its pool
-unfoldable pub guard_of : List ℕ → Option Settings
+unfoldable pub guard_of : List ℕ → Option Guard
 guard_of w =
-    cond (eqb (get_or w 6 0) 0) None (Some (record { count = get_or w 7 0; multiplier = get_or w 8 0; sample = get_or w 9 0; beam = get_or w 10 0; pool = get_or w 11 0 }))
+    cond (eqb (get_or w 6 0) 0) None (Some (record { config = record { count = get_or w 7 0; multiplier = get_or w 8 0; sample = get_or w 9 0; beam = get_or w 10 0 }; pool = get_or w 11 0 }))
 
 -- the index that words hold
 unfoldable pub index_of : List ℕ → Index

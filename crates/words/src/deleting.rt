@@ -1,17 +1,17 @@
 // Delete on an index that words hold, but for the records of its stats.
 ghost use Rattle.std.specs.Prelude.{not, ◌≡◌, T, Ok};
 ghost use Rattle.std.specs.Float.Ieee.{is_nan};
-ghost use Rattle.slots.specs.Sizes.{slices};
+ghost use Rattle.index.specs.Lent.{delete_slices_of, SameDeleteSlices};
 ghost use Rattle.updating.specs.declared.Changed as Change;
-ghost use Rattle.updating.specs.Delete.{deleting};
+ghost use Rattle.updating.specs.Delete.{deleting_of};
 ghost use Rattle.words.specs.Given.{map_ok, put, changed_words};
 ghost use Rattle.words.specs.Inner.Putting.{stats_left, LeavesStats};
 
 use super::changing::put_changed;
 use super::index_words::index_from;
 use deletion::stats_place;
-use index::Refusal;
-use updating::{Changed, Naming};
+use index::{DeleteSlices, Refusal};
+use updating::{Changed, Deleting};
 
 // A delete's status, and where in the scratch the words of how many stats stand.
 #[derive(Clone, Copy)]
@@ -49,42 +49,16 @@ fn put_deleted(
 // All of a delete but its records.
 pub fn delete_words(
     words: &mut [u32; 12],
-    vectors: &[u8],
-    targets: &mut [u32],
-    edges: &mut [u16],
-    versions: &mut [u16],
-    marks: &mut [u8],
-    pool: &[u32],
-    numbers: &mut [u32],
-    summary: &mut [u32],
-    names: &[u32],
-    naming: Naming,
-    repair_beam: u32,
-    repair_degree: u32,
+    slices: &mut DeleteSlices<'_>,
+    asked: &Deleting<'_>,
     room: usize,
     scratch: &mut [u32],
     found: &mut u32,
 ) -> Left
-    ensures { LeavesStats words.old (slices vectors.now targets.old edges.old versions.old marks.old pool.now numbers.old summary.old) (deleting names.now naming repair_beam repair_degree) room scratch.old words.new (slices vectors.now targets.new edges.new versions.new marks.new pool.now numbers.new summary.new) scratch.new found.old found.new result }
+    ensures { LeavesStats words.old (delete_slices_of slices.old) (deleting_of asked.now) room scratch.old words.new (delete_slices_of slices.new) scratch.new found.old found.new result × SameDeleteSlices slices.old slices.new }
 {
     let held = index_from(words);
     let place = stats_place(held.capacity);
-    let answer = updating::delete(
-        held,
-        vectors,
-        targets,
-        edges,
-        versions,
-        marks,
-        pool,
-        numbers,
-        summary,
-        names,
-        naming,
-        repair_beam,
-        repair_degree,
-        room,
-        scratch,
-    );
+    let answer = updating::delete(held, slices, asked, room, scratch);
     put_deleted(answer, place, words, found)
 }

@@ -10,6 +10,7 @@ use super::index_words::words_from;
 use admission::Report;
 use guarding::{Enabled, Status};
 use index::Refusal;
+use slots::rows::BLANK;
 
 // The words that a status is written as.
 #[tactic(auto, using(crate::proofs::Told::flag_is), unfolding(crate::specs::GuardWords::status_words))]
@@ -33,7 +34,7 @@ pub fn words_of_report(report: Report) -> [u32; 8]
     [
         u32::from(report.admitted),
         report.requested,
-        report.entry,
+        report.entry.unwrap_or(BLANK),
         report.checked,
         report.baseline,
         report.residual,

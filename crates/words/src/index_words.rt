@@ -3,7 +3,8 @@ ghost use Rattle.std.specs.Prelude.{not, ◌≡◌, T};
 ghost use Rattle.std.specs.Float.Ieee.{is_nan};
 ghost use Rattle.words.specs.IndexWords.{alpha_of, guard_of, index_of, words_of};
 
-use index::{Index, Settings};
+use guard::Config;
+use index::{Guard, Index};
 
 // The alpha of its bits; a NaN's bits are read as 0.0.
 fn alpha_from(bits: u32) -> f32
@@ -15,21 +16,22 @@ fn alpha_from(bits: u32) -> f32
     f32::from_bits(bits)
 }
 
-// The settings of the guard that words hold; none where it is off.
+// The guard that words hold; none where it is off.
 #[tactic(auto, unfolding(crate::specs::IndexWords::guard_of))]
-fn guard_from(words: &[u32; 12]) -> Option<Settings>
+fn guard_from(words: &[u32; 12]) -> Option<Guard>
     ensures { result ≡ guard_of words.now }
 {
     if words[6] == 0 {
         return None;
     }
-    Some(Settings {
+    let config = Config {
         count: words[7],
         multiplier: words[8],
         sample: words[9],
         beam: words[10],
-        pool: words[11],
-    })
+    };
+    let pool = words[11];
+    Some(Guard { config, pool })
 }
 
 // The index that words hold.
@@ -50,12 +52,14 @@ pub fn index_from(words: &[u32; 12]) -> Index
     }
 }
 
-// What the words of a guard that is off hold in place of settings.
-const OFF: Settings = Settings {
-    count: 0,
-    multiplier: 0,
-    sample: 0,
-    beam: 0,
+// What the words of a guard that is off hold in place of one.
+const OFF: Guard = Guard {
+    config: Config {
+        count: 0,
+        multiplier: 0,
+        sample: 0,
+        beam: 0,
+    },
     pool: 0,
 };
 
@@ -66,7 +70,7 @@ pub fn words_from(index: Index) -> [u32; 12]
 {
     let guard = index.guard;
     let on = u32::from(guard.is_some());
-    let s = guard.unwrap_or(OFF);
+    let g = guard.unwrap_or(OFF);
     [
         index.dim,
         index.capacity,
@@ -75,10 +79,10 @@ pub fn words_from(index: Index) -> [u32; 12]
         index.entry,
         index.live,
         on,
-        s.count,
-        s.multiplier,
-        s.sample,
-        s.beam,
-        s.pool,
+        g.config.count,
+        g.config.multiplier,
+        g.config.sample,
+        g.config.beam,
+        g.pool,
     ]
 }

@@ -1,6 +1,6 @@
 // Readings of an index that words hold.
 ghost use Rattle.std.specs.Prelude.{true, ◌≡◌};
-ghost use Rattle.slots.specs.Sizes.{slices};
+ghost use Rattle.index.specs.Lent.{slices_of};
 ghost use Rattle.reading.specs.Read.{Reads};
 ghost use Rattle.words.specs.IndexWords.{index_of};
 ghost use Rattle.words.specs.Given.{map_ok, put, ReadsNumber};
@@ -8,28 +8,18 @@ ghost use Rattle.words.specs.Inner.Putting.{gives_number, number_in, alpha_in};
 
 use super::answers::put;
 use super::index_words::index_from;
-use index::Refusal;
+use index::{Refusal, Slices};
 use reading::{Reading, Value};
 
 // What is read, or why it is not.
 pub fn read_value(
     words: &[u32; 12],
-    vectors: &[u8],
-    targets: &[u32],
-    edges: &[u16],
-    versions: &[u16],
-    marks: &[u8],
-    pool: &[u32],
-    numbers: &[u32],
-    summary: &[u32],
+    slices: &Slices<'_>,
     reading: Reading,
 ) -> Result<Value, Refusal>
-    ensures { Reads (index_of words.now) (slices vectors.now targets.now edges.now versions.now marks.now pool.now numbers.now summary.now) reading result }
+    ensures { Reads (index_of words.now) (slices_of slices.now) reading result }
 {
-    let held = index_from(words);
-    reading::read(
-        held, vectors, targets, edges, versions, marks, pool, numbers, summary, reading,
-    )
+    reading::read(index_from(words), slices, reading)
 }
 
 // The number that was read; alpha is none.
@@ -62,24 +52,10 @@ pub fn put_alpha(read: Result<Value, Refusal>, value: &mut f32) -> u32
 }
 
 // Reads a number and writes it.
-pub fn read_number(
-    words: &[u32; 12],
-    vectors: &[u8],
-    targets: &[u32],
-    edges: &[u16],
-    versions: &[u16],
-    marks: &[u8],
-    pool: &[u32],
-    numbers: &[u32],
-    summary: &[u32],
-    reading: Reading,
-    value: &mut u32,
-) -> u32
+pub fn read_number(words: &[u32; 12], slices: &Slices<'_>, reading: Reading, value: &mut u32) -> u32
     requires { gives_number reading ≡ true }
-    ensures { ReadsNumber words.now (slices vectors.now targets.now edges.now versions.now marks.now pool.now numbers.now summary.now) reading value.old value.new result }
+    ensures { ReadsNumber words.now (slices_of slices.now) reading value.old value.new result }
 {
-    let read = read_value(
-        words, vectors, targets, edges, versions, marks, pool, numbers, summary, reading,
-    );
+    let read = read_value(words, slices, reading);
     put(read.map(number_in), value)
 }

@@ -1,5 +1,5 @@
 -- Trial walks over the lent slices, and what the functions that make them ask and leave. Assumes nothing.
-use Rattle.std.specs.Prelude.{ℕ, ◌+◌, ◌≤◌, ◌<◌, Bool, not, cond, List, ◌≡◌, length, set}
+use Rattle.std.specs.Prelude.{ℕ, ◌≤◌, ◌<◌, Bool, not, List, ◌≡◌, length}
 use Rattle.lists.specs.Lists.{filter, elem, part, put_front}
 use Rattle.vectors.specs.Space.{query_distance, space}
 use Rattle.candidates.specs.Candidates.{ids}
@@ -23,11 +23,6 @@ pub record Walks (a : Arrays) (entry beam : ℕ) (w : List ℕ) : Type 0 where
   pub entry_inside : entry < length a.marks
   pub beam_most : beam ≤ 1024
   pub room : work_at (length a.marks) ≤ length w
-
--- a slot is written behind n others of a list where a test holds
-pub record Noted (holds : Bool) (n slot : ℕ) (l l' : List ℕ) (r : ℕ) : Type 0 where
-  pub list : l' ≡ cond holds (set l n slot) l
-  pub count : r ≡ n + cond holds 1 0
 
 -- of some landmarks how many are met before and how many after, and those lost at the front of a list
 pub record Tried (before after : ℕ → Bool) (landmarks lost lost' : List ℕ) (baseline residual count : ℕ) : Type 0 where

@@ -1,16 +1,16 @@
 -- The acts of a delete: what the functions ask, and what they leave. Assumes nothing.
 use Rattle.std.specs.Prelude.{ℕ, ◌+◌, ◌*◌, ◌≤◌, ◌<◌, List, ◌≡◌, Float, length, get_or}
-use Rattle.lists.specs.Lists.{All, foldl}
+use Rattle.lists.specs.Lists.{foldl}
 use Rattle.candidates.specs.Candidates.{ids}
 use Rattle.candidates.specs.Inner.Words.{cands}
-use Rattle.slots.specs.Store.{Arrays, arrays, store_ops}
+use Rattle.slots.specs.Store.{Arrays, store_ops}
 use Rattle.row.specs.Row.{index_of}
 use Rattle.links.specs.Inner.Linking.{between, apply_link}
 use Rattle.links.specs.Inner.Planning.{Area, plans_at}
 use Rattle.deletion.specs.declared.layout.Layout.{Layout}
 use Rattle.deletion.specs.declared.plans.Repair.{Repair}
 use Rattle.deletion.specs.Inner.Layout.{layout_of}
-use Rattle.deletion.specs.Inner.Naming.{Emptied, Inside}
+use Rattle.deletion.specs.Inner.Naming.{Emptied}
 use Rattle.deletion.specs.Inner.Plans.{RowsTaken, Makeable, PlansMade}
 
 -- ---- the first acts
@@ -28,14 +28,9 @@ pub record Taken (a : Arrays) (named w : List ℕ) (at : Layout) (w' : List ℕ)
   pub rows : RowsTaken a taken at w'
 
 -- ---- the last act
-pub record Finishable (degree : ℕ) (targets edges versions w : List ℕ) (at n : ℕ) : Type 0 where
-  pub each : All (λ c. (c.id * degree + degree ≤ length targets) × (c.id * degree + degree ≤ length edges) × (c.id < length versions)) (cands w at n)
-  pub words : at + 2 * n ≤ length w
-
-pub record AllFinished (degree : ℕ) (targets edges versions w : List ℕ) (at n : ℕ) (targets' edges' versions' : List ℕ) : Type 0 where
-  pub does : (dim : ℕ) (vectors marks : List ℕ) (alpha : Float) (entry : ℕ) → Inside (length marks) w at n
-      → index_of alpha entry (arrays dim degree vectors targets' edges' versions' marks)
-      ≡ foldl store_ops.finish (index_of alpha entry (arrays dim degree vectors targets edges versions marks)) (ids (cands w at n))
+-- the slots of n candidates at `at` are finished
+pub record AllFinished (a : Arrays) (w : List ℕ) (at n : ℕ) (a' : Arrays) : Type 0 where
+  pub does : (alpha : Float) (entry : ℕ) → index_of alpha entry a' ≡ foldl store_ops.finish (index_of alpha entry a) (ids (cands w at n))
 
 -- ---- the later acts
 -- the plans can be made, and words behind them are room to apply the links of one
@@ -45,11 +40,11 @@ pub record Repairable (a : Arrays) (how : Repair) (w : List ℕ) (at : Layout) :
   pub area : Area a.degree w at.base
 
 -- the plans stood in the words `made`; their links were applied, and the slots were finished
-pub record Repaired (alpha : Float) (a : Arrays) (how : Repair) (w : List ℕ) (at : Layout) (a' : Arrays) (w' : List ℕ) : Type 0 where
+pub record Repaired (a : Arrays) (how : Repair) (w : List ℕ) (at : Layout) (a' : Arrays) (w' : List ℕ) : Type 0 where
   pub made : List ℕ
   pub plan : PlansMade a how w at made
-  pub does : index_of alpha how.entry a'
-      ≡ foldl store_ops.finish (foldl apply_link (index_of alpha how.entry a) (plans_at (between a.dim a.vectors) how.degree how.entry made at.stats at.plans at.count))
+  pub does : index_of how.alpha how.entry a'
+      ≡ foldl store_ops.finish (foldl apply_link (index_of how.alpha how.entry a) (plans_at (between a.dim a.vectors) how.degree how.entry made at.stats at.plans at.count))
       (ids (cands w at.from at.count))
   pub size : length w' ≡ length w
   pub same : (i : ℕ) → i < at.base → get_or w' i 0 ≡ get_or made i 0

@@ -34,7 +34,7 @@ pub record Emptied (marks named w : List ℕ) (at r : ℕ) (w' : List ℕ) : Typ
   pub size : length w' ≡ length w
   pub same : Outside at (2 * length named) w w'
 
--- slots of the n candidates at `at`, inside
+-- slots of the n candidates at `at`, inside: a fact of lent words that is kept while marks and rows change
 pub record Inside (slots : ℕ) (w : List ℕ) (at n : ℕ) : Type 0 where
   pub each : All (λ c. c.id < slots) (cands w at n)
   pub words : at + 2 * n ≤ length w

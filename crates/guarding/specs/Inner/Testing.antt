@@ -1,21 +1,21 @@
 -- The own tests of the guard's calls, and what their functions leave. Assumes nothing.
-use Rattle.std.specs.Prelude.{ℕ, Some, Result, Ok, Err, max, min, ◌≤◌, Bool, false, List, [], ◌∷◌, ◌≡◌, eqb, ltb, length}
-use Rattle.slots.specs.Sizes.{Slices, slices, lengths_of, limits}
+use Rattle.std.specs.Prelude.{ℕ, Some, Result, Ok, Err, min, ◌≤◌, Bool, false, List, [], ◌∷◌, ◌≡◌, eqb, ltb, length}
+use Rattle.slots.specs.Sizes.{Slices, slices, limits}
 use Rattle.slots.specs.Scratch.{size_answer}
 use Rattle.slots.specs.View.{View}
 use Rattle.slots.specs.Store.{is_valid}
 use Rattle.guard.specs.Guard.{Config, pool_of, guard_status}
 use Rattle.guard.specs.Guard as Guards
+use Rattle.guard.specs.declared.Config as lent
 use Rattle.admission.specs.Inner.Reports.{Reports}
 use Rattle.admission.specs.declared.report.Report.{Report}
 use Rattle.calls.specs.Refusals.{Test, config_over, is_off}
 use Rattle.calls.specs.State.{stored, shown}
 use Rattle.calls.specs.Step.{report_of}
 use Rattle.index.specs.declared.Index.{Index}
-use Rattle.index.specs.declared.Settings.{Settings}
 use Rattle.index.specs.declared.Refusal.{Refusal}
 use Rattle.index.specs.Index.{guard_of, state_of}
-use Rattle.index.specs.Inner.Deciding.{labels_of, Decided}
+use Rattle.index.specs.Inner.Deciding.{Decided}
 use Rattle.guarding.specs.declared.Status.{Status}
 use Rattle.guarding.specs.Guarding.{status_of}
 
@@ -35,20 +35,13 @@ pub record Testable (wrong over : Bool) (ids checked lost : List ℕ) : Type 0 w
 
 -- a report, or the number of the first test that holds, and then nothing is written
 pub record Tested (index : Index) (s : Slices) (wrong over : Bool) (ids checked lost scratch checked' lost' scratch' : List ℕ) (r : Result Report Refusal) : Type 0 where
-  pub decided : Decided index (lengths_of s) (labels_of s) wrong (report_tests index over (length scratch)) r
+  pub decided : Decided index s wrong (report_tests index over (length scratch)) r
   pub back : (e : Refusal) → r ≡ Err e → (checked' ≡ checked) × (lost' ≡ lost) × (scratch' ≡ scratch)
   pub on : (v : Report) → r ≡ Ok v → Reports (report_of (shown stored (state_of index s)) ids) checked checked' lost lost' v
 
--- the settings as they act
-pub record Normal (c : Config) (s : Settings) : Type 0 where
-  pub count_is : s.count ≡ max 1 c.landmark_count
-  pub multiplier_is : s.multiplier ≡ max 1 c.multiplier
-  pub sample_is : s.sample ≡ max 1 c.sample_size
-  pub beam_is : s.beam ≡ max 1 c.beam
-
 -- an index whose guard is on, with a pool of n landmarks
-abbrev pub guarded_index : Index → Settings → ℕ → Index
-guarded_index i s n =
+abbrev pub guarded_index : Index → lent.Config → ℕ → Index
+guarded_index i c n =
     record {
       dim = i.dim;
       capacity = i.capacity;
@@ -56,7 +49,7 @@ guarded_index i s n =
       alpha = i.alpha;
       entry = i.entry;
       live = i.live;
-      guard = Some (record { count = s.count; multiplier = s.multiplier; sample = s.sample; beam = s.beam; pool = n });
+      guard = Some (record { config = c; pool = n });
     }
 
 -- the slices with another pool

@@ -1,9 +1,10 @@
 -- What the tests decide, and what is known where none that calls share holds. Assumes nothing.
-use Rattle.std.specs.Prelude.{ℕ, ◌≤◌, ◌<◌, Bool, true, false, List, ◌≡◌, length, Result}
+use Rattle.std.specs.Prelude.{ℕ, ◌≤◌, ◌<◌, Bool, true, false, not, ◌||◌, List, ◌≡◌, eqb, ltb, length, Result}
+use Rattle.lists.specs.Lists.{filter, range}
 use Rattle.slots.specs.Sizes.{Slices, Lengths, lengths_of, limits, sizes_ok, alpha_ok}
 use Rattle.slots.specs.View.{live_slots}
 use Rattle.slots.specs.Store.{Shaped, is_valid, store_view}
-use Rattle.numbers.specs.Numbers.{Labelled}
+use Rattle.numbers.specs.Numbers.{Labelled, labels_ok}
 use Rattle.index.specs.declared.Index.{Index}
 use Rattle.index.specs.declared.Refusal.{Refusal}
 use Rattle.calls.specs.Calls.{Making}
@@ -12,26 +13,19 @@ use Rattle.calls.specs.State.{stored, shown}
 use Rattle.index.specs.Refusal.{turned_back}
 use Rattle.index.specs.Index.{sizes_of, guard_of, state_of}
 
+-- row 6, of an index whose slices have n marks
+abbrev pub index_fault : Index → Slices → ℕ → Bool
+index_fault index s n =
+    not (eqb index.live (length (filter (is_valid s.marks) (range 0 n)))) || not (ltb index.entry index.capacity) || guard_fault limits (guard_of index.guard)
+    || not (labels_ok (is_valid s.marks) n index.live s.numbers s.summary)
+
 -- r turns a making back with the number of the first of its tests that holds, and does not if none does
 pub record Judged (m : Making) (lent : Lengths) {A : Type 0} (r : Result A Refusal) : Type 0 where
   pub does : turned_back r ≡ first_of (making_tests limits lent m)
 
--- the slices whose contents row 6 looks at
-pub record Labels : Type 0 where
-  pub marks : List ℕ
-  pub numbers : List ℕ
-  pub summary : List ℕ
-
-abbrev pub labels : List ℕ → List ℕ → List ℕ → Labels
-labels marks numbers summary = record { marks = marks; numbers = numbers; summary = summary }
-
-abbrev pub labels_of : Slices → Labels
-labels_of s = labels s.marks s.numbers s.summary
-
--- r turns a call back with the number of the first test that holds, of the shared ones and then of the call's own, and does not if none does; of the other
--- slices the lengths alone count
-pub record Decided (index : Index) (lent : Lengths) (looked : Labels) (wrong : Bool) (rest : List Test) {A : Type 0} (r : Result A Refusal) : Type 0 where
-  pub does : (s : Slices) → lengths_of s ≡ lent → labels_of s ≡ looked → turned_back r ≡ first_of (index_tests limits lent (shown stored (state_of index s)) wrong rest)
+-- r turns a call back with the number of the first test that holds, of the shared ones and then of the call's own, and does not if none does
+pub record Decided (index : Index) (s : Slices) (wrong : Bool) (rest : List Test) {A : Type 0} (r : Result A Refusal) : Type 0 where
+  pub does : turned_back r ≡ first_of (index_tests limits (lengths_of s) (shown stored (state_of index s)) wrong rest)
 
 -- an index and eight slices of which no shared test holds
 pub record Passed (index : Index) (s : Slices) : Type 0 where

@@ -1,18 +1,12 @@
--- The new index by value, from what making is given, and its numbers. Assumes nothing.
-use Rattle.std.specs.Prelude.{None, ℕ, ◌-◌, ◌≤◌, Bool, false, List, [], ◌++◌, ◌≡◌, ltb, Float, length, replicate}
+-- The new index by value, and its numbers. Assumes nothing.
+use Rattle.std.specs.Prelude.{None, ℕ, ◌-◌, ◌≤◌, Bool, false, List, [], ◌++◌, ◌≡◌, ltb, length, replicate}
 use Rattle.numbers.specs.Numbers.{taken, summary_of}
 use Rattle.index.specs.declared.Index.{Index}
-use Rattle.calls.specs.Calls.{Making}
-use Rattle.index.specs.Create.{making}
+use Rattle.index.specs.declared.making.Making.{Making}
 
--- the new index by value
-abbrev pub fresh_index : ℕ → ℕ → ℕ → Float → ℕ → ℕ → Index
-fresh_index dim capacity degree alpha entry count =
-    record { dim = dim; capacity = capacity; degree = degree; alpha = alpha; entry = entry; live = count; guard = None }
-
--- what making is given for it
-abbrev pub making_of : Index → List ℕ → List ℕ → List ℕ → Making
-making_of i bytes rows numbers = making i.dim i.capacity i.degree i.alpha i.entry i.live bytes rows numbers
+-- the new index by value, of what making is given
+abbrev pub fresh_index : Making → Index
+fresh_index m = record { dim = m.dim; capacity = m.capacity; degree = m.degree; alpha = m.alpha; entry = m.entry; live = m.count; guard = None }
 
 -- what making asks of the given numbers and of the two slices for them
 pub record NumberRoom (given numbers summary : List ℕ) : Type 0 where

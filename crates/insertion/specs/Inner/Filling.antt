@@ -1,9 +1,7 @@
 -- The slots that a batch fills: what the functions ask, and what they leave. Assumes nothing.
-use Rattle.std.specs.Prelude.{ℕ, ◌*◌, ◌≤◌, ◌<◌, ◌≡◌, List, map, Float, length, get_or}
+use Rattle.std.specs.Prelude.{ℕ, ◌*◌, ◌≤◌, ◌<◌, ◌≡◌, List, map, length, get_or}
 use Rattle.lists.specs.Lists.{range, part}
-use Rattle.slots.specs.Store.{Arrays, store_ops}
-use Rattle.row.specs.Row.{index_of}
-use Rattle.insert.specs.Insert.{Filling, fill_all}
+use Rattle.insert.specs.Insert.{Filling}
 
 -- the i-th slot of a list and its vector, and k of them from one on
 abbrev pub filling_at : ℕ → List ℕ → List ℕ → ℕ → Filling
@@ -25,14 +23,3 @@ pub record Fillable (dim capacity : ℕ) (bytes slots : List ℕ) : Type 0 where
   pub long : length bytes ≡ length slots * dim
   pub few : length slots ≤ 256
   pub inside : Inside capacity slots
-
--- the slices are as long as they were
-pub record AsLong (a₀ a : Arrays) : Type 0 where
-  pub vectors : length a.vectors ≡ length a₀.vectors
-  pub targets : length a.targets ≡ length a₀.targets
-  pub edges : length a.edges ≡ length a₀.edges
-  pub marks : length a.marks ≡ length a₀.marks
-
-pub record ChunkFilled (a : Arrays) (bytes slots : List ℕ) (a' : Arrays) : Type 0 where
-  pub fills : (alpha : Float) (entry : ℕ) → index_of alpha entry a' ≡ fill_all store_ops (index_of alpha entry a) (chunk_of a.dim bytes slots)
-  pub longs : AsLong a a'

@@ -1,5 +1,5 @@
 -- The parts of the region `work` that a chunk uses. The heads of its chains lie in the region `marks`, once all its walks are done. Assumes nothing.
-use Rattle.std.specs.Prelude.{ℕ, ◌+◌, ◌*◌, ◌≤◌}
+use Rattle.std.specs.Prelude.{ℕ, ◌+◌, ◌*◌, ◌≤◌, List, length}
 use Rattle.slots.specs.Scratch.{marks_at, work_at}
 use Rattle.insertion.specs.declared.layout.Layout.{Layout}
 use Rattle.insertion.specs.Batch.{insert_words}
@@ -18,3 +18,7 @@ pub record Parts (capacity degree : ℕ) (at : Layout) : Type 0 where
   pub list_in : at.list + 2 * (degree + 256 * degree) ≤ at.chosen
   pub chosen_in : at.chosen + 2 * degree ≤ work_at capacity + insert_words degree
   pub below : work_at capacity + insert_words degree ≤ 8388608
+
+-- the words hold all of it
+abbrev pub Enough : ℕ → ℕ → List ℕ → Type 0
+Enough degree capacity w = work_at capacity + insert_words degree ≤ length w

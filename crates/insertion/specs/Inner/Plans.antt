@@ -1,36 +1,29 @@
 -- The plans of a chunk in the words: what the functions ask, and what they leave. Assumes nothing.
-use Rattle.std.specs.Prelude.{ℕ, zero, suc, ◌+◌, ◌-◌, ◌*◌, ◌≤◌, ◌<◌, ◌≡◌, List, length, get_or}
+use Rattle.std.specs.Prelude.{ℕ, zero, suc, ◌+◌, ◌-◌, ◌*◌, ◌≤◌, ◌<◌, ◌≡◌, List, Float, length, get_or}
 use Rattle.lists.specs.Lists.{All}
 use Rattle.slots.specs.Scratch.{marks_at}
-use Rattle.slots.specs.View.{View}
+use Rattle.slots.specs.Store.{Arrays, store_view}
 use Rattle.candidates.specs.Candidates.{Candidate}
 use Rattle.candidates.specs.Inner.Words.{cands, Small}
-use Rattle.walk.specs.Walk.{search_pool}
-use Rattle.prune.specs.Prune.{prune}
+use Rattle.row.specs.Row.{index_of}
 use Rattle.insertion.specs.declared.layout.Layout.{Layout}
-use Rattle.insert.specs.Insert.{Plan}
-use Rattle.insertion.specs.Inner.Layout.{Spread}
+use Rattle.insert.specs.Insert.{Plan, plan}
+use Rattle.insertion.specs.Inner.Chains.{Chains}
+use Rattle.insertion.specs.Inner.Filling.{filling_at}
 
 -- ---- one plan
--- what slot id with a vector selects after a walk of this width
-abbrev pub selects : View → ℕ → ℕ → List ℕ → List Candidate
-selects v width id vector = prune v id (search_pool v vector width)
+-- the plan of the k-th slot of a chunk
+abbrev pub plan_at : Arrays → Float → ℕ → ℕ → List ℕ → List ℕ → ℕ → Plan
+plan_at a alpha entry beam bytes slots k = plan (store_view (index_of alpha entry a)) beam (filling_at a.dim bytes slots k)
 
--- n candidates of i plans lie before it
-pub record Plannable (degree capacity : ℕ) (w : List ℕ) (at : Layout) (i n : ℕ) : Type 0 where
-  pub heads_in : marks_at + capacity ≤ at.plans
-  pub spread : Spread (n + degree) at
-  pub number : i < 256
-  pub room : at.list ≤ length w
-  pub below : at.list ≤ 8388608
-
-pub record Planned (v : View) (degree capacity width id : ℕ) (vector w : List ℕ) (at : Layout) (i n r : ℕ) (w' : List ℕ) : Type 0 where
-  pub count : r ≡ n + length (selects v width id vector)
-  pub list : cands w' (at.plans + 2 * n) (length (selects v width id vector)) ≡ selects v width id vector
+-- the i-th plan lies behind n candidates of the plans before, and ends at r
+pub record Planned (degree capacity : ℕ) (plan : Plan) (w : List ℕ) (at : Layout) (i n r : ℕ) (w' : List ℕ) : Type 0 where
+  pub count : r ≡ n + length plan.outgoing
+  pub list : cands w' (at.plans + 2 * n) (length plan.outgoing) ≡ plan.outgoing
   pub few : r ≤ n + degree
-  pub small : Small (selects v width id vector)
-  pub inside : All (λ c. c.id < capacity) (selects v width id vector)
-  pub owned : (j : ℕ) → n ≤ j → j < r → get_or w' (at.sources + j) 0 ≡ id
+  pub small : Small plan.outgoing
+  pub inside : All (λ c. c.id < capacity) plan.outgoing
+  pub owned : (j : ℕ) → n ≤ j → j < r → get_or w' (at.sources + j) 0 ≡ plan.id
   pub ended : get_or w' (at.ends + i) 0 ≡ r
   pub size : length w' ≡ length w
   pub same : (j : ℕ) → marks_at + capacity ≤ j → (at.plans + 2 * n ≤ j → at.plans + 2 * (n + degree) ≤ j) → (at.sources + n ≤ j → at.sources + (n + degree) ≤ j)
@@ -62,4 +55,10 @@ pub record Laid (degree capacity : ℕ) (plans : ℕ → Plan) (at : Layout) (m 
 
 pub record AllPlanned (degree capacity : ℕ) (plans : ℕ → Plan) (w : List ℕ) (at : Layout) (m n : ℕ) (w' : List ℕ) : Type 0 where
   pub laid : Laid degree capacity plans at m n w'
+  pub size : length w' ≡ length w
+
+-- the plans of m slots, n candidates in all, chained by slot
+pub record Linked (degree capacity : ℕ) (plans : ℕ → Plan) (w : List ℕ) (at : Layout) (m n : ℕ) (w' : List ℕ) : Type 0 where
+  pub laid : Laid degree capacity plans at m n w'
+  pub chains : Chains w' at n capacity
   pub size : length w' ≡ length w

@@ -1,14 +1,12 @@
 -- The rows of the slots that the plans of a chunk name: what the functions ask, and what they leave. Assumes nothing.
-use Rattle.std.specs.Prelude.{ℕ, ◌+◌, ◌*◌, ◌≤◌, ◌<◌, cond, ◌≡◌, List, ◌++◌, ltb, Float, length, get_or}
-use Rattle.lists.specs.Lists.{foldl, range}
+use Rattle.std.specs.Prelude.{ℕ, ◌+◌, ◌*◌, ◌≤◌, ◌<◌, cond, List, ◌++◌, ltb, length, get_or}
 use Rattle.slots.specs.Scratch.{marks_at}
-use Rattle.slots.specs.Store.{Arrays, Store, store_view, store_ops}
+use Rattle.slots.specs.Store.{Store, store_view, store_ops}
 use Rattle.candidates.specs.Candidates.{ids}
 use Rattle.prune.specs.Prune.{prune}
-use Rattle.row.specs.Row.{index_of, live_scored}
+use Rattle.row.specs.Row.{live_scored}
 use Rattle.insertion.specs.declared.layout.Layout.{Layout}
 use Rattle.insertion.specs.Inner.Layout.{Spread}
-use Rattle.insertion.specs.Inner.Filling.{AsLong}
 use Rattle.insertion.specs.Inner.Chains.{head, at_slot, Chains, incoming_at}
 
 -- the row of slot s is pruned from its live references, then those that come in, if one of the n candidates of the plans names it
@@ -25,13 +23,3 @@ pub record Renewable (degree capacity : ℕ) (w : List ℕ) (at : Layout) (n : �
   pub room : at.chosen + 2 * degree ≤ length w
   pub below : at.chosen + 2 * degree ≤ 8388608
   pub small : (j : ℕ) → j < n → get_or w (at.plans + 2 * j) 0 ≤ 16777216
-
-pub record Renewed (alpha : Float) (a : Arrays) (s : ℕ) (w : List ℕ) (at : Layout) (n : ℕ) (a' : Arrays) (w' : List ℕ) : Type 0 where
-  pub row : (entry : ℕ) → index_of alpha entry a' ≡ renewed_at w at n (index_of alpha entry a) s
-  pub longs : AsLong a a'
-  pub size : length w' ≡ length w
-  pub same : (j : ℕ) → j < at.list → get_or w' j 0 ≡ get_or w j 0
-
-pub record AllRenewed (alpha : Float) (a : Arrays) (w : List ℕ) (at : Layout) (n : ℕ) (a' : Arrays) : Type 0 where
-  pub rows : (entry : ℕ) → index_of alpha entry a' ≡ foldl (renewed_at w at n) (index_of alpha entry a) (range 0 (length a.marks))
-  pub longs : AsLong a a'

@@ -1,14 +1,15 @@
 -- Choosing landmarks from a sample whose slots keep their least distances to the references: over distances instead of a view, and what the functions
 -- that choose ask and leave. Assumes nothing.
-use Rattle.std.specs.Prelude.{ℕ, zero, suc, ◌+◌, ◌*◌, min, ◌≤◌, ◌<◌, Bool, cond, List, [], ◌∷◌, ◌++◌, ◌≡◌, length, take, eqb, ltb}
+use Rattle.std.specs.Prelude.{ℕ, zero, suc, ◌+◌, ◌*◌, min, ◌≤◌, ◌<◌, Bool, cond, List, [], ◌∷◌, ◌≡◌, length, eqb, ltb}
 use Rattle.lists.specs.Lists.{All, foldl, least_of, put_front}
 use Rattle.vectors.specs.Vector.{Bytes}
 use Rattle.vectors.specs.Lent.{HasVector}
 use Rattle.vectors.specs.declared.Space.{Space}
+use Rattle.landmarks.specs.declared.sample.Free.{Free}
 use Rattle.candidates.specs.Candidates.{Candidate, scored}
 use Rattle.candidates.specs.Inner.Words.{pair, cands}
 use Rattle.slots.specs.Scratch.{work_at}
-use Rattle.landmarks.specs.Inner.Samples.{free, stride_of, sample_by, sample_words, References}
+use Rattle.landmarks.specs.Inner.Samples.{free, stride_of, sample_by, sample_words}
 
 -- of a and the candidates of a list, the last with the greatest distance
 abbrev pub farthest_from : Candidate → List Candidate → Candidate
@@ -43,31 +44,31 @@ module _ (d : ℕ → ℕ → ℕ) where
       chosen wanted (scored (λ s. least_of (d s) (entry ∷ existing)) (sample_by (free stays (entry ∷ existing)) capacity (stride_of capacity sample) wanted))
 
 -- ---- what the functions ask
--- n candidates at a whose vectors the bytes hold
-pub record Listed (space : Space) (a : ℕ) (w : List ℕ) (n : ℕ) : Type 0 where
+-- n candidates, from the first word on, whose vectors the bytes hold: a fact of lent words, whose n changes at each step
+pub record Listed (space : Space) (w : List ℕ) (n : ℕ) : Type 0 where
   pub small : space.dim ≤ 256
-  pub room : a + 2 * n ≤ length w
-  pub inside : All (λ c. HasVector space c.id) (cands w a n)
+  pub room : 2 * n ≤ length w
+  pub inside : All (λ c. HasVector space c.id) (cands w 0 n)
 
--- slices that belong together; room behind the first `kept` of the list, and for the sample in the work region of the scratch
-pub record Selectable (space : Space) (marks : List ℕ) (entry wanted sample : ℕ) (list : List ℕ) (kept : ℕ) (w : List ℕ) : Type 0 where
-  pub bytes : Bytes space.dim (length marks) space.vectors.now
-  pub few : length marks ≤ 65536
-  pub references : References (length marks) list kept entry
+-- slices that belong together; references among their slots; room in the list, and for the sample in the work region of the scratch
+pub record Selectable (space : Space) (f : Free) (wanted sample : ℕ) (list w : List ℕ) : Type 0 where
+  pub bytes : Bytes space.dim (length f.marks.now) space.vectors.now
+  pub few : length f.marks.now ≤ 65536
+  pub references : All (λ s. s < length f.marks.now) (f.entry ∷ f.kept.now)
   pub wanted_most : wanted ≤ 1024
   pub sample_some : 0 < sample
-  pub list_long : kept + wanted ≤ length list
-  pub room : work_at (length marks) + sample_words (length marks) ≤ length w
+  pub list_long : wanted ≤ length list
+  pub room : work_at (length f.marks.now) + sample_words (length f.marks.now) ≤ length w
 
 -- ---- what they leave
--- of the n candidates at a those of the list l are left, r of them, at distances that were measured
-pub record Drew (w : List ℕ) (a n : ℕ) (l : List Candidate) (w' : List ℕ) (r : ℕ) : Type 0 where
-  pub list : cands w' a r ≡ l
+-- of n candidates those of the list l are left, r of them, at distances that were measured
+pub record Drew (w : List ℕ) (n : ℕ) (l : List Candidate) (w' : List ℕ) (r : ℕ) : Type 0 where
+  pub list : cands w' 0 r ≡ l
   pub within : r ≤ n
-  pub near : All (λ c. c.dist ≤ 16646400) (cands w' a r)
+  pub near : All (λ c. c.dist ≤ 16646400) (cands w' 0 r)
   pub size : length w' ≡ length w
 
--- the slots xs are written behind the first k of a list, r of them
-pub record Appended (xs : List ℕ) (k : ℕ) (l l' : List ℕ) (r : ℕ) : Type 0 where
-  pub list : l' ≡ put_front (take k l ++ xs) l
+-- the slots xs are written to the front of a list, r of them
+pub record Fronted (xs l l' : List ℕ) (r : ℕ) : Type 0 where
+  pub list : l' ≡ put_front xs l
   pub count : r ≡ length xs

@@ -1,6 +1,6 @@
 -- The sample that landmarks are chosen from, over tests of slots instead of a view, and what the functions that take it ask and leave. Assumes nothing.
-use Rattle.std.specs.Prelude.{ℕ, ◌+◌, ◌*◌, ◌%◌, ◌/◌, max, ◌≤◌, ◌<◌, Bool, true, false, not, ◌&&◌, cond, List, [], ◌∷◌, ◌++◌, ◌≡◌, length, take, eqb, ltb}
-use Rattle.lists.specs.Lists.{All, filter, elem, range}
+use Rattle.std.specs.Prelude.{ℕ, ◌+◌, ◌*◌, ◌%◌, ◌/◌, max, ◌≤◌, Bool, true, false, not, ◌&&◌, cond, List, [], ◌∷◌, ◌++◌, ◌≡◌, length, eqb, ltb}
+use Rattle.lists.specs.Lists.{filter, elem, range}
 use Rattle.candidates.specs.Candidates.{scored}
 use Rattle.candidates.specs.Inner.Words.{cands}
 use Rattle.slots.specs.Store.{blank, is_valid}
@@ -42,22 +42,15 @@ far s = blank
 abbrev pub sample_words : ℕ → ℕ
 sample_words capacity = 2 * (1024 + capacity)
 
--- ---- what the functions ask
--- references: the entry, and the first `kept` of a list
-pub record References (capacity : ℕ) (list : List ℕ) (kept entry : ℕ) : Type 0 where
-  pub within : kept ≤ length list
-  pub inside : All (λ r. r < capacity) (take kept list)
-  pub entry_inside : entry < capacity
-
 -- ---- what they leave
--- the slots with p follow the n candidates at a; r are there then
-pub record Sampled (p : ℕ → Bool) (capacity a : ℕ) (w : List ℕ) (n : ℕ) (w' : List ℕ) (r : ℕ) : Type 0 where
-  pub list : cands w' a r ≡ cands w a n ++ scored far (filter p (range 0 capacity))
+-- the slots with p follow n candidates; r are there then
+pub record Sampled (p : ℕ → Bool) (capacity : ℕ) (w : List ℕ) (n : ℕ) (w' : List ℕ) (r : ℕ) : Type 0 where
+  pub list : cands w' 0 r ≡ cands w 0 n ++ scored far (filter p (range 0 capacity))
   pub within : r ≤ n + capacity
   pub size : length w' ≡ length w
 
--- the r candidates at a are the sample
-pub record Taken (free : ℕ → Bool) (capacity stride wanted a : ℕ) (w w' : List ℕ) (r : ℕ) : Type 0 where
-  pub list : cands w' a r ≡ scored far (sample_by free capacity stride wanted)
-  pub room : a + 2 * r ≤ length w
+-- the r candidates are the sample
+pub record Taken (free : ℕ → Bool) (capacity stride wanted : ℕ) (w w' : List ℕ) (r : ℕ) : Type 0 where
+  pub list : cands w' 0 r ≡ scored far (sample_by free capacity stride wanted)
+  pub room : 2 * r ≤ length w
   pub size : length w' ≡ length w

@@ -7,13 +7,14 @@ use Rattle.candidates.specs.Candidates.{ids}
 use Rattle.candidates.specs.Inner.Words.{pair, cands, Outside}
 use Rattle.slots.specs.View.{live_neighbors}
 use Rattle.slots.specs.Store.{Arrays, Store, store_view, store_ops}
-use Rattle.slots.specs.Lent.{rows_mut_of, SameSlices}
+use Rattle.slots.specs.Lent.{rows_mut_of}
 use Rattle.slots.specs.declared.graph.RowsMut.{RowsMut}
 use Rattle.row.specs.Row.{index_of}
+use Rattle.row.specs.Lent.{held, SamePruner}
+use Rattle.row.specs.declared.pruner.Pruner.{Pruner}
 use Rattle.repair.specs.Repair.{Link, insert_and_prune}
 use Rattle.repair.proofs.Sources.{both_ways}
 use Rattle.links.specs.declared.span.Pair.{Pair}
-use Rattle.links.specs.declared.linker.Linker.{Linker}
 
 -- rows that are written, beside vectors and marks, as lists
 abbrev pub arrays_of : lent.Space → RowsMut → List ℕ → Arrays
@@ -80,15 +81,7 @@ pub record Applied (alpha : Float) (a : Arrays) (ls : List Link) (a' : Arrays) (
   pub size : length w' ≡ length w
   pub same : Outside at k w w'
 
--- what a linker's rows are beside
-abbrev pub held : Linker → Arrays
-held l = arrays_of l.kept.space l.rows.now l.marks.now
-
--- links are applied by a linker; the words that may change are so many as the degree of its rows asks
-pub record Made (l : Linker) (ls : List Link) (w : List ℕ) (at : ℕ) (words : ℕ → ℕ) (l' : Linker) (w' : List ℕ) : Type 0 where
-  pub applied : Applied l.alpha (held l) ls (held l') w at (words l.rows.now.degree) w'
-  pub slices : SameSlices l.rows.now l'.rows.now
-  pub rows : l'.rows.ghost_name ≡ l.rows.ghost_name
-  pub alpha : l'.alpha ≡ l.alpha
-  pub marks : l'.marks ≡ l.marks
-  pub space : l'.kept.space ≡ l.kept.space
+-- links are applied by a pruner; the words that may change are so many as the degree of its rows asks
+pub record Made {n : ℕ} (p : Pruner n) (ls : List Link) (w : List ℕ) (at : ℕ) (words : ℕ → ℕ) (p' : Pruner n) (w' : List ℕ) : Type 0 where
+  pub applied : Applied p.alpha (held p) ls (held p') w at (words p.rows.now.degree) w'
+  pub same : SamePruner p p'

@@ -12,7 +12,7 @@ use Rattle.links.specs.declared.span.Pair.{Pair}
 use Rattle.links.specs.Inner.Linking.{between, pairs_of, link_words}
 
 -- ---- lists of candidates
--- y and the slots of the n candidates at `at` have vectors
+-- y and the slots of the n candidates at `at` have vectors: a fact of lent words, whose n changes at each step
 pub record Stored (dim : ℕ) (vectors : List ℕ) (y : ℕ) (w : List ℕ) (at n : ℕ) : Type 0 where
   pub short : dim ≤ 256
   pub own : y * dim + dim ≤ length vectors

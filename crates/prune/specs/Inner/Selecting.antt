@@ -2,13 +2,13 @@
 use Rattle.std.specs.Prelude.{ℕ, suc, ◌+◌, ◌-◌, ◌*◌, ◌≤◌, ◌<◌, ◌≡◌, ◌⊎◌, Bool, cond, List, [], ◌∷◌, ◌++◌, length, get_or, set, Float}
 use Rattle.std.specs.Float.{binary32, nan}
 use Rattle.std.specs.Float.Ieee.{mul, lt}
-use Rattle.lists.specs.Lists.{All, range, foldl}
+use Rattle.lists.specs.Lists.{range, foldl}
 use Rattle.vectors.specs.Lent.{HasVector}
 use Rattle.vectors.specs.declared.Space.{Space}
 use Rattle.candidates.specs.Candidates.{Candidate}
 use Rattle.candidates.specs.Quotient.{largest, fmax, fmin, quotient}
-use Rattle.candidates.specs.Inner.Words.{cands, Small, Outside}
-use Rattle.prune.specs.Prune.{growth, thresholds, no_candidate, Selection, raise, pass, passes, prune_scored}
+use Rattle.candidates.specs.Inner.Words.{cand, cands, Small, Outside}
+use Rattle.prune.specs.Prune.{growth, thresholds, no_candidate, Selection, raise, pass, prune_scored}
 
 -- the threshold after t
 unfoldable pub next_threshold : Float → Float → Float
@@ -30,9 +30,9 @@ selection factors selected = record { factors = factors; selected = selected }
 pub record Given (space : Space) (w : List ℕ) (a n : ℕ) : Type 0 where
   pub short : space.dim ≤ 256
   pub inside : a + 2 * n ≤ length w
-  pub small : Small (cands w a n)
-  pub stored : All (λ c. HasVector space c.id) (cands w a n)
-  pub numbered : All (λ c. c.id < 65536) (cands w a n)
+  pub small : (k : ℕ) → k < n → (cand w (a + 2 * k)).dist ≤ 16777216
+  pub stored : (k : ℕ) → k < n → HasVector space (cand w (a + 2 * k)).id
+  pub numbered : (k : ℕ) → k < n → (cand w (a + 2 * k)).id < 65536
 
 -- room for as many as the degree at `to`, apart from n candidates at a
 pub record Room (degree : ℕ) (w : List ℕ) (a n to : ℕ) : Type 0 where
@@ -61,12 +61,6 @@ pub record Considered (alpha : Float) (d : ℕ → ℕ → ℕ) (c : List Candid
 -- all passes over the n candidates at a, from the factors on: the r taken ones lie at `to`
 pub record Selected (degree : ℕ) (alpha : Float) (d : ℕ → ℕ → ℕ) (factors : List Float) (w : List ℕ) (a n to r : ℕ) (w' : List ℕ) : Type 0 where
   pub list : cands w' to r ≡ (foldl (pass degree alpha d (cands w a n)) (selection factors []) (thresholds alpha)).selected
-  pub few : r ≤ degree
-  pub size : length w' ≡ length w
-  pub same : Outside to (2 * degree) w w'
-
-pub record Picked (degree : ℕ) (alpha : Float) (d : ℕ → ℕ → ℕ) (w : List ℕ) (a n to r : ℕ) (w' : List ℕ) : Type 0 where
-  pub list : cands w' to r ≡ passes degree alpha d (cands w a n)
   pub few : r ≤ degree
   pub size : length w' ≡ length w
   pub same : Outside to (2 * degree) w w'

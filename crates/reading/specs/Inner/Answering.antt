@@ -1,6 +1,6 @@
 -- What is read of an index that no test turns back. Assumes nothing.
-use Rattle.std.specs.Prelude.{Ok, List, ◌≡◌, ℕ}
-use Rattle.slots.specs.Sizes.{slices}
+use Rattle.std.specs.Prelude.{Ok, ◌≡◌}
+use Rattle.slots.specs.Sizes.{Slices}
 use Rattle.index.specs.declared.Index.{Index}
 use Rattle.reading.specs.declared.Reading.{Reading}
 use Rattle.reading.specs.declared.Value.{Value}
@@ -10,5 +10,5 @@ use Rattle.index.specs.Index.{state_of}
 use Rattle.reading.specs.Read.{reading_of, answer_of}
 
 -- where no test holds, the rows, versions, marks and numbers decide
-pub record Answers (index : Index) (targets edges versions marks numbers : List ℕ) (q : Reading) (r : Value) : Type 0 where
-  pub does : (vectors pool summary : List ℕ) → answer_of (Ok r) ≡ reading stored (state_of index (slices vectors targets edges versions marks pool numbers summary)) (reading_of q)
+pub record Answers (index : Index) (s : Slices) (q : Reading) (r : Value) : Type 0 where
+  pub does : answer_of (Ok r) ≡ reading stored (state_of index s) (reading_of q)

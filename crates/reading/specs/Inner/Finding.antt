@@ -5,13 +5,14 @@ use Rattle.slots.specs.Sizes.{limits}
 use Rattle.slots.specs.Scratch.{size_answer, list_words}
 use Rattle.candidates.specs.Candidates.{ids}
 use Rattle.candidates.specs.Inner.Words.{cands, Small}
-use Rattle.calls.specs.Outputs.{distances}
+use Rattle.calls.specs.Calls.{Search}
+use Rattle.calls.specs.Outputs.{Outputs, distances}
 use Rattle.calls.specs.Refusals.{Test}
 
--- 7 and 8
-abbrev pub search_tests : ℕ → ℕ → ℕ → ℕ → ℕ → ℕ → ℕ → List Test
-search_tests capacity k beam slots dists numbers scratch =
-    (7, ltb limits.beam beam || ltb (min (min slots dists) numbers) k) ∷ (8, ltb scratch (size_answer capacity)) ∷ []
+-- 7 and 8, of a search with these outputs and so much scratch
+abbrev pub search_tests : ℕ → Search → Outputs → ℕ → List Test
+search_tests capacity a o scratch =
+    (7, ltb limits.beam a.beam || ltb (min (min (length o.slots) (length o.dists)) (length o.numbers)) a.k) ∷ (8, ltb scratch (size_answer capacity)) ∷ []
 
 -- n candidates in the words, and room for them
 pub record Fits (words : List ℕ) (n : ℕ) (slots : List ℕ) (dists : List Float) : Type 0 where

@@ -5,7 +5,7 @@ use Rattle.lists.specs.Lists.{filter, part}
 use Rattle.vectors.specs.Vector.{VectorAt}
 use Rattle.slots.specs.Store.{Arrays, is_valid, current}
 
--- slices of rows, versions and marks that belong together; a blank target is outside
+-- slices of rows, versions and marks that belong together; a blank target is outside. A `Graph` carries this, so that those ask for it who make one.
 pub record RowShape (degree : ℕ) (targets edges versions marks : List ℕ) : Type 0 where
   pub targets_long : length targets ≡ length marks * degree
   pub edges_long : length edges ≡ length marks * degree

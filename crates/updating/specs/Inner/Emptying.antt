@@ -1,25 +1,19 @@
 -- A delete's own tests, its names as slots, and the index that it leaves by value. Assumes nothing.
-use Rattle.std.specs.Prelude.{ℕ, ◌-◌, Bool, true, false, ◌||◌, List, [], ◌∷◌, map, ◌≡◌, length, take, ltb}
+use Rattle.std.specs.Prelude.{ℕ, ◌-◌, ◌≤◌, false, List, [], ◌∷◌, ◌≡◌, length, ltb}
 use Rattle.std.proofs.Math.Option.{none}
-use Rattle.slots.specs.Sizes.{Slices, Lengths, lengths_of, limits}
+use Rattle.slots.specs.Sizes.{Slices, lengths_of, limits}
 use Rattle.slots.specs.Scratch.{size_answer}
-use Rattle.numbers.specs.Numbers.{slot_of}
 use Rattle.calls.specs.Calls.{of_slots, Delete}
-use Rattle.calls.specs.Refusals.{Test, first_of, index_tests}
+use Rattle.calls.specs.Refusals.{Test, first_of, delete_over, index_tests}
 use Rattle.calls.specs.State.{shown, stored}
+use Rattle.calls.specs.Step.{named}
 use Rattle.index.specs.declared.Index.{Index}
 use Rattle.index.specs.Index.{state_of}
-use Rattle.index.specs.Inner.Deciding.{Labels, labels_of}
 use Rattle.updating.specs.declared.Changed.{Changed}
-use Rattle.updating.specs.declared.Naming.{Naming}
-use Rattle.updating.specs.declared.Naming.TheVariants.{Slots, Numbers}
 
 -- 7 and 8
-abbrev pub delete_tests : ℕ → ℕ → ℕ → ℕ → ℕ → List Test
-delete_tests capacity ids repair_beam repair_degree scratch =
-    (7, ltb limits.repair_beam repair_beam || ltb limits.repair_degree repair_degree || ltb limits.ids ids)
-    ∷ (8, ltb scratch (size_answer capacity))
-    ∷ []
+abbrev pub delete_tests : Index → Delete → ℕ → List Test
+delete_tests index a scratch = (7, delete_over limits a) ∷ (8, ltb scratch (size_answer index.capacity)) ∷ []
 
 -- a delete of slots
 abbrev pub slot_delete : List ℕ → ℕ → ℕ → Delete
@@ -34,11 +28,10 @@ with_entry i entry live =
 abbrev pub fewer : Index → ℕ → ℕ → Changed
 fewer i entry n = record { index = with_entry i entry (i.live - n); count = n }
 
-abbrev pub are_numbers : Naming → Bool
-are_numbers Slots = false
-are_numbers Numbers = true
-
--- the names stand as slots at the front, of an index that no test that calls share turns back
-pub record Translated (index : Index) (lent : Lengths) (looked : Labels) (names slots : List ℕ) : Type 0 where
-  pub does : (s : Slices) → lengths_of s ≡ lent → labels_of s ≡ looked → first_of (index_tests limits lent (shown stored (state_of index s)) false []) ≡ none
-      → take (length names) slots ≡ map (slot_of s.numbers) names
+-- a delete by slots that stands for one by names: it names as many slots, and of an index that no test that calls share turns back those that the names name,
+-- where they are few
+pub record BySlots (index : Index) (s : Slices) (a b : Delete) : Type 0 where
+  pub names : first_of (index_tests limits (lengths_of s) (shown stored (state_of index s)) false []) ≡ none → length a.names ≤ limits.ids
+      → b.names ≡ named (state_of index s) a
+  pub many : length b.names ≡ length a.names
+  pub rest : b ≡ slot_delete b.names a.repair_beam a.repair_degree

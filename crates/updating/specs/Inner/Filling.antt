@@ -1,23 +1,28 @@
 -- An insert's own tests, the index that it leaves by value, and its numbers. Assumes nothing.
 use Rattle.std.specs.Prelude.{ℕ, ◌*◌, ◌/◌, ◌≤◌, ◌<◌, Bool, not, ◌||◌, List, [], ◌∷◌, ◌≡◌, eqb, ltb, length, take}
 use Rattle.lists.specs.Lists.{filter, range, elem}
-use Rattle.slots.specs.Sizes.{limits}
+use Rattle.slots.specs.Sizes.{Slices, limits}
 use Rattle.slots.specs.Scratch.{size_answer}
 use Rattle.slots.specs.Store.{is_valid}
 use Rattle.numbers.specs.Numbers.{taken, write_numbers, summary_of}
 use Rattle.numbers.specs.Inner.Listed.{Inserting}
+use Rattle.calls.specs.Calls.{Insert}
 use Rattle.calls.specs.Refusals.{Test}
 use Rattle.index.specs.declared.Index.{Index}
 
+-- 3, of the list for slots and of the numbers: too short for as many as vectors are given, or not one for each
+abbrev pub insert_wrong : Index → Insert → ℕ → Bool
+insert_wrong index a slots = let n = length a.bytes / index.dim in ltb slots n || not (eqb (length a.numbers) n)
+
 -- 7 to 10, and 15
-abbrev pub insert_tests : Index → List ℕ → List ℕ → ℕ → List ℕ → ℕ → ℕ → List Test
-insert_tests index marks numbers bytes given beam scratch =
-    let n = bytes / index.dim in
-    (7, ltb limits.beam beam)
+abbrev pub insert_tests : Index → Slices → Insert → ℕ → List Test
+insert_tests index s a scratch =
+    let n = length a.bytes / index.dim in
+    (7, ltb limits.beam a.beam)
     ∷ (8, ltb scratch (size_answer index.capacity))
-    ∷ (9, not (eqb bytes (n * index.dim)))
-    ∷ (10, ltb (length (filter (λ s. not (is_valid marks s)) (range 0 index.capacity))) n)
-    ∷ (15, taken numbers given)
+    ∷ (9, not (eqb (length a.bytes) (n * index.dim)))
+    ∷ (10, ltb (length (filter (λ t. not (is_valid s.marks t)) (range 0 index.capacity))) n)
+    ∷ (15, taken s.numbers a.numbers)
     ∷ []
 
 -- another live count

@@ -180,7 +180,7 @@ pub record Stepped (capacity beam : ℕ) (w : List ℕ) (to : State) (w' : List 
   pub same : Outside 0 (work_at capacity) w w'
 
 -- ---- the calls
--- what a walk over a graph asks
+-- what a walk over a graph asks: a fact of the graph, the query and the lent words of one call
 pub record Ready (a : Arrays) (query : List ℕ) (start beam : ℕ) (w : List ℕ) : Type 0 where
   pub query_long : length query ≡ a.dim
   pub start_inside : start < length a.marks

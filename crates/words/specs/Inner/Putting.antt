@@ -16,6 +16,7 @@ use Rattle.guarding.specs.declared.Guarded.{Guarded}
 use Rattle.guarding.specs.declared.Guarded.TheVariants.{Applied, Deferred}
 use Rattle.guarding.specs.Guarded.{index_kept, Guards}
 use Rattle.words.specs.declared.deleting.Left.{Left}
+use Rattle.words.specs.declared.guarded_delete.Written.{Written}
 use Rattle.words.specs.IndexWords.{index_of}
 use Rattle.words.specs.Given.{map_ok, put, changed_words, guarded_words}
 
@@ -63,6 +64,12 @@ abbrev pub guarded_left : Result Guarded Refusal → ℕ → ℕ × ℕ
 guarded_left (Err e) place = (0, 0)
 guarded_left (Ok (Applied c v)) place = (place, c.count)
 guarded_left (Ok (Deferred v)) place = (0, 0)
+
+-- the places that are written stay
+pub record SameWritten (t t' : Written) : Type 0 where
+  pub words : t'.words.ghost_name ≡ t.words.ghost_name
+  pub found : t'.found.ghost_name ≡ t.found.ghost_name
+  pub report : t'.report.ghost_name ≡ t.report.ghost_name
 
 -- what `guarded_words` leaves: all that `finder_guarded_delete` promises but the records
 pub record LeavesGuarded (words : List ℕ) (s : Slices) (a : Delete) (room : ℕ) (checked lost scratch words' : List ℕ) (s' : Slices) (checked' lost' scratch' : List ℕ) (found found' : ℕ) (report report' : List ℕ) (r : Left) : Type 0 where

@@ -1,19 +1,27 @@
 use Rattle.std.proofs.Common.{rules}
-use native.Mathlib.Omega.{arith}
+use mathlib.Core.Path.{refl}
 use Rattle.deletion.proofs.Acting.{settled, made_plans, made_area, repaired_finish, repaired}
 use Rattle.deletion.proofs.acts.repair_rows.Goals as goal
 
-pub apply_plans-requires : goal.apply_plans-requires
-apply_plans-requires c =
+pub link_rows-requires : goal.link_rows-requires
+link_rows-requires c =
+    let m = rw c.read-read.ensures at c.make_plans.ensures in
     record {
       together = c.requires.together;
-      in_bounds = (c.requires.repairable.makes.entry_in, made_plans c.requires.together c.requires.repairable c.make_plans.ensures, made_area c.requires.together c.requires.repairable c.make_plans.ensures, c.requires.repairable.makes.degree_most);
+      linkable = (c.requires.repairable.makes.entry_in, made_plans c.requires.together c.requires.repairable m, made_area c.requires.together c.requires.repairable m, c.requires.repairable.makes.degree_most);
     }
 
 pub finish_all-requires : goal.finish_all-requires
 finish_all-requires c =
-    repaired_finish c.requires.together c.requires.repairable c.make_plans.ensures (settled c.apply_plans.ensures.1 c.apply_plans.ensures.0 (search rules) (search rules)) (omega arith) (omega arith)
+    let m = rw c.read-read.ensures at c.make_plans.ensures in
+    let p = c.link_rows.ensures in
+    repaired_finish c.requires.together c.requires.repairable m (settled p.1 p.0 (search rules) (search rules)) refl
 
 pub returns : goal.returns
 returns c =
-    repaired c.requires.together c.requires.repairable c.make_plans.ensures (settled c.apply_plans.ensures.1 c.apply_plans.ensures.0 (search rules) (search rules)) c.finish_all.ensures
+    let m = rw c.read-read.ensures at c.make_plans.ensures in
+    let p = c.link_rows.ensures in
+    let x = c.finish_all.ensures.1 in (
+      repaired c.requires.together c.requires.repairable m (settled p.1 p.0 (search rules) (search rules)) c.finish_all.ensures.0,
+      record { space = x.space; degree = x.degree; targets = x.targets; edges = x.edges; versions = x.versions; marks = x.marks },
+    )

@@ -1,10 +1,11 @@
 use mathlib.Core.Path.{refl}
 use Rattle.slots.specs.Sizes.{limits}
+use Rattle.guarding.proofs.Guards.{guards_named}
 use Rattle.guarding.proofs.deleting.guarded_delete.Goals as goal
 
-pub guarded_named-requires : goal.guarded_named-requires
+pub by_slots-by-requires : goal.by_slots-by-requires
 unfolding limits
-guarded_named-requires c = refl
+by_slots-by-requires c = refl
 
 pub returns : goal.returns
-returns c = c.guarded_named.ensures
+returns c = (guards_named c.read.ensures c.by_slots-by.ensures c.guarded_slots.ensures.0, c.guarded_slots.ensures.1, c.guarded_slots.ensures.2)

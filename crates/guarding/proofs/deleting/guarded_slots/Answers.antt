@@ -1,23 +1,62 @@
-use Rattle.slots.specs.Sizes.{Slices, slices}
-use Rattle.updating.proofs.Empties.{fewer_fits}
+use mathlib.Core.Path.{refl, ap}
+use borrow.Author.Tests.{not-true, not-false}
 use Rattle.std.proofs.lemmas.Result.{err_from_is_err_and}
-use Rattle.guarding.proofs.Guards.{guarded_testable, guards_back, passes, guards_able, guards_applied, guards_deferred}
+use Rattle.index.specs.Lent.{delete_slices_of}
+use Rattle.guarding.proofs.Guards.{guarded_testable, guards_back, guards_able, guards_few, guards_applied, guards_deferred}
 use Rattle.guarding.proofs.deleting.guarded_slots.Goals as goal
 
 pub tested_report-requires : goal.tested_report-requires
-tested_report-requires c = let lent : Slices = slices c.args.vectors.now c.args.targets.now c.args.edges.now c.args.versions.now c.args.marks.now c.args.pool.now c.args.numbers.now c.args.summary.now in guarded_testable c.args.index lent c.args.ids.now c.args.repair_beam c.args.repair_degree c.args.room c.args.checked.now c.args.lost.now c.args.scratch.now c.outputs_short-wrong.ensures c.delete_over-over.ensures
+tested_report-requires c =
+    let a = c.args.asked.now in
+    let l = c.args.lists.now in
+    guarded_testable c.args.index (delete_slices_of c.args.slices.now) a.names.now a.repair_beam a.repair_degree c.args.room l.checked.now l.lost.now c.args.scratch.now
+    c.outputs_short-wrong.ensures c.delete_over-over.ensures
 
 pub returns-in_err-report : goal.returns-in_err-report
-returns-in_err-report c = let lent : Slices = slices c.args.vectors.now c.args.targets.now c.args.edges.now c.args.versions.now c.args.marks.now c.args.pool.now c.args.numbers.now c.args.summary.now in let p = err_from_is_err_and c.from_residual.result c.from_residual.ensures.1 in rw (p.1, p.2) (guards_back c.args.index lent c.args.ids.now c.args.repair_beam c.args.repair_degree c.args.room c.args.checked.now c.args.lost.now c.args.scratch.now c.outputs_short-wrong.ensures c.delete_over-over.ensures c.tested_report.ensures c.in_err-report.was)
+returns-in_err-report c =
+    let a = c.args.asked.now in
+    let l = c.args.lists.now in
+    let p = err_from_is_err_and c.from_residual.result c.from_residual.ensures.1 in
+    rw (p.1, p.2) (
+      guards_back c.args.index (delete_slices_of c.args.slices.now) a.names.now a.repair_beam a.repair_degree c.args.room l.checked.now l.lost.now c.args.scratch.now
+          c.outputs_short-wrong.ensures c.delete_over-over.ensures c.read.ensures c.tested_report.ensures.0 c.in_err-report.was,
+      record { vectors = refl; targets = refl; edges = refl; versions = refl; marks = refl; pool = refl; numbers = refl; summary = refl },
+      c.tested_report.ensures.1,
+    )
 
-pub delete_ids-d-requires : goal.delete_ids-d-requires
-delete_ids-d-requires c = let lent : Slices = slices c.args.vectors.now c.args.targets.now c.args.edges.now c.args.versions.now c.args.marks.now c.args.pool.now c.args.numbers.now c.args.summary.now in guards_able c.args.index lent c.args.ids.now c.args.repair_beam c.args.repair_degree c.args.room c.args.checked.now c.args.lost.now c.args.scratch.now c.outputs_short-wrong.ensures c.delete_over-over.ensures c.tested_report.ensures c.in_ok-report.was c.tested_report.auto.scratch
+pub delete_batch-emptied-requires : goal.delete_batch-emptied-requires
+delete_batch-emptied-requires c =
+    let a = c.args.asked.now in
+    let l = c.args.lists.now in
+    guards_able c.args.index (delete_slices_of c.args.slices.now) a.names.now a.repair_beam a.repair_degree c.args.room l.checked.now l.lost.now c.args.scratch.now
+    c.outputs_short-wrong.ensures c.delete_over-over.ensures c.read.ensures c.tested_report.ensures.0 c.in_ok-report.was c.tested_report.auto.scratch
 
 pub with_fewer-requires : goal.with_fewer-requires
-with_fewer-requires c = let lent : Slices = slices c.args.vectors.now c.args.targets.now c.args.edges.now c.args.versions.now c.args.marks.now c.args.pool.now c.args.numbers.now c.args.summary.now in let p = passes c.args.index lent c.args.ids.now c.args.repair_beam c.args.repair_degree c.args.room c.args.checked.now c.args.lost.now c.args.scratch.now c.outputs_short-wrong.ensures c.delete_over-over.ensures c.tested_report.ensures c.in_ok-report.was in (fewer_fits p c.args.ids.now c.args.repair_beam c.args.repair_degree c.delete_ids-d.ensures.0 c.delete_ids-d.ensures.1 c.delete_ids-d.auto.marks).0
+with_fewer-requires c =
+    let a = c.args.asked.now in
+    let l = c.args.lists.now in
+    let e = c.delete_batch-emptied.ensures in
+    guards_few c.args.index (delete_slices_of c.args.slices.now) a.names.now a.repair_beam a.repair_degree c.args.room l.checked.now l.lost.now c.args.scratch.now
+    c.outputs_short-wrong.ensures c.delete_over-over.ensures c.read.ensures c.tested_report.ensures.0 c.in_ok-report.was (delete_slices_of c.delete_batch-emptied.new.slices) e.0 e.1
 
-pub returns-then-report : goal.returns-then-report
-returns-then-report c = let lent : Slices = slices c.args.vectors.now c.args.targets.now c.args.edges.now c.args.versions.now c.args.marks.now c.args.pool.now c.args.numbers.now c.args.summary.now in guards_applied c.args.index lent c.args.ids.now c.args.repair_beam c.args.repair_degree c.args.room c.args.checked.now c.args.lost.now c.args.scratch.now c.outputs_short-wrong.ensures c.delete_over-over.ensures c.tested_report.ensures c.in_ok-report.was c.delete_ids-d.ensures c.delete_ids-d.auto.marks c.tested_report.auto.scratch c.delete_ids-d.auto.scratch c.if-report.true c.with_fewer.ensures
+pub returns-then-not-report : goal.returns-then-not-report
+returns-then-not-report c =
+    let a = c.args.asked.now in
+    let l = c.args.lists.now in (
+      guards_deferred c.args.index (delete_slices_of c.args.slices.now) a.names.now a.repair_beam a.repair_degree c.args.room l.checked.now l.lost.now c.args.scratch.now
+          c.outputs_short-wrong.ensures c.delete_over-over.ensures c.read.ensures c.tested_report.ensures.0 c.in_ok-report.was (not-true _ c.if-not-report.true),
+      record { vectors = refl; targets = refl; edges = refl; versions = refl; marks = refl; pool = refl; numbers = refl; summary = refl },
+      c.tested_report.ensures.1,
+    )
 
 pub returns : goal.returns
-returns c = let lent : Slices = slices c.args.vectors.now c.args.targets.now c.args.edges.now c.args.versions.now c.args.marks.now c.args.pool.now c.args.numbers.now c.args.summary.now in guards_deferred c.args.index lent c.args.ids.now c.args.repair_beam c.args.repair_degree c.args.room c.args.checked.now c.args.lost.now c.args.scratch.now c.outputs_short-wrong.ensures c.delete_over-over.ensures c.tested_report.ensures c.in_ok-report.was c.if-report.false
+returns c =
+    let a = c.args.asked.now in
+    let l = c.args.lists.now in
+    let e = c.delete_batch-emptied.ensures in (
+      guards_applied c.args.index (delete_slices_of c.args.slices.now) a.names.now a.repair_beam a.repair_degree c.args.room l.checked.now l.lost.now c.args.scratch.now
+          c.outputs_short-wrong.ensures c.delete_over-over.ensures c.read.ensures c.tested_report.ensures.0 c.in_ok-report.was (delete_slices_of c.delete_batch-emptied.new.slices) e.0 e.1
+          (ap (λ x. x.now) e.2.pool) c.tested_report.auto.scratch c.delete_batch-emptied.auto.scratch (not-false _ c.if-not-report.false) c.with_fewer.ensures,
+      e.2,
+      c.tested_report.ensures.1,
+    )

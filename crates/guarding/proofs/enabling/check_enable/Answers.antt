@@ -1,22 +1,24 @@
 use Rattle.std.proofs.lemmas.Result.{err_from_is_err_and}
-use Rattle.guard.specs.Guard.{config}
+use Rattle.guard.specs.Lent.{config_of}
 use Rattle.guarding.proofs.Enables.{turns_before, turns_over, turns_short, turns_empty, turns_one, turns_none}
 use Rattle.guarding.proofs.enabling.check_enable.Goals as goal
 
 pub returns-in_err-check_index : goal.returns-in_err-check_index
-returns-in_err-check_index c = let p = err_from_is_err_and c.from_residual.result c.from_residual.ensures.1 in rw (p.1, p.2) (turns_before (config c.args.count c.args.multiplier c.args.sample c.args.beam) c.args.scratch c.check_index.ensures c.in_err-check_index.was)
+returns-in_err-check_index c =
+    let p = err_from_is_err_and c.from_residual.result c.from_residual.ensures.1 in
+    rw (p.1, p.2) (turns_before (config_of c.args.config) c.args.scratch c.check_index.ensures c.in_err-check_index.was)
 
 pub returns-then-config_over : goal.returns-then-config_over
-returns-then-config_over c = turns_over (config c.args.count c.args.multiplier c.args.sample c.args.beam) c.args.scratch c.check_index.ensures c.in_ok-check_index.was c.config_over.ensures c.if-config_over.true
+returns-then-config_over c = turns_over (config_of c.args.config) c.args.scratch c.check_index.ensures c.in_ok-check_index.was c.config_over.ensures c.if-config_over.true
 
 pub returns-then-scratch_short : goal.returns-then-scratch_short
-returns-then-scratch_short c = turns_short (config c.args.count c.args.multiplier c.args.sample c.args.beam) c.args.scratch c.check_index.ensures c.in_ok-check_index.was c.config_over.ensures c.if-config_over.false c.scratch_short.ensures c.if-scratch_short.true
+returns-then-scratch_short c = turns_short (config_of c.args.config) c.args.scratch c.check_index.ensures c.in_ok-check_index.was c.config_over.ensures c.if-config_over.false c.scratch_short.ensures c.if-scratch_short.true
 
 pub returns-then-index-eq0 : goal.returns-then-index-eq0
-returns-then-index-eq0 c = turns_empty (config c.args.count c.args.multiplier c.args.sample c.args.beam) c.args.scratch c.check_index.ensures c.in_ok-check_index.was c.config_over.ensures c.if-config_over.false c.scratch_short.ensures c.if-scratch_short.false c.if-index-eq0.true
+returns-then-index-eq0 c = turns_empty (config_of c.args.config) c.args.scratch c.check_index.ensures c.in_ok-check_index.was c.config_over.ensures c.if-config_over.false c.scratch_short.ensures c.if-scratch_short.false c.if-index-eq0.true
 
 pub returns-then-index-eq1 : goal.returns-then-index-eq1
-returns-then-index-eq1 c = turns_one (config c.args.count c.args.multiplier c.args.sample c.args.beam) c.args.scratch c.check_index.ensures c.in_ok-check_index.was c.config_over.ensures c.if-config_over.false c.scratch_short.ensures c.if-scratch_short.false c.if-index-eq0.false c.if-index-eq1.true
+returns-then-index-eq1 c = turns_one (config_of c.args.config) c.args.scratch c.check_index.ensures c.in_ok-check_index.was c.config_over.ensures c.if-config_over.false c.scratch_short.ensures c.if-scratch_short.false c.if-index-eq0.false c.if-index-eq1.true
 
 pub returns : goal.returns
-returns c = turns_none (config c.args.count c.args.multiplier c.args.sample c.args.beam) c.args.scratch c.check_index.ensures c.in_ok-check_index.was c.config_over.ensures c.if-config_over.false c.scratch_short.ensures c.if-scratch_short.false c.if-index-eq0.false c.if-index-eq1.false
+returns c = turns_none (config_of c.args.config) c.args.scratch c.check_index.ensures c.in_ok-check_index.was c.config_over.ensures c.if-config_over.false c.scratch_short.ensures c.if-scratch_short.false c.if-index-eq0.false c.if-index-eq1.false

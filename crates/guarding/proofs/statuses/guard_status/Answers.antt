@@ -1,13 +1,15 @@
-use Rattle.slots.specs.Sizes.{Slices, slices}
 use Rattle.std.proofs.lemmas.Result.{err_from_is_err_and}
+use Rattle.index.specs.Lent.{slices_of}
 use Rattle.guarding.proofs.Stands.{stands_back, stands_ready, stands_on}
 use Rattle.guarding.proofs.statuses.guard_status.Goals as goal
 
 pub returns-in_err-check_index : goal.returns-in_err-check_index
-returns-in_err-check_index c = let lent : Slices = slices c.args.vectors.now c.args.targets.now c.args.edges.now c.args.versions.now c.args.marks.now c.args.pool.now c.args.numbers.now c.args.summary.now in let p = err_from_is_err_and c.from_residual.result c.from_residual.ensures.1 in rw (p.1, p.2) (stands_back c.args.index lent c.check_index.ensures c.in_err-check_index.was)
+returns-in_err-check_index c =
+    let p = err_from_is_err_and c.from_residual.result c.from_residual.ensures.1 in
+    rw (p.1, p.2) (stands_back c.args.index (slices_of c.args.slices.now) c.check_index.ensures c.in_err-check_index.was)
 
 pub status_of-requires : goal.status_of-requires
-status_of-requires c = let lent : Slices = slices c.args.vectors.now c.args.targets.now c.args.edges.now c.args.versions.now c.args.marks.now c.args.pool.now c.args.numbers.now c.args.summary.now in stands_ready c.args.index lent c.check_index.ensures c.in_ok-check_index.was
+status_of-requires c = stands_ready c.args.index (slices_of c.args.slices.now) c.check_index.ensures c.in_ok-check_index.was
 
 pub returns : goal.returns
-returns c = let lent : Slices = slices c.args.vectors.now c.args.targets.now c.args.edges.now c.args.versions.now c.args.marks.now c.args.pool.now c.args.numbers.now c.args.summary.now in stands_on c.args.index lent c.check_index.ensures c.in_ok-check_index.was c.status_of.ensures
+returns c = stands_on c.args.index (slices_of c.args.slices.now) c.check_index.ensures c.in_ok-check_index.was c.status_of.ensures

@@ -3,4 +3,4 @@ use Rattle.index.proofs.Decide.{live_few}
 use Rattle.index.proofs.refusals.index_bad.Goals as goal
 
 pub labels_bad-requires : goal.labels_bad-requires
-labels_bad-requires c = (c.requires.0, c.requires.1, live_few c.args.marks.now (c.if-live-count_valid.false ∙ c.count_valid.ensures))
+labels_bad-requires c = (c.requires.0, c.requires.1, live_few c.args.slices.now.marks.now (c.if-live-count_valid.false ∙ c.count_valid.ensures))

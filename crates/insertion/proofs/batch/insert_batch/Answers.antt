@@ -1,9 +1,13 @@
-use Rattle.insertion.proofs.Batching.{batch_provided, batch_assigned, batch_inserted}
-use mathlib.Core.Path.{refl}
+use Rattle.slots.specs.Store.{Arrays}
+use Rattle.insertion.proofs.Batching.{batch_assigned, batch_inserted}
+use Rattle.std.proofs.Common.{rules}
+use mathlib.Core.Path.{refl, ap}
 use Rattle.insertion.proofs.batch.insert_batch.Goals as goal
 
-pub returns : goal.returns
-returns c = (batch_inserted c.requires refl c.free_slots.ensures c.insert_chunks.ensures.0, c.insert_chunks.ensures.1)
+pub insert_chunks-requires : goal.insert_chunks-requires
+insert_chunks-requires c = (batch_assigned c.requires refl (rw (ap (λ (a : Arrays). a.marks) c.read.ensures) at c.free_slots.ensures), c.requires.enough)
 
-pub insert_chunks-requires-clause-assigned : goal.insert_chunks-requires-clause-assigned
-insert_chunks-requires-clause-assigned c = (batch_assigned c.requires refl c.free_slots.ensures, batch_provided c.requires refl)
+pub returns : goal.returns
+returns c = let s = c.insert_chunks.ensures.same in
+    let y = batch_inserted c.requires refl (rw (ap (λ (a : Arrays). a.marks) c.read.ensures) at c.free_slots.ensures) (rw s.how at c.insert_chunks.ensures.index) in
+    (search (rules, y), search (rules, s.slices))

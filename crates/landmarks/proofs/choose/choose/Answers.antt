@@ -2,7 +2,7 @@ use Rattle.landmarks.proofs.Choosing.{farthest_inside, choosing_none, choosing_m
 use Rattle.landmarks.proofs.choose.choose.Goals as goal
 
 pub loop-k-init : goal.loop-k-init
-loop-k-init c = choosing_none _ _ _ _ c.requires.0 c.requires.1
+loop-k-init c = choosing_none _ _ _ c.requires.0
 
 pub returns-then-m-eq0 : goal.returns-then-m-eq0
 returns-then-m-eq0 c = choosing_empty c.loop-k.invariant c.if-m-eq0.true

@@ -4,4 +4,4 @@ use Rattle.landmarks.proofs.Choosing.{Choosing}
 use Rattle.landmarks.proofs.choose.choose.Given as goal
 
 abbrev pub invariant-loop-k : goal.invariant-loop-k
-invariant-loop-k l = Choosing l.space (slot_distance (space_of l.space)) l.wanted l.at l.a l.n l.initial.list l.initial.words l.list l.words l.m l.k
+invariant-loop-k l = Choosing l.space (slot_distance (space_of l.space)) l.wanted l.n l.initial.list l.initial.words l.list l.words l.m l.k

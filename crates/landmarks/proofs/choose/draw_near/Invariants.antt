@@ -4,4 +4,4 @@ use Rattle.landmarks.proofs.Drawing.{Drawing}
 use Rattle.landmarks.proofs.choose.draw_near.Given as goal
 
 abbrev pub invariant-loop-k : goal.invariant-loop-k
-invariant-loop-k l = Drawing l.space (slot_distance (space_of l.space)) l.next l.a l.initial.words l.n l.words l.m l.k
+invariant-loop-k l = Drawing l.space (slot_distance (space_of l.space)) l.next l.initial.words l.n l.words l.m l.k

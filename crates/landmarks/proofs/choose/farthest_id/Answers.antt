@@ -4,7 +4,7 @@ use Rattle.landmarks.proofs.choose.farthest_id.Goals as goal
 use Rattle.landmarks.proofs.choose.farthest_id.Goals.{then-best-dist, else-best-dist}
 
 pub loop-i-init : goal.loop-i-init
-loop-i-init c = comparing_none _ _ _
+loop-i-init c = comparing_none _ _
 
 pub loop-i-preserved : goal.loop-i-preserved
 loop-i-preserved c =

@@ -3,4 +3,4 @@ use Rattle.landmarks.proofs.Choosing.{Comparing}
 use Rattle.landmarks.proofs.choose.farthest_id.Given as goal
 
 abbrev pub invariant-loop-i : goal.invariant-loop-i
-invariant-loop-i l = Comparing l.words l.a l.n l.best l.id l.i
+invariant-loop-i l = Comparing l.words l.n l.best l.id l.i

@@ -1,14 +1,17 @@
-use Rattle.std.proofs.Common.{◌≡◌, length, arith}
-use Rattle.landmarks.specs.Inner.Samples.{free_of, stride_of}
+use Rattle.std.proofs.Common.{◌≡◌, true, false, length, arith, rules}
+use Rattle.landmarks.specs.Inner.Samples.{free_of, on_stride, stride_of}
 use Rattle.landmarks.proofs.Sampling.{taken_few, taken_more}
 use Rattle.landmarks.proofs.sample.take_sample.Goals as goal
 
 pub returns-then-n-wanted : goal.returns-then-n-wanted
 returns-then-n-wanted c =
     let e : c.max-stride.result ≡ stride_of (length c.args.free.now.marks.now) c.args.sample = omega arith in
-    taken_more (free_of c.args.free.now) e c.sample_slots-n.ensures c.requires.2 c.requires.3 c.if-n-wanted.true c.sample_slots.ensures
+    let f = c.sample_slots-n.ensures (on_stride c.max-stride.result false) (λ s r h p. search rules) in
+    let g = c.sample_slots.ensures (on_stride c.max-stride.result true) (λ s r h p. search rules) in
+    taken_more (free_of c.args.free.now) e f c.requires.2 c.requires.3 c.if-n-wanted.true g
 
 pub returns : goal.returns
 returns c =
     let e : c.max-stride.result ≡ stride_of (length c.args.free.now.marks.now) c.args.sample = omega arith in
-    taken_few (free_of c.args.free.now) e c.sample_slots-n.ensures c.requires.3 c.if-n-wanted.false
+    let f = c.sample_slots-n.ensures (on_stride c.max-stride.result false) (λ s r h p. search rules) in
+    taken_few (free_of c.args.free.now) e f c.requires.3 c.if-n-wanted.false

@@ -1,17 +1,17 @@
 use Rattle.vectors.specs.Space.{slot_distance}
 use Rattle.vectors.specs.Lent.{space_of}
 use Rattle.landmarks.specs.Inner.Samples.{remains}
-use Rattle.landmarks.proofs.Selecting.{selectable_entry, selectable_list, taken_listed, selected_none, drawn_listed, selected}
+use Rattle.landmarks.proofs.Selecting.{selectable_references, taken_listed, selected_none, drawn_listed, selected}
 use Rattle.landmarks.proofs.select.select_landmarks.Goals as goal
 
 pub returns-then-wanted-eq0 : goal.returns-then-wanted-eq0
-returns-then-wanted-eq0 c = selected_none c.requires (slot_distance (space_of c.args.space.now)) (remains c.args.marks.now c.args.ids.now) c.if-wanted-eq0.true
+returns-then-wanted-eq0 c = selected_none c.requires (slot_distance (space_of c.args.space.now)) (remains c.args.free.now.marks.now c.args.free.now.ids.now) c.if-wanted-eq0.true
 
 pub draw_all-m-requires : goal.draw_all-m-requires
-draw_all-m-requires c = (taken_listed c.requires c.take_sample-n.ensures, selectable_entry c.requires, selectable_list c.requires)
+draw_all-m-requires c = (taken_listed c.requires c.take_sample-n.ensures, (selectable_references c.requires).0, (selectable_references c.requires).1)
 
 pub choose-requires : goal.choose-requires
-choose-requires c = (drawn_listed c.requires (slot_distance (space_of c.args.space.now)) (remains c.args.marks.now c.args.ids.now) c.take_sample-n.ensures c.draw_all-m.ensures, c.requires.list_long)
+choose-requires c = (drawn_listed c.requires (slot_distance (space_of c.args.space.now)) (remains c.args.free.now.marks.now c.args.free.now.ids.now) c.take_sample-n.ensures c.draw_all-m.ensures, c.requires.list_long)
 
 pub returns : goal.returns
-returns c = selected c.requires (slot_distance (space_of c.args.space.now)) (remains c.args.marks.now c.args.ids.now) c.take_sample-n.ensures c.draw_all-m.ensures c.choose.ensures
+returns c = selected c.requires (slot_distance (space_of c.args.space.now)) (remains c.args.free.now.marks.now c.args.free.now.ids.now) c.take_sample-n.ensures c.draw_all-m.ensures c.choose.ensures

@@ -1,7 +1,6 @@
 -- The words so far name slots inside whose numbers rise up to `low`.
-use lib.ListN.{take}
 use Rattle.numbers.proofs.Tests.{RisingTo}
 use Rattle.numbers.proofs.fits.falls.Given as goal
 
 abbrev pub invariant-loop-s : goal.invariant-loop-s
-invariant-loop-s l = RisingTo l.numbers (take l.live l.summary) l.low l.s-index
+invariant-loop-s l = RisingTo l.numbers l.slots l.low l.s-index

@@ -1,5 +1,7 @@
+use Rattle.std.proofs.Common.{◌≡◌, get_or, rules}
 use Rattle.numbers.proofs.Writes.{mapped_more}
 use Rattle.numbers.proofs.writing.copy_numbers.Goals as goal
 
 pub loop-i-preserved : goal.loop-i-preserved
-loop-i-preserved c = mapped_more _ c.requires.0 c.requires.1 c.loop-i-test.true c.loop-i.invariant c.number_at.ensures
+loop-i-preserved c = let e : c.unwrap_or.result ≡ get_or c.args.numbers.now (get_or c.args.slots.now c.loop-i.i 0) 0 = search rules in
+    mapped_more _ c.requires.0 c.requires.1 c.loop-i-test.true c.loop-i.invariant e

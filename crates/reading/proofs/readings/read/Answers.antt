@@ -1,14 +1,17 @@
-use Rattle.index.proofs.Decide.{passed, passed_rows}
-use Rattle.reading.proofs.Shown.{reads_back, reads_on}
-use Rattle.slots.specs.Sizes.{Slices, slices}
 use Rattle.std.proofs.lemmas.Result.{err_from_is_err_and}
+use Rattle.index.specs.Lent.{slices_of}
+use Rattle.index.proofs.Decide.{passed, passed_bytes, passed_rows}
+use Rattle.reading.proofs.Shown.{reads_back, reads_on}
 use Rattle.reading.proofs.readings.read.Goals as goal
 
 pub returns-in_err-check_index : goal.returns-in_err-check_index
-returns-in_err-check_index c = let lent : Slices = slices c.args.vectors.now c.args.targets.now c.args.edges.now c.args.versions.now c.args.marks.now c.args.pool.now c.args.numbers.now c.args.summary.now in let p = err_from_is_err_and c.from_residual.result c.from_residual.ensures.1 in rw (p.1, p.2) (reads_back c.args.index lent c.check_index.ensures c.in_err-check_index.was)
+returns-in_err-check_index c = let p = err_from_is_err_and c.from_residual.result c.from_residual.ensures.1 in rw (p.1, p.2) (reads_back c.check_index.ensures c.in_err-check_index.was)
 
-pub answer-requires : goal.answer-requires
-answer-requires c = let lent : Slices = slices c.args.vectors.now c.args.targets.now c.args.edges.now c.args.versions.now c.args.marks.now c.args.pool.now c.args.numbers.now c.args.summary.now in passed_rows (passed c.args.index lent c.check_index.ensures c.in_ok-check_index.was)
+pub answer-requires-clause-bytes : goal.answer-requires-clause-bytes
+answer-requires-clause-bytes c = passed_bytes (passed c.args.index (slices_of c.args.slices.now) c.check_index.ensures c.in_ok-check_index.was)
+
+pub answer-requires-clause-shape : goal.answer-requires-clause-shape
+answer-requires-clause-shape c = passed_rows (passed c.args.index (slices_of c.args.slices.now) c.check_index.ensures c.in_ok-check_index.was)
 
 pub returns : goal.returns
-returns c = let lent : Slices = slices c.args.vectors.now c.args.targets.now c.args.edges.now c.args.versions.now c.args.marks.now c.args.pool.now c.args.numbers.now c.args.summary.now in reads_on c.args.index lent c.check_index.ensures c.in_ok-check_index.was c.answer.ensures
+returns c = reads_on c.check_index.ensures c.in_ok-check_index.was c.answer.ensures

@@ -1,25 +1,32 @@
-use Rattle.reading.proofs.Finds.{searches_back, search_lent, search_ready, few, search_fits, search_copies, searches_on}
-use Rattle.slots.specs.Sizes.{Slices, slices}
-use Rattle.calls.specs.Calls.{Search}
-use Rattle.reading.specs.Search.{searching}
-use borrow.Author.Rules.{rules}
 use Rattle.std.proofs.lemmas.Result.{err_from_is_err_and}
+use mathlib.Core.Path.{refl}
+use Rattle.index.specs.Lent.{slices_of}
+use Rattle.index.proofs.Decide.{passed, passed_bytes, passed_rows}
+use Rattle.reading.proofs.Finds.{searches_back, search_ready, search_fits, search_copies, searches_on}
 use Rattle.reading.proofs.searching.search.Goals as goal
 
 pub returns-in_err-check_search : goal.returns-in_err-check_search
-returns-in_err-check_search c = let lent : Slices = slices c.args.vectors.now c.args.targets.now c.args.edges.now c.args.versions.now c.args.marks.now c.args.pool.now c.args.numbers.now c.args.summary.now in let asked : Search = searching c.args.query.now c.args.k c.args.beam in let p = err_from_is_err_and c.from_residual.result c.from_residual.ensures.1 in rw (p.1, p.2) (searches_back c.args.index lent asked c.args.slots.now c.args.dists.now c.args.found_numbers.now c.args.scratch.now c.check_search.ensures c.in_err-check_search.was)
+returns-in_err-check_search c =
+    let p = err_from_is_err_and c.from_residual.result c.from_residual.ensures.1 in
+    rw (p.1, p.2) (searches_back c.args.asked.now c.args.found.now c.args.scratch.now c.check_search.ensures c.in_err-check_search.was, record { slots = refl; dists = refl; numbers = refl })
 
-pub walk_from_entry-found-requires : goal.walk_from_entry-found-requires
-walk_from_entry-found-requires c = let lent : Slices = slices c.args.vectors.now c.args.targets.now c.args.edges.now c.args.versions.now c.args.marks.now c.args.pool.now c.args.numbers.now c.args.summary.now in let asked : Search = searching c.args.query.now c.args.k c.args.beam in record { lent = search_lent c.args.index lent asked c.args.slots.now c.args.dists.now c.args.found_numbers.now c.args.scratch.now c.check_search.ensures c.in_ok-check_search.was; ready = search_ready c.args.index lent asked c.args.slots.now c.args.dists.now c.args.found_numbers.now c.args.scratch.now c.check_search.ensures c.in_ok-check_search.was }
+pub graph-graph-requires-clause-bytes : goal.graph-graph-requires-clause-bytes
+graph-graph-requires-clause-bytes c = passed_bytes (passed c.args.index (slices_of c.args.slices.now) c.check_search.ensures c.in_ok-check_search.was)
+
+pub graph-graph-requires-clause-shape : goal.graph-graph-requires-clause-shape
+graph-graph-requires-clause-shape c = passed_rows (passed c.args.index (slices_of c.args.slices.now) c.check_search.ensures c.in_ok-check_search.was)
+
+pub search_pool-pool-requires : goal.search_pool-pool-requires
+search_pool-pool-requires c = search_ready c.args.asked.now c.args.found.now c.args.scratch.now c.check_search.ensures c.in_ok-check_search.was c.graph-graph.ensures
 
 pub show-requires : goal.show-requires
-show-requires c = let lent : Slices = slices c.args.vectors.now c.args.targets.now c.args.edges.now c.args.versions.now c.args.marks.now c.args.pool.now c.args.numbers.now c.args.summary.now in let asked : Search = searching c.args.query.now c.args.k c.args.beam in search_fits c.args.index lent asked c.args.slots.now c.args.dists.now c.args.found_numbers.now c.args.scratch.now c.check_search.ensures c.in_ok-check_search.was c.walk_from_entry-found.ensures c.min-n.ensures
+show-requires c = search_fits c.args.asked.now c.args.found.now c.args.scratch.now c.check_search.ensures c.in_ok-check_search.was c.graph-graph.ensures c.search_pool-pool.ensures c.min-n.ensures
 
 pub copy_numbers-requires : goal.copy_numbers-requires
-copy_numbers-requires c = let lent : Slices = slices c.args.vectors.now c.args.targets.now c.args.edges.now c.args.versions.now c.args.marks.now c.args.pool.now c.args.numbers.now c.args.summary.now in let asked : Search = searching c.args.query.now c.args.k c.args.beam in search_copies c.args.index lent asked c.args.slots.now c.args.dists.now c.args.found_numbers.now c.args.scratch.now c.check_search.ensures c.in_ok-check_search.was c.walk_from_entry-found.ensures c.min-n.ensures c.show.auto.slots
-
-pub overflow_cast-result : goal.overflow_cast-result
-overflow_cast-result c = let lent : Slices = slices c.args.vectors.now c.args.targets.now c.args.edges.now c.args.versions.now c.args.marks.now c.args.pool.now c.args.numbers.now c.args.summary.now in let asked : Search = searching c.args.query.now c.args.k c.args.beam in let h = few c.args.index lent asked c.args.slots.now c.args.dists.now c.args.found_numbers.now c.args.scratch.now c.check_search.ensures c.in_ok-check_search.was c.walk_from_entry-found.ensures c.min-n.ensures in search rules
+copy_numbers-requires c = search_copies c.args.asked.now c.args.found.now c.args.scratch.now c.check_search.ensures c.in_ok-check_search.was c.graph-graph.ensures c.search_pool-pool.ensures c.min-n.ensures c.show.auto.slots
 
 pub returns : goal.returns
-returns c = let lent : Slices = slices c.args.vectors.now c.args.targets.now c.args.edges.now c.args.versions.now c.args.marks.now c.args.pool.now c.args.numbers.now c.args.summary.now in let asked : Search = searching c.args.query.now c.args.k c.args.beam in searches_on c.args.index lent asked c.args.slots.now c.args.dists.now c.args.found_numbers.now c.args.scratch.now c.check_search.ensures c.in_ok-check_search.was c.walk_from_entry-found.ensures c.min-n.ensures c.show.ensures c.copy_numbers.ensures
+returns c = (
+  searches_on c.args.asked.now c.args.found.now c.args.scratch.now c.check_search.ensures c.in_ok-check_search.was c.graph-graph.ensures c.search_pool-pool.ensures c.min-n.ensures c.show.ensures c.copy_numbers.ensures,
+  record { slots = refl; dists = refl; numbers = refl },
+)

@@ -5,4 +5,4 @@ pub fill-requires : goal.fill-requires
 fill-requires g c = c.requires.1
 
 pub returns : goal.returns
-returns g c = laid _ _ _ _ c.requires.0 c.copy_from_slice.ensures.after (c.fill.ensures.after c.requires.2)
+returns g c = laid _ _ _ c.requires.0 c.copy.ensures (c.fill.ensures.after c.requires.2)

@@ -1,24 +1,57 @@
-use Rattle.slots.specs.Sizes.{Slices, slices}
+use mathlib.Core.Path.{refl, ap}
 use native.Mathlib.Omega.{arith}
-use Rattle.updating.specs.Insert.{inserting}
 use Rattle.std.proofs.lemmas.Result.{err_from_is_err_and}
+use Rattle.index.specs.Lent.{insert_slices_of}
+use Rattle.updating.specs.Insert.{inserting_of}
 use Rattle.updating.proofs.Fills.{inserts_back, insert_able, more_fits, insert_labelable, inserts_on}
 use Rattle.updating.proofs.inserting.insert.Goals as goal
 
 pub returns-in_err-check_insert : goal.returns-in_err-check_insert
-returns-in_err-check_insert c = let lent : Slices = slices c.args.vectors.now c.args.targets.now c.args.edges.now c.args.versions.now c.args.marks.now c.args.pool.now c.args.numbers.now c.args.summary.now in let p = err_from_is_err_and c.from_residual.result c.from_residual.ensures.1 in rw (p.1, p.2) (inserts_back c.args.index lent (inserting c.args.bytes.now c.args.given.now c.args.beam) c.args.slots.now c.args.scratch.now c.check_insert.ensures c.in_err-check_insert.was)
+returns-in_err-check_insert c =
+    let p = err_from_is_err_and c.from_residual.result c.from_residual.ensures.1 in
+    rw (p.1, p.2) (
+      inserts_back c.args.index c.read.ensures (inserting_of c.args.asked.now) c.args.slots.now c.args.scratch.now c.check_insert.ensures c.in_err-check_insert.was,
+      record { vectors = refl; targets = refl; edges = refl; versions = refl; marks = refl; pool = refl; numbers = refl; summary = refl },
+    )
 
-pub insert_vectors-n-requires : goal.insert_vectors-n-requires
-insert_vectors-n-requires c = let lent : Slices = slices c.args.vectors.now c.args.targets.now c.args.edges.now c.args.versions.now c.args.marks.now c.args.pool.now c.args.numbers.now c.args.summary.now in insert_able c.args.index lent (inserting c.args.bytes.now c.args.given.now c.args.beam) c.args.slots.now c.args.scratch.now c.check_insert.ensures c.in_ok-check_insert.was
+pub insert_batch-n-requires : goal.insert_batch-n-requires
+insert_batch-n-requires c =
+    insert_able c.args.index c.read.ensures (inserting_of c.args.asked.now) c.args.slots.now c.args.scratch.now c.check_insert.ensures c.in_ok-check_insert.was
 
 pub overflow_cast-n : goal.overflow_cast-n
-overflow_cast-n c = let lent : Slices = slices c.args.vectors.now c.args.targets.now c.args.edges.now c.args.versions.now c.args.marks.now c.args.pool.now c.args.numbers.now c.args.summary.now in let h = more_fits c.args.index lent (inserting c.args.bytes.now c.args.given.now c.args.beam) c.args.slots.now c.args.scratch.now c.check_insert.ensures c.in_ok-check_insert.was c.insert_vectors-n.ensures c.insert_vectors-n.auto.marks in record { fits = omega (arith, h) }
+overflow_cast-n c =
+    let h =
+    more_fits c.args.index c.read.ensures (inserting_of c.args.asked.now) c.args.slots.now c.args.scratch.now c.check_insert.ensures c.in_ok-check_insert.was
+    (insert_slices_of c.insert_batch-n.new.slices) c.insert_batch-n.ensures.0 in
+    record { fits = omega (arith, h) }
 
 pub label-requires : goal.label-requires
-label-requires c = let lent : Slices = slices c.args.vectors.now c.args.targets.now c.args.edges.now c.args.versions.now c.args.marks.now c.args.pool.now c.args.numbers.now c.args.summary.now in insert_labelable c.args.index lent (inserting c.args.bytes.now c.args.given.now c.args.beam) c.args.slots.now c.args.scratch.now c.check_insert.ensures c.in_ok-check_insert.was c.insert_vectors-n.ensures c.insert_vectors-n.auto.marks c.insert_vectors-n.auto.slots
+label-requires c =
+    let e = c.insert_batch-n.ensures in
+    let able =
+    insert_labelable c.args.index c.read.ensures (inserting_of c.args.asked.now) c.args.slots.now c.args.scratch.now c.check_insert.ensures c.in_ok-check_insert.was
+    (insert_slices_of c.insert_batch-n.new.slices) e.0 c.insert_batch-n.auto.slots in
+    rw (e.1, e.2) able
 
 pub with_more-requires : goal.with_more-requires
-with_more-requires c = let lent : Slices = slices c.args.vectors.now c.args.targets.now c.args.edges.now c.args.versions.now c.args.marks.now c.args.pool.now c.args.numbers.now c.args.summary.now in more_fits c.args.index lent (inserting c.args.bytes.now c.args.given.now c.args.beam) c.args.slots.now c.args.scratch.now c.check_insert.ensures c.in_ok-check_insert.was c.insert_vectors-n.ensures c.insert_vectors-n.auto.marks
+with_more-requires c =
+    more_fits c.args.index c.read.ensures (inserting_of c.args.asked.now) c.args.slots.now c.args.scratch.now c.check_insert.ensures c.in_ok-check_insert.was
+    (insert_slices_of c.insert_batch-n.new.slices) c.insert_batch-n.ensures.0
 
 pub returns : goal.returns
-returns c = let lent : Slices = slices c.args.vectors.now c.args.targets.now c.args.edges.now c.args.versions.now c.args.marks.now c.args.pool.now c.args.numbers.now c.args.summary.now in inserts_on c.args.index lent (inserting c.args.bytes.now c.args.given.now c.args.beam) c.args.slots.now c.args.scratch.now c.check_insert.ensures c.in_ok-check_insert.was c.insert_vectors-n.ensures c.insert_vectors-n.auto.marks c.label.ensures c.with_more.ensures
+returns c =
+    let e = c.insert_batch-n.ensures in
+    let labelled = rw (e.1, e.2) at c.label.ensures in (
+      inserts_on c.args.index c.read.ensures (inserting_of c.args.asked.now) c.args.slots.now c.args.scratch.now c.check_insert.ensures c.in_ok-check_insert.was
+          (insert_slices_of c.insert_batch-n.new.slices) e.0 _ (refl, ap (λ x. x.now) e.3.pool) labelled c.with_more.ensures,
+      record {
+        vectors = e.3.vectors;
+        targets = e.3.targets;
+        edges = e.3.edges;
+        versions = e.3.versions;
+        marks = e.3.marks;
+        pool = e.3.pool;
+        numbers = e.3.numbers;
+        summary = e.3.summary;
+      },
+    )

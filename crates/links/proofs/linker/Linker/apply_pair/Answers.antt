@@ -1,5 +1,0 @@
-use Rattle.links.proofs.Linking.{from_both, made_then}
-use Rattle.links.proofs.linker.Linker.apply_pair.Goals as goal
-
-pub returns : goal.returns
-returns c = from_both c.args.s _ _ (made_then c.apply_from.ensures c.apply_from-2.ensures)

@@ -1,6 +1,0 @@
-use lib.ListN.{take}
-use Rattle.links.specs.Inner.Linking.{from, pairs_of, link_words, Made}
-use Rattle.links.proofs.linker.Linker.apply_source.Given as goal
-
-abbrev pub invariant-loop-pair : goal.invariant-loop-pair
-invariant-loop-pair l = Made l.initial.self (from l.s (pairs_of (take l.pair-index l.pairs))) l.initial.scratch l.at link_words l.self l.scratch

@@ -1,7 +1,0 @@
-use Rattle.candidates.specs.Candidates.{ids}
-use Rattle.candidates.specs.Inner.Words.{cands}
-use Rattle.links.specs.Inner.Linking.{from_each, pairs_of, link_words, Made}
-use Rattle.links.proofs.linker.Linker.apply_sources.Given as goal
-
-abbrev pub invariant-loop-i : goal.invariant-loop-i
-invariant-loop-i l = Made l.initial.self (from_each (pairs_of l.pairs) (ids (cands l.initial.scratch l.from l.i))) l.initial.scratch l.at link_words l.self l.scratch

@@ -1,0 +1,6 @@
+use Rattle.std.proofs.Common.{rules}
+use Rattle.updating.proofs.Empties.{strike_long, marks_kept}
+use Rattle.updating.proofs.deleting.delete_batch.Goals as goal
+
+pub strike-requires : goal.strike-requires
+strike-requires c = (strike_long c.delete_batch-emptied.new.graph.marks.now c.requires.1 (marks_kept c.delete_batch-emptied.ensures.0) (search rules), c.requires.2)
