@@ -11,10 +11,16 @@ tar -c --exclude=out crates/lists crates/vectors crates/distances crates/candida
 cat > "$work/crates/exports/src/lib.rt" <<'RT'
 #![tactic(auto)]
 
+ghost use Rattle.std.specs.Prelude.{length};
+ghost use Rattle.vectors.specs.Vector.{Bytes};
 ghost use Rattle.slots.specs.Store.{arrays};
+ghost use Rattle.slots.specs.Inner.Rows.{RowShape};
 ghost use Rattle.walk.specs.Inner.Scratch as Scratch;
 ghost use Rattle.prune.specs.Inner.Selecting as Selecting;
-ghost use Rattle.distances.specs.Inner.Kept as Kept;
+
+use distances::Kept;
+use slots::{Graph, Rows};
+use vectors::Space;
 
 #[unsafe(no_mangle)]
 pub extern "C" fn exported_search(
@@ -30,9 +36,15 @@ pub extern "C" fn exported_search(
     beam: usize,
     scratch: &mut [u32],
 ) -> usize
-    requires { Scratch.Ready (arrays dim degree vectors.now targets.now edges.now versions.now marks.now) query.now entry beam scratch.old }
+    requires bytes { Bytes dim (length marks.now) vectors.now }
+    requires shape { RowShape degree targets.now edges.now versions.now marks.now }
+    requires ready { Scratch.Ready (arrays dim degree vectors.now targets.now edges.now versions.now marks.now) query.now entry beam scratch.old }
 {
-    walk::search_pool(dim, degree, vectors, targets, edges, versions, marks, query, entry, beam, scratch)
+    let graph = Graph {
+        space: Space { dim, vectors },
+        rows: Rows { degree, targets, edges, versions, marks },
+    };
+    walk::search_pool(&graph, query, entry, beam, scratch)
 }
 
 #[unsafe(no_mangle)]
@@ -41,7 +53,6 @@ pub extern "C" fn exported_prune(
     alpha: f32,
     dim: usize,
     vectors: &[u8],
-    kept: &mut [u32],
     marks: &[u8],
     source: u32,
     scratch: &mut [u32],
@@ -49,9 +60,10 @@ pub extern "C" fn exported_prune(
     n: usize,
     to: usize,
 ) -> usize
-    requires { Selecting.Ready degree dim vectors.now marks.now scratch.old a n to × Kept.Kept dim vectors.now kept.old }
+    requires { Selecting.Ready degree dim vectors.now marks.now scratch.old a n to }
 {
-    prune::prune_scored(degree, alpha, dim, vectors, kept, marks, source, scratch, a, n, to)
+    let mut kept = Kept::<0>::new(Space { dim, vectors });
+    prune::prune_scored(degree, alpha, &mut kept, marks, source, scratch, a, n, to)
 }
 RT
 (cd "$work/crates/exports" && rt lib) > "$work/log" 2>&1 || { grep -E '^(rt:|fn exports)|error' "$work/log"; exit 1; }

@@ -14,15 +14,30 @@ def public(root, place):
         text = open(f'{root}/crates/{crate}/{path}').read()
     except OSError:
         return False
-    return re.search(r'\bpub fn %s\b' % re.escape(name), text) is not None
+    if re.search(r'\bpub fn %s\b' % re.escape(name), text) is None:
+        return False
+    # in a private module, what its crate hands on; a method goes with its type
+    module = path[len('src/'):-len('.rt')]
+    if module in ('lib', 'main'):
+        return True
+    try:
+        top = open(f'{root}/crates/{crate}/src/lib.rt').read()
+    except OSError:
+        return False
+    if re.search(r'\bpub mod %s;' % re.escape(module), top):
+        return True
+    handed = re.findall(r'\bpub use %s::(?:\{([^}]*)\}|(\w+))' % re.escape(module), top)
+    names = {n.strip() for many, one in handed for n in (many or one).split(',')}
+    types = set(re.findall(r'\bpub struct (\w+)', text))
+    return name in names or (bool(types & names) and re.search(r'^ +pub fn %s\b' % re.escape(name), text, re.M) is not None)
 
 
 def clauses(rows):
     return ' '.join(re.sub(r'\s+', ' ', f'{name + ": " if name else ""}{text}') for name, text in rows) or '–'
 
 
-out = ['## What changed, old and new side by side', '', 'Public functions and definitions, as `contracts.py` of the kit (`port/contracts.py OLD NEW --json`) and tools/changed.py list them; theorems of proofs/ are compared',
-       'below. A first line is the commit above, a second the present text.', '']
+out = ['## What changed, old and new side by side', '', 'Public functions and definitions, as `contracts.py` of the kit (`port/contracts.py OLD NEW --json`) and tools/changed.py list them; functions in a private module that its crate does not hand on',
+       'left out; the theorems that README and docs/ name are told of above. A first line is the commit above, a second the present text.', '']
 signatures = {s[0]: s[1:] for s in d['signatures changed']}
 contracts = {c[0]: c[1:] for c in d['contracts changed']}
 out += ['### Public functions', '']

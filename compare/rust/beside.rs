@@ -8,7 +8,7 @@ use std::hint::black_box;
 pub type Search = unsafe extern "C" fn(
     usize, usize, *const u8, usize, *const u32, usize, *const u16, usize, *const u16, usize, *const u8, usize, *const u8, usize, u32, usize, *mut u32, usize,
 ) -> usize;
-pub type Prune = unsafe extern "C" fn(usize, f32, usize, *const u8, usize, *mut u32, usize, *const u8, usize, u32, *mut u32, usize, usize, usize, usize) -> usize;
+pub type Prune = unsafe extern "C" fn(usize, f32, usize, *const u8, usize, *const u8, usize, u32, *mut u32, usize, usize, usize, usize) -> usize;
 pub type Live = unsafe extern "C" fn(
     *const u32, *const u8, usize, *const u32, usize, *const u16, usize, *const u16, usize, *const u8, usize, *const u32, usize, *const u32, usize,
     *const u32, usize, *mut u32,
@@ -227,9 +227,8 @@ fn prunes(prune: Prune) {
                     let mut counts = Vec::with_capacity(lists.len());
                     for ((source, list), w) in lists.iter().zip(scratches.iter_mut()) {
                         counts.push(unsafe {
-                            // no table of kept distances is lent
                             prune(
-                                32, 1.2, dim, s.vectors.as_ptr(), s.vectors.len(), std::ptr::dangling_mut(), 0, s.marks.as_ptr(), s.marks.len(), *source,
+                                32, 1.2, dim, s.vectors.as_ptr(), s.vectors.len(), s.marks.as_ptr(), s.marks.len(), *source,
                                 w.as_mut_ptr(), w.len(), 0, list.len(), 2 * list.len(),
                             )
                         });

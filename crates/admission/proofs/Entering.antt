@@ -1,12 +1,13 @@
 -- The residual entry: the entry, or the first slot that stays. Assumes nothing.
-use Prim.Native.Nat.{ℕ, ◌+◌, ◌-◌, ◌≤◌, ◌<◌}
+use Prim.Native.Nat.{ℕ, zero, suc, ◌+◌, ◌-◌, ◌≤◌, ◌<◌}
 use mathlib.Core.Bool.{Bool, true, false, not, cond}
-use mathlib.Core.Path.{◌≡◌, ap, sym, ◌∙◌}
+use mathlib.Core.Path.{◌≡◌, refl, ap, sym, ◌∙◌}
 use mathlib.Core.List.{List, []}
 use mathlib.Core.Option.{some}
 use mathlib.Core.Option as Math
-use Rattle.std.specs.Prelude.{Option, Some, None}
+use Rattle.std.specs.Prelude.{Option, Some, None, MatchOption}
 use Rattle.std.proofs.lemmas.Option.{none-some, same_Some}
+use native.Mathlib.Numerals.{add-one}
 use native.Mathlib.Omega.{arith}
 use borrow.Author.Tests.{not-true}
 use lib.ListN.{length}
@@ -54,6 +55,11 @@ passing_more {p} {n} {s} f h v e =
     let g : p s ≡ false = sym v ∙ e in
     record { goes = rw (range_cons n s h, g) at f.goes }
 
+passing_up : (p : ℕ → Bool) (n i : ℕ) → i ≤ n → ((k : ℕ) → 0 ≤ k → k < i → p k ≡ false) → Passing p n i
+passing_up p n zero h f = passing_none p n
+passing_up p n (suc i) h f =
+    rw add-one at (passing_more (passing_up p n i (omega (arith, h)) (λ k a b. f k a (omega (arith, b)))) (omega (arith, h)) refl (f i (omega arith) (omega arith)))
+
 -- ---- what is found
 module _ (marks ids : List ℕ) (entry : ℕ) {u : Bool} (v : u ≡ remains marks ids entry) where
   pub entry_kept : u ≡ true → Entered marks ids entry (Some entry)
@@ -64,15 +70,25 @@ module _ (marks ids : List ℕ) (entry : ℕ) {u : Bool} (v : u ≡ remains mark
     not_kept : remains marks ids entry ≡ false
     not_kept = sym v ∙ gone
 
-    pub passing_found : {t : Bool} → s < length marks → t ≡ remains marks ids s → t ≡ true → Entered marks ids entry (Some s)
+    passing_found : {t : Bool} → s < length marks → t ≡ remains marks ids s → t ≡ true → Entered marks ids entry (Some s)
     unfolding entry_by
     passing_found h x e =
         let k : remains marks ids s ≡ true = sym x ∙ e in
         entered marks ids entry (rw (not_kept, ← f.goes, range_cons (length marks) s h, k)) (found_stays (remains marks ids) k)
 
-    pub passing_done : length marks ≤ s → Entered marks ids entry None
+    passing_done : length marks ≤ s → Entered marks ids entry None
     unfolding entry_by
     passing_done h = entered marks ids entry (rw (not_kept, ← f.goes, range_none (length marks) s h)) (none_found (remains marks ids))
+
+-- the first slot that stays, if any does
+module _ (marks ids : List ℕ) (entry : ℕ) {u : Bool} (v : u ≡ remains marks ids entry) (gone : u ≡ false) {n : ℕ} (e : n ≡ length marks) where
+  pub first_entered : (r : Option ℕ)
+      → MatchOption r ((k : ℕ) → 0 ≤ k → k < n → remains marks ids k ≡ false)
+      (λ i. (0 ≤ i) × (i < n) × (remains marks ids i ≡ true) × ((k : ℕ) → 0 ≤ k → k < i → remains marks ids k ≡ false))
+      → Entered marks ids entry r
+  first_entered None f = passing_done marks ids entry v gone (passing_up (remains marks ids) (length marks) n (omega (arith, e)) f) (omega (arith, e))
+  first_entered (Some s) f =
+      passing_found marks ids entry v gone (passing_up (remains marks ids) (length marks) s (omega (arith, f.1, e)) f.3) (omega (arith, f.1, e)) refl f.2
 
 -- ---- a slot that stays
 module _ (marks out : List ℕ) (s : ℕ) (e : remains marks out s ≡ true) where

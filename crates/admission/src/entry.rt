@@ -12,11 +12,5 @@ pub fn residual_entry(marks: &[u8], ids: &[u32], entry: u32) -> Option<u32>
     if stays(marks, ids, entry) {
         return Some(entry);
     }
-    for s in 0..marks.len() {
-        let id = s as u32;
-        if stays(marks, ids, id) {
-            return Some(id);
-        }
-    }
-    None
+    (0..marks.len() as u32).find(|&id| stays(marks, ids, id))
 }

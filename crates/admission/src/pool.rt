@@ -6,7 +6,7 @@ ghost use Rattle.landmarks.specs.Inner.Samples.{remains};
 ghost use Rattle.landmarks.specs.Inner.Choices.{Fronted};
 ghost use Rattle.admission.specs.Inner.Pools.{Poolable, Pooled};
 
-use guard::Config;
+use super::Settings;
 use landmarks::{Free, select_landmarks, stays};
 use slots::marks::is_valid;
 use vectors::Space;
@@ -16,12 +16,12 @@ pub fn landmark_pool(
     space: &Space<'_>,
     marks: &[u8],
     entry: u32,
-    config: Config,
+    settings: Settings,
     pool: &mut [u32],
     scratch: &mut [u32],
 ) -> usize
-    requires { Poolable space.now.dim space.now.vectors.now marks.now entry config.count config.multiplier config.sample pool.old scratch.old }
-    ensures { Pooled space.now.dim space.now.vectors.now marks.now entry config.count config.multiplier config.sample pool.old pool.new result }
+    requires { Poolable space.now.dim space.now.vectors.now marks.now entry settings.count settings.multiplier settings.sample pool.old scratch.old }
+    ensures { Pooled space.now.dim space.now.vectors.now marks.now entry settings.count settings.multiplier settings.sample pool.old pool.new result }
 {
     let free = Free {
         marks,
@@ -29,8 +29,8 @@ pub fn landmark_pool(
         entry,
         kept: &[],
     };
-    let wanted = config.count as usize * config.multiplier as usize;
-    select_landmarks(space, &free, wanted, config.sample as usize, pool, scratch)
+    let wanted = settings.count * settings.multiplier;
+    select_landmarks(space, &free, wanted, settings.sample, pool, scratch)
 }
 
 // How many landmarks of the pool are live.
@@ -42,8 +42,8 @@ pub fn live_landmarks(marks: &[u8], pool: &[u32]) -> u32
     live.count() as u32
 }
 
-// Writes those landmarks of the pool that stay when `ids` are deleted to the front of a list, `count` at most. Returns how many they are. `count` is a setting: a
-// list of that length would be a part that the caller has to put back.
+// Writes those landmarks of the pool that stay when `ids` are deleted to the front of a list, `count` at most. Returns how many they are. `count` comes beside the
+// list, and not as its length: the caller writes more landmarks behind these, so it needs the whole list afterwards.
 pub fn keep_landmarks(
     marks: &[u8],
     ids: &[u32],

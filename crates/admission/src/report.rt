@@ -10,14 +10,15 @@ ghost use Rattle.admission.specs.Inner.Trials.{meets};
 ghost use Rattle.admission.specs.Lent.{SameLists};
 ghost use Rattle.admission.specs.Inner.Reports.{probe_by, Reports, Assessable, Checkable, Checks, Assessed};
 
+use super::Settings;
 use super::entry::residual_entry;
 use super::pool::keep_landmarks;
 use super::trials::{Trial, run_trials};
-use guard::Config;
 use landmarks::{Free, select_landmarks, stays};
 use slots::Graph;
 
-// A report without its two lists: `checked` and `lost` are how many they hold. Without a landmark looked at, it has no entry.
+// A report without its two lists: `checked` and `lost` are how many they hold. Without a landmark looked at, it has no entry. `admitted` stands beside the numbers,
+// and not in an enum of two reports: document 01's report has it so, and C gets it so.
 #[derive(Clone, Copy, Default)]
 pub struct Report {
     pub admitted: bool,
@@ -37,7 +38,8 @@ pub struct Lists<'a> {
     pub lost: &'a mut [u32],
 }
 
-// How many slots the live ones of `ids` are: each is counted where it stands first.
+// How many slots the live ones of `ids` are: each is counted where it stands first. By a loop: a chain's closure that reads `ids[..i]` would carry a contract of its
+// own that `i` is inside, and be no plainer.
 fn count_named(marks: &[u8], ids: &[u32]) -> u32
     requires { length ids.now ≤ 256 }
     ensures { result ≡ length (sorted_set (filter (is_valid marks.now) ids.now)) }
@@ -60,17 +62,17 @@ fn is_admitted(baseline: u32, lost: u32) -> bool
 // of `checked`. Returns how many they are, and how many of them are others.
 fn check_landmarks(
     trial: &Trial<'_>,
-    config: Config,
+    settings: Settings,
     pool: &[u32],
     ids: &[u32],
     checked: &mut [u32],
     scratch: &mut [u32],
 ) -> (usize, usize)
-    requires { Checkable (length trial.now.graph.rows.marks.now) trial.now.entry config.count config.sample checked.old scratch.old }
-    ensures { Checks (length trial.now.graph.rows.marks.now) (remains trial.now.graph.rows.marks.now ids.now) (λ wanted existing. landmarks_by (slot_distance (space trial.now.graph.space.dim trial.now.graph.space.vectors.now)) (remains trial.now.graph.rows.marks.now ids.now) (length trial.now.graph.rows.marks.now) trial.now.entry wanted config.sample existing) config.count pool.now checked.old checked.new result.0 result.1 }
+    requires { Checkable (length trial.now.graph.rows.marks.now) trial.now.entry settings.count settings.sample checked.old scratch.old }
+    ensures { Checks (length trial.now.graph.rows.marks.now) (remains trial.now.graph.rows.marks.now ids.now) (λ wanted existing. landmarks_by (slot_distance (space trial.now.graph.space.dim trial.now.graph.space.vectors.now)) (remains trial.now.graph.rows.marks.now ids.now) (length trial.now.graph.rows.marks.now) trial.now.entry wanted settings.sample existing) settings.count pool.now checked.old checked.new result.0 result.1 }
 {
     let marks = trial.graph.rows.marks;
-    let count = config.count as usize;
+    let count = settings.count;
     let kept = keep_landmarks(marks, ids, pool, count, checked);
     let (front, rest) = checked.split_at_mut(kept);
     let free = Free {
@@ -83,7 +85,7 @@ fn check_landmarks(
         &trial.graph.space,
         &free,
         count - kept,
-        config.sample as usize,
+        settings.sample,
         rest,
         scratch,
     );
@@ -93,19 +95,19 @@ fn check_landmarks(
 // The report of trial walks, but for how many slots the deletion names: 0 of them here.
 fn probe(
     trial: &Trial<'_>,
-    config: Config,
+    settings: Settings,
     pool: &[u32],
     ids: &[u32],
     lists: &mut Lists<'_>,
     scratch: &mut [u32],
 ) -> Report
-    requires assessable { Assessable (graph_of trial.now.graph) config.count config.sample trial.now.beam pool.now (length pool.now) ids.now lists.old.checked.now lists.old.lost.now scratch.old }
+    requires assessable { Assessable (graph_of trial.now.graph) settings.count settings.sample trial.now.beam pool.now (length pool.now) ids.now lists.old.checked.now lists.old.lost.now scratch.old }
     requires start_in_bounds { (trial.now.entry < length trial.now.graph.rows.marks.now) × (elem trial.now.entry ids.now ≡ false) }
-    ensures { Reports (probe_by (remains trial.now.graph.rows.marks.now ids.now) (meets (graph_of trial.now.graph) [] trial.now.beam trial.now.entry) (meets (graph_of trial.now.graph) ids.now trial.now.beam trial.now.entry) (λ wanted existing. landmarks_by (slot_distance (space trial.now.graph.space.dim trial.now.graph.space.vectors.now)) (remains trial.now.graph.rows.marks.now ids.now) (length trial.now.graph.rows.marks.now) trial.now.entry wanted config.sample existing) config.count pool.now 0 trial.now.entry) lists.old.checked.now lists.new.checked.now lists.old.lost.now lists.new.lost.now result × SameLists lists.old lists.new }
+    ensures { Reports (probe_by (remains trial.now.graph.rows.marks.now ids.now) (meets (graph_of trial.now.graph) [] trial.now.beam trial.now.entry) (meets (graph_of trial.now.graph) ids.now trial.now.beam trial.now.entry) (λ wanted existing. landmarks_by (slot_distance (space trial.now.graph.space.dim trial.now.graph.space.vectors.now)) (remains trial.now.graph.rows.marks.now ids.now) (length trial.now.graph.rows.marks.now) trial.now.entry wanted settings.sample existing) settings.count pool.now 0 trial.now.entry) lists.old.checked.now lists.new.checked.now lists.old.lost.now lists.new.lost.now result × SameLists lists.old lists.new }
 {
     let checked = &mut *lists.checked;
     let lost = &mut *lists.lost;
-    let (n, more) = check_landmarks(trial, config, pool, ids, checked, scratch);
+    let (n, more) = check_landmarks(trial, settings, pool, ids, checked, scratch);
     // Read whole first: by `&checked[..n]` the proof would not know what `lists.checked` is at the end.
     let list: &[u32] = checked;
     let t = run_trials(trial, ids, &list[..n], lost, scratch);
@@ -126,14 +128,14 @@ fn probe(
 pub fn assess_delete_admission(
     graph: &Graph<'_>,
     entry: u32,
-    config: Config,
+    settings: Settings,
     pool: &[u32],
     ids: &[u32],
     lists: &mut Lists<'_>,
     scratch: &mut [u32],
 ) -> Report
-    requires { Assessable (graph_of graph.now) config.count config.sample config.beam pool.now (length pool.now) ids.now lists.old.checked.now lists.old.lost.now scratch.old }
-    ensures { Assessed (graph_of graph.now) entry config.count config.sample config.beam pool.now ids.now lists.old.checked.now lists.new.checked.now lists.old.lost.now lists.new.lost.now result × SameLists lists.old lists.new }
+    requires { Assessable (graph_of graph.now) settings.count settings.sample settings.beam pool.now (length pool.now) ids.now lists.old.checked.now lists.old.lost.now scratch.old }
+    ensures { Assessed (graph_of graph.now) entry settings.count settings.sample settings.beam pool.now ids.now lists.old.checked.now lists.new.checked.now lists.old.lost.now lists.new.lost.now result × SameLists lists.old lists.new }
 {
     let marks = graph.rows.marks;
     let requested = count_named(marks, ids);
@@ -152,9 +154,9 @@ pub fn assess_delete_admission(
     let trial = Trial {
         graph: *graph,
         entry: start,
-        beam: config.beam as usize,
+        beam: settings.beam,
     };
-    let report = probe(&trial, config, pool, ids, lists, scratch);
+    let report = probe(&trial, settings, pool, ids, lists, scratch);
     Report {
         requested,
         ..report

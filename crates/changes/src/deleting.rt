@@ -1,17 +1,29 @@
 // Lines `delete`.
 use deletion::stats_place;
 use index::{DeleteSlices, Refusal};
+use lines::answers::expect_done;
 use lines::prepare::{Arrays, State, part_mut};
 use text::{Differs, Numbers};
 use updating::{Changed, Deleting, Naming};
 
 // What the names of a delete are.
-pub fn naming(line: &mut Numbers<'_>) -> Result<Naming, Differs> {
+fn naming(line: &mut Numbers<'_>) -> Result<Naming, Differs> {
     match line.number()? {
         0 => Ok(Naming::Slots),
         1 => Ok(Naming::Numbers),
         _ => Err(Differs::Malformed),
     }
+}
+
+// What a delete of these names asks for.
+pub fn asked<'a>(line: &mut Numbers<'_>, names: &'a [u32]) -> Result<Deleting<'a>, Differs> {
+    let naming = naming(line)?;
+    Ok(Deleting {
+        names,
+        naming,
+        repair_beam: line.argument(),
+        repair_degree: line.argument(),
+    })
 }
 
 // Passes the number n of the slots that a delete emptied and their stats, four words each, which it left in the scratch.
@@ -35,14 +47,13 @@ fn expect_deleted(
     deleted: Result<Changed, Refusal>,
     scratch: &[u32],
 ) -> Result<(), Differs> {
-    match deleted {
-        Err(r) => line.expect(r as u32),
-        Ok(changed) => {
-            state.index = changed.index;
-            line.expect(0)?;
-            expect_emptied(line, changed.count, changed.index.capacity, scratch)
-        }
+    if let Ok(changed) = deleted {
+        state.index = changed.index;
     }
+    let Some(changed) = expect_done(line, deleted)? else {
+        return Ok(());
+    };
+    expect_emptied(line, changed.count, changed.index.capacity, scratch)
 }
 
 // Performs a line `delete`.
@@ -53,13 +64,8 @@ pub fn delete(
     scratch: &mut [u32],
 ) -> Result<(), Differs> {
     let lent = state.lent;
-    let naming = naming(line)?;
-    let asked = Deleting {
-        names: part_mut(arrays.rows, lent.rows),
-        naming,
-        repair_beam: line.argument(),
-        repair_degree: line.argument(),
-    };
+    let asked = asked(line, part_mut(arrays.rows, lent.rows))?;
+    // Not by a method of the arrays: the borrow checker does not cover one that gives a struct of parts of its `&mut` fields.
     let mut slices = DeleteSlices {
         vectors: part_mut(arrays.vectors, lent.vectors),
         targets: part_mut(arrays.targets, lent.targets),

@@ -1,5 +1,6 @@
 // Lines `insert`.
 use index::{InsertSlices, Refusal};
+use lines::answers::expect_done;
 use lines::prepare::{Arrays, State, part_mut};
 use text::{Differs, Numbers};
 use updating::{Changed, Inserting};
@@ -11,15 +12,14 @@ fn expect_inserted(
     inserted: Result<Changed, Refusal>,
     slots: &[u32],
 ) -> Result<(), Differs> {
-    match inserted {
-        Err(r) => line.expect(r as u32),
-        Ok(changed) => {
-            state.index = changed.index;
-            line.expect(0)?;
-            line.expect(changed.count)?;
-            line.expect_first(changed.count as usize, slots)
-        }
+    if let Ok(changed) = inserted {
+        state.index = changed.index;
     }
+    let Some(changed) = expect_done(line, inserted)? else {
+        return Ok(());
+    };
+    line.expect(changed.count)?;
+    line.expect_first(changed.count as usize, slots)
 }
 
 // Performs a line `insert`.

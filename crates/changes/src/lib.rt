@@ -6,7 +6,7 @@ mod inserting;
 mod making;
 
 use deleting::delete;
-pub use deleting::{expect_emptied, naming};
+pub use deleting::{asked, expect_emptied};
 use inserting::insert;
 use lines::prepare::{Arrays, State};
 use lines::words::Changing;

@@ -1,24 +1,10 @@
 // Lines `make`.
-use index::{Index, Making, NewSlices, Refusal};
+use index::{Making, NewSlices};
+use lines::answers::expect_done;
 use lines::prepare::{Arrays, State, alpha_of, part_mut};
 use text::{Differs, Numbers};
 
-// Passes the answer to a making, which leaves the new index, or the former one where it is refused.
-fn expect_made(
-    line: &mut Numbers<'_>,
-    state: &mut State,
-    created: Result<Index, Refusal>,
-) -> Result<(), Differs> {
-    match created {
-        Err(r) => line.expect(r as u32),
-        Ok(index) => {
-            state.index = index;
-            line.expect(0)
-        }
-    }
-}
-
-// Performs a line `make`.
+// Performs a line `make`, which leaves the new index, or the former one where it is refused.
 pub fn make(
     line: &mut Numbers<'_>,
     state: &mut State,
@@ -47,5 +33,9 @@ pub fn make(
         summary: part_mut(arrays.summary, lent.summary),
     };
     let created = index::create(&given, &mut slices);
-    expect_made(line, state, created)
+    if let Ok(index) = created {
+        state.index = index;
+    }
+    expect_done(line, created)?;
+    Ok(())
 }

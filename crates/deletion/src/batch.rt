@@ -31,10 +31,9 @@ pub fn delete_batch(
     clear(marks, scratch, at);
     let entry = new_entry(marks, how.entry, scratch, at);
     let how = Repair {
-        alpha: how.alpha,
         entry,
-        beam: how.beam,
         degree: how.degree.max(1),
+        ..how
     };
     repair_rows(graph, how, scratch, at);
     Emptied {

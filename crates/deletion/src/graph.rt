@@ -2,7 +2,8 @@
 use slots::{Graph, Rows};
 use vectors::Space;
 
-// Rows, versions and marks, which are written, and vectors, which stay.
+// Rows, versions and marks, which are written, and vectors, which stay: an insert's `GraphMut` has vectors by `&mut` and versions as they stay, and one
+// struct with a type parameter for each slice would be no plainer than the two.
 #[derive(Drop)]
 pub struct GraphMut<'a> {
     pub space: Space<'a>,

@@ -7,7 +7,8 @@ use index::InsertSlices;
 use updating::Inserting;
 use words::{index_from, put_changed};
 
-// Inserts the vectors of `bytes` with the numbers `given` into the lowest free slots, which go to the front of `slots`; writes the index's words and how many they are.
+// Inserts the vectors of `bytes` with the numbers `given` into the lowest free slots, which go to the front of `slots`; writes the index's words and how many they
+// are.
 #[unsafe(no_mangle)]
 pub extern "C" fn finder_insert(
     words: &mut [u32; 12],

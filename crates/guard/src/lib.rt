@@ -1,4 +1,4 @@
-// The definition of the routability guard: landmarks, trial walks and the report. Its code is in crates `landmarks` and `admission`.
+// The definition of the routability guard: landmarks, trial walks and the report; and its settings. The rest of its code is in crates `landmarks` and `admission`.
 #![tactic(auto)]
 
 // The settings of a guard: how many landmarks a report checks and how many times as many the pool has, how many slots are sampled, and the beam of trial walks.

@@ -9,7 +9,7 @@ ghost use Rattle.index.specs.Inner.Deciding.{Decided};
 ghost use Rattle.guarding.specs.Guarding.{assessing, report_outputs, Assesses};
 ghost use Rattle.guarding.specs.Inner.Testing.{report_tests, Testable, Tested};
 
-use admission::{Lists, Report, assess_delete_admission};
+use admission::{Lists, Report, Settings, assess_delete_admission};
 use index::refusals::{check_index, scratch_short};
 use index::{Guard, Index, Refusal, Slices};
 use slots::limits;
@@ -57,7 +57,13 @@ fn report_by(
 {
     let graph = slices.graph(index);
     let pool = &slices.pool[..guard.pool as usize];
-    assess_delete_admission(&graph, index.entry, guard.config, pool, ids, lists, scratch)
+    let settings = Settings {
+        count: guard.config.count as usize,
+        multiplier: guard.config.multiplier as usize,
+        sample: guard.config.sample as usize,
+        beam: guard.config.beam as usize,
+    };
+    assess_delete_admission(&graph, index.entry, settings, pool, ids, lists, scratch)
 }
 
 // The report on deleting `ids`, or the first test that holds; the calls that give a report find `wrong` and `over`. Seven parameters: five are those of

@@ -10,7 +10,7 @@ ghost use Rattle.guarding.specs.Inner.Testing.{enable_tests, guarded_index};
 
 use super::Enabled;
 use super::statuses::status_of;
-use admission::{landmark_pool, residual_entry};
+use admission::{Settings, landmark_pool, residual_entry};
 use guard::Config;
 use index::refusals::{check_index, config_over, scratch_short};
 use index::{EnableSlices, Guard, Index, Refusal, Slices};
@@ -72,7 +72,13 @@ fn choose_pool(
         dim: dim as usize,
         vectors,
     };
-    landmark_pool(&space, marks, start, config, pool, scratch)
+    let settings = Settings {
+        count: config.count as usize,
+        multiplier: config.multiplier as usize,
+        sample: config.sample as usize,
+        beam: config.beam as usize,
+    };
+    landmark_pool(&space, marks, start, settings, pool, scratch)
 }
 
 // An index whose guard is on, with a pool of `n` landmarks.

@@ -14,7 +14,8 @@ use index::Index;
 pub use statuses::guard_status;
 use updating::Changed;
 
-// The status of a guard; all 0 where it is off.
+// The status of a guard; all 0 where it is off. `enabled` stands beside the numbers, and not an `Option` of them: document 01's status has these five, and C gets
+// them so.
 #[derive(Clone, Copy, Default)]
 pub struct Status {
     pub enabled: bool,

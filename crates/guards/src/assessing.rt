@@ -2,6 +2,7 @@
 use super::reports::expect_report;
 use admission::{Lists, Report};
 use index::Refusal;
+use lines::answers::expect_done;
 use lines::prepare::{Arrays, State, part, part_mut};
 use text::{Differs, Numbers};
 
@@ -12,13 +13,10 @@ fn expect_assessed(
     checked: &[u32],
     lost: &[u32],
 ) -> Result<(), Differs> {
-    match assessed {
-        Err(r) => line.expect(r as u32),
-        Ok(report) => {
-            line.expect(0)?;
-            expect_report(line, report, checked, lost)
-        }
-    }
+    let Some(report) = expect_done(line, assessed)? else {
+        return Ok(());
+    };
+    expect_report(line, report, checked, lost)
 }
 
 // Performs a line `assess`.

@@ -1,12 +1,12 @@
 // Lines `guarded`.
 use super::reports::expect_report;
 use admission::Lists;
-use changes::{expect_emptied, naming};
+use changes::{asked, expect_emptied};
 use guarding::Guarded;
 use index::{DeleteSlices, Refusal};
+use lines::answers::expect_done;
 use lines::prepare::{Arrays, State, part_mut};
 use text::{Differs, Numbers};
-use updating::Deleting;
 
 // Passes the answer to a guarded delete, which leaves the index without what is deleted, or the former one where it is deferred or refused.
 fn expect_guarded(
@@ -17,18 +17,16 @@ fn expect_guarded(
     lost: &[u32],
     scratch: &[u32],
 ) -> Result<(), Differs> {
-    match guarded {
-        Err(r) => line.expect(r as u32),
-        Ok(Guarded::Applied(changed, report)) => {
-            state.index = changed.index;
-            line.expect(0)?;
+    if let Ok(Guarded::Applied(changed, _)) = guarded {
+        state.index = changed.index;
+    }
+    match expect_done(line, guarded)? {
+        None => Ok(()),
+        Some(Guarded::Applied(changed, report)) => {
             expect_report(line, report, checked, lost)?;
             expect_emptied(line, changed.count, changed.index.capacity, scratch)
         }
-        Ok(Guarded::Deferred(report)) => {
-            line.expect(0)?;
-            expect_report(line, report, checked, lost)
-        }
+        Some(Guarded::Deferred(report)) => expect_report(line, report, checked, lost),
     }
 }
 
@@ -42,13 +40,7 @@ pub fn delete(
     let mut checked = [0u32; 1024];
     let mut lost = [0u32; 1024];
     let lent = state.lent;
-    let naming = naming(line)?;
-    let asked = Deleting {
-        names: part_mut(arrays.rows, lent.rows),
-        naming,
-        repair_beam: line.argument(),
-        repair_degree: line.argument(),
-    };
+    let asked = asked(line, part_mut(arrays.rows, lent.rows))?;
     let mut slices = DeleteSlices {
         vectors: part_mut(arrays.vectors, lent.vectors),
         targets: part_mut(arrays.targets, lent.targets),

@@ -3,6 +3,7 @@ use super::statuses::expect_status;
 use guard::Config;
 use guarding::Enabled;
 use index::{EnableSlices, Refusal};
+use lines::answers::expect_done;
 use lines::prepare::{Arrays, State, part_mut};
 use text::{Differs, Numbers};
 
@@ -13,16 +14,15 @@ fn expect_enabled(
     enabled: Result<Enabled, Refusal>,
     pool: &[u32],
 ) -> Result<(), Differs> {
-    match enabled {
-        Err(r) => line.expect(r as u32),
-        Ok(enabled) => {
-            let s = enabled.status;
-            state.index = enabled.index;
-            line.expect(0)?;
-            expect_status(line, s)?;
-            line.expect_first(s.pool as usize, pool)
-        }
+    if let Ok(enabled) = enabled {
+        state.index = enabled.index;
     }
+    let Some(enabled) = expect_done(line, enabled)? else {
+        return Ok(());
+    };
+    let s = enabled.status;
+    expect_status(line, s)?;
+    line.expect_first(s.pool as usize, pool)
 }
 
 // Performs a line `enable`.

@@ -1,5 +1,6 @@
 // Lines `status`, and the numbers of a status.
 use guarding::Status;
+use lines::answers::expect_done;
 use lines::prepare::{Arrays, State};
 use text::{Differs, Numbers};
 
@@ -11,11 +12,8 @@ pub fn expect_status(line: &mut Numbers<'_>, s: Status) -> Result<(), Differs> {
 // Performs a line `status`.
 pub fn status(line: &mut Numbers<'_>, state: State, arrays: &Arrays<'_>) -> Result<(), Differs> {
     let standing = guarding::guard_status(state.index, &arrays.slices(state.lent));
-    match standing {
-        Err(r) => line.expect(r as u32),
-        Ok(s) => {
-            line.expect(0)?;
-            expect_status(line, s)
-        }
-    }
+    let Some(s) = expect_done(line, standing)? else {
+        return Ok(());
+    };
+    expect_status(line, s)
 }

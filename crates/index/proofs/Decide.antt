@@ -3,7 +3,7 @@ use Prim.Native.Nat.{ℕ, ◌≤◌, ◌<◌}
 use mathlib.Core.Bool.{Bool, true, false, not, ◌&&◌, ◌||◌}
 use mathlib.Core.Path.{◌≡◌, refl, sym, ap, ◌∙◌}
 use mathlib.Core.List.{List, [], ◌∷◌}
-use mathlib.Core.Option.{none, some}
+use mathlib.Core.Option.{Option, none, some}
 use native.Mathlib.Omega.{arith}
 use borrow.Author.Tests.{leb-true, ltb-true, ltb-false, eqb-true, not-true, not-false, lt-leb, le-leb}
 use lib.Ieee.{Float}
@@ -135,43 +135,78 @@ marked index s h sound =
     let m : length s.marks ≡ index.capacity = ap (λ l. l.marks) (passed_lengths (sizes_of index) (lengths_of s) (not-false (lengths_ok limits (sizes_of index) (lengths_of s)) h)) in
     rw m at sound
 
--- the lengths that are looked at are those of the slices
-too_long : (index : Index) (s : Slices) {r₃ : Bool} {lent : Lengths} → ((alpha : Float) → r₃ ≡ not (lengths_ok limits (sizes index.dim index.capacity index.degree alpha) lent))
-    → lent ≡ lengths_of s → r₃ ≡ bad₃ index (lengths_of s)
-too_long index s long alike = long index.alpha ∙ ap (λ n. bad₃ index n) alike
+-- ---- rows 1 to 3, which making shares
 
-module _ {index : Index} {s : Slices} {wrong r₁ : Bool} {A : Type 0}
-    (sized : (alpha : Float) → r₁ ≡ not (sizes_ok limits (sizes index.dim index.capacity index.degree alpha))) where
-  pub decided_sizes : r₁ ≡ true → Decided index s wrong [] {A = A} (Err Refused.Sizes)
-  decided_sizes t₁ = decided (rw (sym (sized index.alpha) ∙ t₁))
+abbrev three : Bool → Bool → Bool → List Test → List Test
+three q₁ q₂ q₃ rest = (1, q₁) ∷ (2, q₂) ∷ (3, q₃) ∷ rest
 
-  module _ {r₂ : Bool} (t₁ : r₁ ≡ false) (grown : r₂ ≡ not (alpha_ok index.alpha)) where
-    pub decided_alpha : r₂ ≡ true → Decided index s wrong [] {A = A} (Err Refused.Alpha)
-    decided_alpha t₂ = decided (rw (sym (sized index.alpha) ∙ t₁, sym grown ∙ t₂))
+-- the number of the first of them that holds
+abbrev by_three : ℕ → ℕ → ℕ → Float → Lengths → Option ℕ
+by_three dim capacity degree alpha lent =
+    first_of (three (not (sizes_ok limits (sizes dim capacity degree alpha))) (not (alpha_ok alpha)) (not (lengths_ok limits (sizes dim capacity degree alpha) lent)) [])
 
-    module _ {r₃ : Bool} {lent : Lengths} (t₂ : r₂ ≡ false) (long : (alpha : Float) → r₃ ≡ not (lengths_ok limits (sizes index.dim index.capacity index.degree alpha) lent))
-        (alike : lent ≡ lengths_of s) where
-      pub decided_lengths : r₃ ≡ true → Decided index s wrong [] {A = A} (Err Refused.Lengths)
-      decided_lengths t₃ = decided (rw (sym (sized index.alpha) ∙ t₁, sym grown ∙ t₂, sym (too_long index s long alike) ∙ t₃))
+abbrev pub Sized : ℕ → ℕ → ℕ → Float → Lengths → {A : Type 0} → Result A Refusal → Type 0
+Sized dim capacity degree alpha lent r = back r ≡ by_three dim capacity degree alpha lent
 
-      module _ (t₃ : r₃ ≡ false) where
-        pub decided_wrong : wrong ≡ true → Decided index s wrong [] {A = A} (Err Refused.Lengths)
-        decided_wrong t = decided (rw (sym (sized index.alpha) ∙ t₁, sym grown ∙ t₂, sym (too_long index s long alike) ∙ t₃, t))
+-- none of them holds
+pub three_none : (q₁ q₂ q₃ : Bool) → none ≡ first_of (three q₁ q₂ q₃ []) → (q₁ ≡ false) × (q₂ ≡ false) × (q₃ ≡ false)
+three_none true q₂ q₃ e = cc
+three_none false true q₃ e = cc
+three_none false false true e = cc
+three_none false false false e = (refl, refl, refl)
 
-        module _ {r₆ : Bool} (t : wrong ≡ false) (sound : r₆ ≡ index_fault index s (length s.marks)) where
-          pub decided_index : r₆ ≡ true → Decided index s wrong [] {A = A} (Err Refused.Index)
-          decided_index t₆ = decided (rw (sym (sized index.alpha) ∙ t₁, sym grown ∙ t₂, sym (too_long index s long alike) ∙ t₃, t, sym (marked index s (sym (too_long index s long alike) ∙ t₃) sound) ∙ t₆))
+-- where one of them holds, it does among more tests, the third being a part of theirs
+pub three_more : (q₁ q₂ q₃ q : Bool) (rest : List Test) → (q₃ ≡ true → q ≡ true) → {n : ℕ} → some n ≡ first_of (three q₁ q₂ q₃ []) → some n ≡ first_of (three q₁ q₂ q rest)
+three_more true q₂ q₃ q rest f e = e
+three_more false true q₃ q rest f e = e
+three_more false false true q rest f e = rw (f refl) e
+three_more false false false q rest f e = cc
 
-          pub decided_none : {a : A} → r₆ ≡ false → Decided index s wrong [] (Ok a)
-          decided_none t₆ = decided (rw (sym (sized index.alpha) ∙ t₁, sym grown ∙ t₂, sym (too_long index s long alike) ∙ t₃, t, sym (marked index s (sym (too_long index s long alike) ∙ t₃) sound) ∙ t₆))
+-- what `check_sizes` finds
+module _ (dim capacity degree : ℕ) (alpha : Float) (lent : Lengths) {r₁ : Bool} (sized : (alpha : Float) → r₁ ≡ not (sizes_ok limits (sizes dim capacity degree alpha))) where
+  pub sizes_refused : r₁ ≡ true → some 1 ≡ by_three dim capacity degree alpha lent
+  sizes_refused t₁ = rw (sym (sized alpha) ∙ t₁) refl
 
--- where the lengths are right, numbers and summary are as many as marks
-pub lent_alike : (index : Index) (s : Slices) {r₃ : Bool} {lent : Lengths} → ((alpha : Float) → r₃ ≡ not (lengths_ok limits (sizes index.dim index.capacity index.degree alpha) lent))
-    → lent ≡ lengths_of s → r₃ ≡ false → (length s.numbers ≡ length s.marks) × (length s.summary ≡ length s.marks)
-lent_alike index s long alike t₃ =
-    let e = passed_lengths (sizes_of index) (lengths_of s) (not-false (lengths_ok limits (sizes_of index) (lengths_of s)) (sym (too_long index s long alike) ∙ t₃)) in
-    let m = ap (λ l. l.marks) e in
-    (ap (λ l. l.numbers) e ∙ sym m, ap (λ l. l.summary) e ∙ sym m)
+  module _ {r₂ : Bool} (t₁ : r₁ ≡ false) (grown : r₂ ≡ not (alpha_ok alpha)) where
+    pub alpha_refused : r₂ ≡ true → some 2 ≡ by_three dim capacity degree alpha lent
+    alpha_refused t₂ = rw (sym (sized alpha) ∙ t₁, sym grown ∙ t₂) refl
+
+    module _ {r₃ : Bool} (t₂ : r₂ ≡ false) (long : (alpha : Float) → r₃ ≡ not (lengths_ok limits (sizes dim capacity degree alpha) lent)) where
+      pub lengths_refused : r₃ ≡ true → some 3 ≡ by_three dim capacity degree alpha lent
+      lengths_refused t₃ = rw (sym (sized alpha) ∙ t₁, sym grown ∙ t₂, sym (long alpha) ∙ t₃) refl
+
+      pub sizes_passed : r₃ ≡ false → none ≡ by_three dim capacity degree alpha lent
+      sizes_passed t₃ = rw (sym (sized alpha) ∙ t₁, sym grown ∙ t₂, sym (long alpha) ∙ t₃) refl
+
+-- what follows of that for an index
+module _ (index : Index) (s : Slices) {A : Type 0} {r₁ : Result A Refusal} {lent : Lengths}
+    (sized : Sized index.dim index.capacity index.degree index.alpha lent r₁) (alike : lent ≡ lengths_of s) where
+  pub index_refused : {wrong : Bool} {B : Type 0} {e : Refusal} → r₁ ≡ Err e → Decided index s wrong [] {A = B} (Err e)
+  index_refused {wrong} z =
+      let q = bad₃ index (lengths_of s) in
+      decided (three_more (bad₁ index) (bad₂ index) q (q || wrong) ((6, index_fault index s index.capacity) ∷ []) (λ h. rw h refl) (ap back (sym z) ∙ rw alike at sized))
+
+  module _ {a : A} (z : r₁ ≡ Ok a) where
+    index_sized : (bad₁ index ≡ false) × (bad₂ index ≡ false) × (bad₃ index (lengths_of s) ≡ false)
+    index_sized = three_none (bad₁ index) (bad₂ index) (bad₃ index (lengths_of s)) (ap back (sym z) ∙ rw alike at sized)
+
+    module _ {wrong : Bool} {B : Type 0} where
+      pub decided_wrong : wrong ≡ true → Decided index s wrong [] {A = B} (Err Refused.Lengths)
+      decided_wrong t = let p = index_sized in decided (rw (p.0, p.1, p.2, t) refl)
+
+      module _ {r₆ : Bool} (t : wrong ≡ false) (sound : r₆ ≡ index_fault index s (length s.marks)) where
+        pub decided_index : r₆ ≡ true → Decided index s wrong [] {A = B} (Err Refused.Index)
+        decided_index t₆ = let p = index_sized in decided (rw (p.0, p.1, p.2, t, sym (marked index s p.2 sound) ∙ t₆) refl)
+
+        pub decided_none : {b : B} → r₆ ≡ false → Decided index s wrong [] (Ok b)
+        decided_none t₆ = let p = index_sized in decided (rw (p.0, p.1, p.2, t, sym (marked index s p.2 sound) ∙ t₆) refl)
+
+    -- numbers and summary are as many as marks
+    pub lent_alike : (length s.numbers ≡ length s.marks) × (length s.summary ≡ length s.marks)
+    lent_alike =
+        let e = passed_lengths (sizes_of index) (lengths_of s) (not-false (lengths_ok limits (sizes_of index) (lengths_of s)) index_sized.2) in
+        let m = ap (λ l. l.marks) e in
+        (ap (λ l. l.numbers) e ∙ sym m, ap (λ l. l.summary) e ∙ sym m)
 
 -- as many are live as there are marks at most
 pub live_few : (marks : List ℕ) {live : ℕ} → live ≡ length (filter (is_valid marks) (range 0 (length marks))) → live ≤ length marks

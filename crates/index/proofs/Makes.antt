@@ -6,7 +6,6 @@ use mathlib.Core.List.{List, [], ◌∷◌, ◌++◌}
 use mathlib.Core.Option.{none}
 use native.Mathlib.Omega.{arith}
 use borrow.Author.Tests.{eqb-true, not-true, not-false}
-use lib.Ieee.{Float}
 use lib.ListN.{length, replicate, length-append, length-replicate}
 use lib.Dec.{eqb, ltb, leb}
 use Rattle.std.specs.List.{list_any}
@@ -25,15 +24,15 @@ use Rattle.index.specs.declared.Refusal.TheVariants as Refused
 use Rattle.index.specs.Refusal.{turned_back}
 use Rattle.slots.specs.Sizes.{Slices, Lengths, lengths_of, limits, sizes_ok, alpha_ok, lengths_ok}
 use Rattle.calls.specs.Calls.{Making}
-use Rattle.calls.specs.Refusals.{first_of, names_given, entry_given, making_tests}
+use Rattle.calls.specs.Refusals.{Test, first_of, names_given, entry_given, making_tests}
 use Rattle.calls.specs.State.{stored, plain, made}
-use Rattle.index.specs.Index.{sizes, guard_of, state_of}
+use Rattle.index.specs.Index.{guard_of, state_of}
 use Rattle.guard.specs.Guard.{off}
 use Rattle.index.specs.declared.making.Making as lent
 use Rattle.index.specs.Create.{making_of, Creates}
 use Rattle.index.specs.Inner.Making.{fresh_index, NumberRoom, NewNumbers}
 use Rattle.index.specs.Inner.Deciding.{Judged}
-use Rattle.index.proofs.Decide.{ltb_leb, sized as sized_ranges}
+use Rattle.index.proofs.Decide.{ltb_leb, ranges, Sized, three_none, three_more}
 use Rattle.calls.proofs.Tests.{lengths_made, capacity_within, numbers_given, accepted}
 use Rattle.calls.proofs.Count.{stored_given}
 
@@ -51,51 +50,49 @@ named_any count (t ∷ ts) = rw (ltb_leb t count) (go (eqb t blank) (leb count t
 
 -- ---- the tests, one after the other
 
-module _ {m : Making} {lent : Lengths} {r₁ : Bool} {A : Type 0}
-    (sized : (alpha : Float) → r₁ ≡ not (sizes_ok limits (sizes m.sizes.dim m.sizes.capacity m.sizes.degree alpha))) where
-  pub judged_sizes : r₁ ≡ true → Judged m lent {A = A} (Err Refused.Sizes)
+-- row 3's part of what is given, and the tests after row 3
+abbrev given_fits : Making → Bool
+given_fits m = eqb (length m.bytes) (m.count * m.sizes.dim) && eqb (length m.rows) (m.count * m.sizes.degree) && eqb (length m.numbers) m.count
+
+abbrev own : Making → List Test
+own m =
+    (4, ltb m.sizes.capacity m.count)
+    ∷ (5, not (names_given m.count m.rows && entry_given m.count m.entry))
+    ∷ (15, taken [] m.numbers)
+    ∷ []
+
+module _ (m : Making) (lent : Lengths) {A : Type 0} {r₁ : Result A Refusal} (checked : Sized m.sizes.dim m.sizes.capacity m.sizes.degree m.sizes.alpha lent r₁) where
+  pub judged_before : {B : Type 0} {e : Refusal} → r₁ ≡ Err e → Judged m lent {A = B} (Err e)
   unfolding making_tests
-  judged_sizes t₁ = record { does = rw (sym (sized m.sizes.alpha) ∙ t₁) }
+  judged_before z =
+      let q = lengths_ok limits m.sizes lent in
+      let q' = q && eqb (length m.bytes) (m.count * m.sizes.dim) && eqb (length m.rows) (m.count * m.sizes.degree) && eqb (length m.numbers) m.count in
+      record {
+        does = three_more (not (sizes_ok limits m.sizes)) (not (alpha_ok m.sizes.alpha)) (not q) (not q') (own m) (λ h. rw (not-true q h) refl) (ap turned_back (sym z) ∙ checked);
+      }
 
-  module _ {r₂ : Bool} (t₁ : r₁ ≡ false) (grown : r₂ ≡ not (alpha_ok m.sizes.alpha)) where
-    pub judged_alpha : r₂ ≡ true → Judged m lent {A = A} (Err Refused.Alpha)
-    unfolding making_tests
-    judged_alpha t₂ = record { does = rw (sym (sized m.sizes.alpha) ∙ t₁, sym grown ∙ t₂) }
+  module _ {a : A} (z : r₁ ≡ Ok a) where
+    passed_three : (not (sizes_ok limits m.sizes) ≡ false) × (not (alpha_ok m.sizes.alpha) ≡ false) × (not (lengths_ok limits m.sizes lent) ≡ false)
+    passed_three = three_none (not (sizes_ok limits m.sizes)) (not (alpha_ok m.sizes.alpha)) (not (lengths_ok limits m.sizes lent)) (ap turned_back (sym z) ∙ checked)
 
-    module _ {r₃ : Bool} (t₂ : r₂ ≡ false)
-        (long : (alpha : Float) → r₃ ≡ not (lengths_ok limits (sizes m.sizes.dim m.sizes.capacity m.sizes.degree alpha) lent)) where
-      pub judged_lengths : r₃ ≡ true → Judged m lent {A = A} (Err Refused.Lengths)
+    module _ {r₄ : Bool} (given : r₄ ≡ not (given_fits m)) where
+      pub judged_given : {B : Type 0} → r₄ ≡ true → Judged m lent {A = B} (Err Refused.Lengths)
       unfolding making_tests
-      judged_lengths t₃ =
-          let q = lengths_ok limits m.sizes lent in
-          record { does = rw (sym (sized m.sizes.alpha) ∙ t₁, sym grown ∙ t₂, not-true q (sym (long m.sizes.alpha) ∙ t₃)) }
+      judged_given t₄ = let p = passed_three in record { does = rw (p.0, p.1, not-false (lengths_ok limits m.sizes lent) p.2, sym given ∙ t₄) }
 
-      module _ {r₄ : Bool} (t₃ : r₃ ≡ false) (given : r₄ ≡ not (eqb (length m.bytes) (m.count * m.sizes.dim) && eqb (length m.rows) (m.count * m.sizes.degree) && eqb (length m.numbers) m.count)) where
-        pub judged_given : r₄ ≡ true → Judged m lent {A = A} (Err Refused.Lengths)
-        unfolding making_tests
-        judged_given t₄ =
-            let q = lengths_ok limits m.sizes lent in
-            record { does = rw (sym (sized m.sizes.alpha) ∙ t₁, sym grown ∙ t₂, not-false q (sym (long m.sizes.alpha) ∙ t₃), sym given ∙ t₄) }
+      pub judged_rest : {B : Type 0} {r : Result B Refusal} → r₄ ≡ false → turned_back r ≡ first_of (own m) → Judged m lent r
+      unfolding making_tests
+      judged_rest t₄ e = let p = passed_three in record { does = rw (p.0, p.1, not-false (lengths_ok limits m.sizes lent) p.2, sym given ∙ t₄) e }
 
-        pub judged_rest : {r : Result A Refusal} → r₄ ≡ false
-            → turned_back r ≡ first_of ((4, ltb m.sizes.capacity m.count) ∷ (5, not (names_given m.count m.rows && entry_given m.count m.entry)) ∷ (15, taken [] m.numbers) ∷ [])
-            → Judged m lent r
-        unfolding making_tests
-        judged_rest t₄ e =
-            let q = lengths_ok limits m.sizes lent in
-            record { does = rw (sym (sized m.sizes.alpha) ∙ t₁, sym grown ∙ t₂, not-false q (sym (long m.sizes.alpha) ∙ t₃), sym given ∙ t₄) e }
-
--- what the tests of given slots rest on
-pub judged_fits : (m : Making) {r₁ r₄ : Bool} → ((alpha : Float) → r₁ ≡ not (sizes_ok limits (sizes m.sizes.dim m.sizes.capacity m.sizes.degree alpha))) → r₁ ≡ false
-    → r₄ ≡ not (eqb (length m.bytes) (m.count * m.sizes.dim) && eqb (length m.rows) (m.count * m.sizes.degree) && eqb (length m.numbers) m.count) → r₄ ≡ false
-    → (m.sizes.capacity ≤ 65536) × (length m.numbers ≡ m.count)
-judged_fits m sized t₁ given t₄ =
-    let b = eqb (length m.bytes) (m.count * m.sizes.dim) in
-    let k = eqb (length m.rows) (m.count * m.sizes.degree) in
-    let n = eqb (length m.numbers) m.count in (
-      (sized_ranges m.sizes.dim m.sizes.capacity m.sizes.degree sized t₁).capacity_high,
-      eqb-true (length m.numbers) m.count (and_both (b && k) n (not-false (b && k && n) (sym given ∙ t₄))).1,
-    )
+      -- what the tests of given slots rest on
+      pub judged_fits : r₄ ≡ false → (m.sizes.capacity ≤ 65536) × (length m.numbers ≡ m.count)
+      judged_fits t₄ =
+          let b = eqb (length m.bytes) (m.count * m.sizes.dim) in
+          let k = eqb (length m.rows) (m.count * m.sizes.degree) in
+          let n = eqb (length m.numbers) m.count in (
+            (ranges m.sizes (not-false (sizes_ok limits m.sizes) passed_three.0)).capacity_high,
+            eqb-true (length m.numbers) m.count (and_both (b && k) n (not-false (b && k && n) (sym given ∙ t₄))).1,
+          )
 
 -- ---- the new index
 

@@ -42,7 +42,7 @@ pub struct Lengths {
     pub summary: usize,
 }
 
-// Why a call is turned back: the rows of document 01's table, by their numbers, and document 02's 15.
+// Why a call is turned back: the rows of document 01's table, by their numbers, and document 02's 15. `refusal as u32` is the number.
 #[derive(Clone, Copy, PartialEq, Eq, Debug)]
 pub enum Refusal {
     // dim, capacity or degree

@@ -10,7 +10,7 @@ ghost use Rattle.index.specs.Inner.Making.{fresh_index, NumberRoom, NewNumbers};
 ghost use Rattle.index.specs.Inner.Deciding.{Judged};
 ghost use Rattle.index.specs.Refusal.{turned_back};
 
-use super::refusals::{alpha_bad, lengths_bad, product, sizes_bad};
+use super::refusals::{check_sizes, product};
 use super::{Index, Lengths, NewSlices, Refusal};
 use numbers::{repeated, summarize};
 use slots::parts::lay;
@@ -75,15 +75,7 @@ fn check_given(given: &Making<'_>) -> Result<(), Refusal>
 fn check_making(given: &Making<'_>, lent: Lengths) -> Result<(), Refusal>
     ensures { Judged (making_of given.now) (lengths_in lent) result }
 {
-    if sizes_bad(given.dim, given.capacity, given.degree) {
-        return Err(Refusal::Sizes);
-    }
-    if alpha_bad(given.alpha) {
-        return Err(Refusal::Alpha);
-    }
-    if lengths_bad(given.dim, given.capacity, given.degree, lent) {
-        return Err(Refusal::Lengths);
-    }
+    check_sizes(given.dim, given.capacity, given.degree, given.alpha, lent)?;
     if given_bad(given) {
         return Err(Refusal::Lengths);
     }

@@ -1,13 +1,14 @@
 // The tests of document 01's table that calls share, and the size answer. A test says what is bad, as its row does: one that gave the row's error as a `Result`
-// would be no shorter, and a call would show less well in which order its rows are tested.
-ghost use Rattle.std.specs.Prelude.{not, [], ◌≡◌, ◌*◌, Float, ltb, length};
+// would be no shorter, and `check_sizes` and `check_index` would show less well in which order their rows are tested.
+ghost use Rattle.std.specs.Prelude.{not, ◌∷◌, [], ◌≡◌, ◌*◌, Float, ltb, length};
 ghost use Rattle.slots.specs.Sizes.{limits, within, sizes_ok, alpha_ok, exact, lengths_ok};
 ghost use Rattle.guard.specs.Lent.{config_of};
-ghost use Rattle.calls.specs.Refusals.{guard_fault, config_over, config_zero};
+ghost use Rattle.calls.specs.Refusals.{first_of, guard_fault, config_over, config_zero};
 ghost use Rattle.slots.specs.Scratch.{size_answer};
 ghost use Rattle.index.specs.Index.{words_for, guard_of, sizes, lengths_in};
 ghost use Rattle.index.specs.Lent.{slices_of};
 ghost use Rattle.index.specs.Inner.Deciding.{index_fault, Decided};
+ghost use Rattle.index.specs.Refusal.{turned_back};
 
 use super::{Guard, Index, Lengths, Refusal, Slices};
 use guard::Config;
@@ -23,9 +24,9 @@ fn outside(high: u32, n: u32) -> bool
 }
 
 // Row 1: dim, capacity or degree is outside its range. The three come one by one: an index, a making and the size answer have them as fields or words of
-// their own, and a struct of them would be made for this call alone.
+// their own, and a struct of them would be made for each test anew.
 #[tactic(auto, unfolding(slots::specs::Sizes::sizes_ok, slots::specs::Sizes::limits))]
-pub fn sizes_bad(dim: u32, capacity: u32, degree: u32) -> bool
+fn sizes_bad(dim: u32, capacity: u32, degree: u32) -> bool
     ensures { (alpha : Float) → result ≡ not (sizes_ok limits (sizes dim capacity degree alpha)) }
 {
     outside(limits::DIM, dim)
@@ -35,7 +36,7 @@ pub fn sizes_bad(dim: u32, capacity: u32, degree: u32) -> bool
 
 // Row 2: alpha is outside 1.0 to 2.0, or no number. By `<=`, as its definition: a range's `contains` asks `partial_cmp`, and is no plainer.
 #[tactic(auto, using(candidates::proofs::Floats::one_bits, candidates::proofs::Floats::two_bits), unfolding(slots::specs::Sizes::alpha_ok))]
-pub fn alpha_bad(alpha: f32) -> bool
+fn alpha_bad(alpha: f32) -> bool
     ensures { result ≡ not (alpha_ok alpha) }
 {
     !(1.0 <= alpha && alpha <= 2.0)
@@ -68,7 +69,7 @@ fn exact_lengths(dim: u32, capacity: u32, degree: u32) -> Lengths
 }
 
 // Row 3, of the eight slices of an index: one of them has another length. Sizes one by one, as for row 1.
-pub fn lengths_bad(dim: u32, capacity: u32, degree: u32, lent: Lengths) -> bool
+fn lengths_bad(dim: u32, capacity: u32, degree: u32, lent: Lengths) -> bool
     ensures { (alpha : Float) → result ≡ not (lengths_ok limits (sizes dim capacity degree alpha) (lengths_in lent)) }
 {
     lent != exact_lengths(dim, capacity, degree)
@@ -117,20 +118,40 @@ fn index_bad(index: Index, slices: &Slices<'_>) -> bool
         || labels_bad(slices.marks, slices.numbers, slices.summary, live)
 }
 
+// Turns a call or a making back by the first of rows 1, 2 and 3 that holds of its sizes, its alpha and the lengths of its eight slices.
+pub fn check_sizes(
+    dim: u32,
+    capacity: u32,
+    degree: u32,
+    alpha: f32,
+    lent: Lengths,
+) -> Result<(), Refusal>
+    ensures { turned_back result ≡ first_of ((1, not (sizes_ok limits (sizes dim capacity degree alpha))) ∷ (2, not (alpha_ok alpha)) ∷ (3, not (lengths_ok limits (sizes dim capacity degree alpha) (lengths_in lent))) ∷ []) }
+{
+    if sizes_bad(dim, capacity, degree) {
+        return Err(Refusal::Sizes);
+    }
+    if alpha_bad(alpha) {
+        return Err(Refusal::Alpha);
+    }
+    if lengths_bad(dim, capacity, degree, lent) {
+        return Err(Refusal::Lengths);
+    }
+    Ok(())
+}
+
 // Turns a call back by the first of rows 1, 2, 3 and 6 that holds. `wrong` is whether the call's own part of row 3 holds: it stands between the index's rows,
 // so what the call found comes in as a value. It chooses no step.
 pub fn check_index(index: Index, slices: &Slices<'_>, wrong: bool) -> Result<(), Refusal>
     ensures { Decided index (slices_of slices.now) wrong [] result }
 {
-    if sizes_bad(index.dim, index.capacity, index.degree) {
-        return Err(Refusal::Sizes);
-    }
-    if alpha_bad(index.alpha) {
-        return Err(Refusal::Alpha);
-    }
-    if lengths_bad(index.dim, index.capacity, index.degree, slices.lengths()) {
-        return Err(Refusal::Lengths);
-    }
+    check_sizes(
+        index.dim,
+        index.capacity,
+        index.degree,
+        index.alpha,
+        slices.lengths(),
+    )?;
     if wrong {
         return Err(Refusal::Lengths);
     }

@@ -18,7 +18,8 @@ use row::Pruner;
 use slots::RowsMut;
 use vectors::Space;
 
-// Writes the rows of a chunk whose plans are made: the outgoing rows of slots that no plan names, then the rows of those that one names.
+// Writes the rows of a chunk whose plans are made: the outgoing rows of slots that no plan names, then the rows of those that one names. A function of its own:
+// where `write_rows` made the pruner itself, over rows made of the graph's fields, the borrow checker did not cover it.
 fn write_beside<'a>(
     rows: &mut RowsMut<'_>,
     space: Space<'a>,

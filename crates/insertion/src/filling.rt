@@ -8,7 +8,8 @@ use slots::RowsMut;
 use slots::marks::is_valid;
 use vectors::Space;
 
-// Writes the `count` lowest free slots to the front of `slots`: fewer, where there are not as many.
+// Writes the lowest free slots to the front of `slots`: `count` of them are wanted, and they are fewer where not as many are free.
+// Counted by hand: tried as a `for` over `filter`, `take` and `enumerate`, where no proof was found that what these yield is the list.
 pub fn free_slots(marks: &[u8], slots: &mut [u32], count: usize)
     requires { (count ≤ length slots.old) × (length marks.now ≤ 65536) }
     ensures { slots.new ≡ put_front (take count (filter (λ s. not (is_valid marks.now s)) (range 0 (length marks.now)))) slots.old }
@@ -32,7 +33,8 @@ impl Inserter<'_, '_> {
     ghost use Rattle.insertion.specs.Inner.Filling.{chunk_of, Fillable};
     ghost use Rattle.insertion.specs.Inner.Inserting.{index_in, Inserted};
 
-    // Writes a vector into slot `s`, which becomes live with an empty row.
+    // Writes a vector into slot `s`, which becomes live with an empty row. The rows are made here and in `write_rows`: a method that gives them lends
+    // the whole graph, so that vectors and marks cannot be used beside them, and one that gives all three the borrow checker does not cover.
     fn fill(&mut self, s: usize, vector: &[u8])
         requires { (s < length self.old.graph.now.marks.now) × (length vector.now ≡ self.old.graph.now.dim) }
         ensures { Inserted self.old (store_ops.fill (index_in self.old) s vector.now) self.new }
@@ -59,8 +61,8 @@ impl Inserter<'_, '_> {
             dim: self.graph.dim,
             vectors: bytes,
         };
-        for i in 0..slots.len() {
-            self.fill(slots[i] as usize, given.vector(i));
+        for (i, &s) in slots.iter().enumerate() {
+            self.fill(s as usize, given.vector(i));
         }
     }
 }

@@ -1,6 +1,7 @@
 // The graph that an insert writes.
 
-// Vectors, rows and marks, which are written, and versions, which stay.
+// Vectors, rows and marks, which are written, and versions, which stay: a delete's `GraphMut` has versions by `&mut` and vectors as they stay, and one struct
+// with a type parameter for each slice would be no plainer than the two.
 #[derive(Drop)]
 pub struct GraphMut<'a> {
     pub dim: usize,

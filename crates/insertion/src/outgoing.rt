@@ -37,9 +37,9 @@ pub fn write_outgoing(
     ensures { ((entry : ℕ) → Written entry pruner.old (foldl (own_at scratch.old plans.now.at plans.now.n plans.now.slots.now) (index_by entry pruner.old) (range 0 (length plans.now.slots.now))) pruner.new) × Below plans.now.at.chosen scratch.old scratch.new }
 {
     let mut b: usize = 0;
-    for i in 0..plans.slots.len() {
+    for (i, &s) in plans.slots.iter().enumerate() {
         let e = scratch[plans.at.ends + i] as usize;
-        write_unnamed(pruner, plans, plans.slots[i], b, e, scratch);
+        write_unnamed(pruner, plans, s, b, e, scratch);
         b = e;
     }
 }

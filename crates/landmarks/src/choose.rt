@@ -12,7 +12,8 @@ use candidates::{dist_at, id_at, put};
 use distances::slot_distance;
 use vectors::Space;
 
-// The slot of the last with the greatest distance of `n` candidates.
+// The slot of the last with the greatest distance of `n` candidates. By a loop: the closures of `max_by_key` that read place `i` would carry contracts of their own
+// that it is inside, and be no plainer.
 fn farthest_id(words: &[u32], n: usize) -> u32
     requires { 2 * n ≤ length words.now }
     ensures { result ≡ farthest (cands words.now 0 n) }

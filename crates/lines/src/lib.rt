@@ -1,5 +1,7 @@
-// The lines of a stored list of calls: the word that each begins with, and those that prepare a call (compare/replay/README.md has their form).
+// The lines of a stored list of calls (compare/replay/README.md has their form): the word that each begins with, those that prepare a call, and the status of
+// an answer.
 #![tactic(auto)]
 
+pub mod answers;
 pub mod prepare;
 pub mod words;

@@ -136,46 +136,40 @@ fn lend(line: &mut Numbers<'_>, lent: &mut Lent) -> Result<(), Differs> {
     line.end()
 }
 
-// Reads n bytes into the start of `to`.
-pub fn bytes(line: &mut Numbers<'_>, n: usize, to: &mut [u8]) -> Result<(), Differs> {
+// Reads n numbers, each `more` than it is, into the start of `to`.
+pub fn words<T: TryFrom<u32> + Copy>(
+    line: &mut Numbers<'_>,
+    n: usize,
+    more: u32,
+    to: &mut [T],
+) -> Result<(), Differs>
+where
+    <T as TryFrom<u32>>::Error: Drop,
+{
     for i in 0..n {
-        let byte = small(line.number()?)?;
-        *to.get_mut(i).ok_or(Differs::TooMuch)? = byte;
-    }
-    Ok(())
-}
-
-// Reads n words, each `more` than it is, into the start of `to`.
-fn words(line: &mut Numbers<'_>, n: usize, more: u32, to: &mut [u32]) -> Result<(), Differs> {
-    for i in 0..n {
-        let word = line.number()?.wrapping_sub(more);
+        let word = small(line.number()?.wrapping_sub(more))?;
         *to.get_mut(i).ok_or(Differs::TooMuch)? = word;
     }
     Ok(())
 }
 
-// Performs a line `give`.
-fn give(line: &mut Numbers<'_>, count: &mut usize, given: &mut [u8]) -> Result<(), Differs> {
-    let n = line.argument() as usize;
-    *count = n;
-    bytes(line, n, given)?;
-    line.end()
-}
-
-// Performs a line `rows` or `numbers`, whose words are `more` than they are.
-fn give_words(
+// Performs a line `give`, `rows` or `numbers`, whose numbers are `more` than they are.
+fn give<T: TryFrom<u32> + Copy>(
     line: &mut Numbers<'_>,
     count: &mut usize,
     more: u32,
-    given: &mut [u32],
-) -> Result<(), Differs> {
+    given: &mut [T],
+) -> Result<(), Differs>
+where
+    <T as TryFrom<u32>>::Error: Drop,
+{
     let n = line.argument() as usize;
     *count = n;
     words(line, n, more, given)?;
     line.end()
 }
 
-// Alpha from its multiple of 2^24.
+// Alpha from its multiple of 2^24. It is any u32: `as f32` takes only what an f32 holds exactly.
 pub fn alpha_of(n: u32) -> f32 {
     if n == u32::MAX {
         return f32::NAN;
@@ -183,7 +177,7 @@ pub fn alpha_of(n: u32) -> f32 {
     std::num::nearest_u32_to_f32(n) / 16777216.0
 }
 
-// Alters one setting of a guard, or the length of its pool.
+// Alters one setting of a guard, or the length of its pool. Its field is a number, as the list writes it.
 fn alter(guard: &mut Guard, field: u32, value: u32) {
     match field {
         7 => guard.config.count = value,
@@ -256,9 +250,9 @@ pub fn perform(
 ) -> Result<(), Differs> {
     match what {
         Preparing::Lend => lend(line, &mut state.lent),
-        Preparing::Give => give(line, &mut state.lent.given, arrays.given),
-        Preparing::Rows => give_words(line, &mut state.lent.rows, 1, arrays.rows),
-        Preparing::Numbers => give_words(line, &mut state.lent.figures, 0, arrays.figures),
+        Preparing::Give => give(line, &mut state.lent.given, 0, arrays.given),
+        Preparing::Rows => give(line, &mut state.lent.rows, 1, arrays.rows),
+        Preparing::Numbers => give(line, &mut state.lent.figures, 0, arrays.figures),
         Preparing::Set => set(line, &mut state.index),
         Preparing::Store => store(line, state.lent, arrays),
     }

@@ -28,7 +28,7 @@ pub struct Table {
     pub base: usize,
 }
 
-// How many links the plan of `n` candidates has.
+// How many links the plan of `n` candidates has. Tried with `map` and `sum`: the check did not find that the total fits its type.
 pub fn attempted(repair_degree: usize, n: usize) -> usize
     requires { (repair_degree ≤ 16) × (n ≤ 320) }
     ensures { Attempted repair_degree n result }

@@ -2,7 +2,8 @@
 #![tactic(auto)]
 
 use index::{Index, Refusal, Slices};
-use lines::prepare::{Arrays, State, alpha_of, bytes, part, part_mut};
+use lines::answers::expect_done;
+use lines::prepare::{Arrays, State, alpha_of, part, part_mut, words};
 use lines::words::Looking;
 use reading::{Found, Reading, Searching, Value};
 use text::{Differs, Numbers};
@@ -26,8 +27,8 @@ fn reading(what: u32, slot: u32, place: u32) -> Result<Reading, Differs> {
 }
 
 // Passes a refusal and the number behind it, which is any.
-fn expect_refusal(line: &mut Numbers<'_>, refusal: u32) -> Result<(), Differs> {
-    line.expect(refusal)?;
+fn expect_refusal(line: &mut Numbers<'_>, refusal: Refusal) -> Result<(), Differs> {
+    line.expect(refusal as u32)?;
     line.number()?;
     Ok(())
 }
@@ -43,7 +44,7 @@ fn expect_alpha(line: &mut Numbers<'_>, alpha: f32) -> Result<(), Differs> {
 // Passes the answer to a reading.
 fn expect_value(line: &mut Numbers<'_>, got: Result<Value, Refusal>) -> Result<(), Differs> {
     let value = match got {
-        Err(r) => return expect_refusal(line, r as u32),
+        Err(r) => return expect_refusal(line, r),
         Ok(value) => value,
     };
     line.expect(0)?;
@@ -84,7 +85,7 @@ fn size(line: &mut Numbers<'_>) -> Result<(), Differs> {
     let capacity = line.number()?;
     let degree = line.number()?;
     match index::scratch_words(dim, capacity, degree) {
-        Err(refusal) => expect_refusal(line, refusal as u32),
+        Err(refusal) => expect_refusal(line, refusal),
         Ok(n) => {
             line.expect(0)?;
             line.expect(n)
@@ -117,15 +118,12 @@ fn expect_found(
     dists: &[f32],
     figures: &[u32],
 ) -> Result<(), Differs> {
-    match found {
-        Err(r) => line.expect(r as u32),
-        Ok(n) => {
-            line.expect(0)?;
-            line.expect(n)?;
-            let slots = slots.get(..n as usize).ok_or(Differs::Answer)?;
-            expect_candidates(line, slots, dists, figures)
-        }
-    }
+    let Some(n) = expect_done(line, found)? else {
+        return Ok(());
+    };
+    line.expect(n)?;
+    let slots = slots.get(..n as usize).ok_or(Differs::Answer)?;
+    expect_candidates(line, slots, dists, figures)
 }
 
 // Performs a line `search`.
@@ -143,7 +141,7 @@ fn search(
     let k = line.argument();
     let beam = line.argument();
     let count = line.argument() as usize;
-    let read = bytes(line, count, &mut query);
+    let read = words(line, count, 0, &mut query);
     let asked = Searching {
         query: part(&query, count),
         k,

@@ -25,6 +25,7 @@ use Rattle.slots.specs.Store.{blank, is_valid}
 use Rattle.sorting.specs.Inner.Places.{key_at, Placed, Risen, Sorted}
 use Rattle.sorting.proofs.ByKey.{Told, sorted_told}
 use Rattle.sorting.proofs.Counts.{times_all}
+use Rattle.sorting.proofs.Settling.{placed_front, risen_within, risen_front, sorted_front}
 use Rattle.numbers.specs.Numbers.{number_of, by_number, write_numbers, live_numbers, summary_of, Labelled}
 use Rattle.numbers.specs.Inner.Listed.{Listed, Apart, Summarized, Inserting, Entering, Entered, Packed, Struck}
 use Rattle.numbers.proofs.Order.{or_right, all_elem, elem_all, same_test, pairwise_from, range_up, unique_apart, apart_unique, lower, Rises, sort_rises, length_by, rises_unique}
@@ -299,11 +300,37 @@ module _ {numbers summary : List ℕ} {live : ℕ} {slots : List ℕ} {n : ℕ} 
       let w : part ≡ take n slots = rw (drop_of_length-le (take (live + n - live) (drop live summary)) k, append-nil) at e in
       put_mid-paste live (live + n - live) summary part (take n slots) n w (omega arith) (sym a) ∙ rw b
 
-  pub entering_ready : {order : List ℕ} → order ≡ paste summary live slots n → Placed numbers order (live + n) × Risen numbers order live × (live ≤ live + n)
+  entering_ready : {order : List ℕ} → order ≡ paste summary live slots n → Placed numbers order (live + n) × Risen numbers order live × (live ≤ live + n)
   entering_ready e = (rw e entering_placed, rw e entering_risen, omega arith)
 
-  pub entered_from : {order summary' : List ℕ} → order ≡ paste summary live slots n → Sorted numbers order (live + n) summary' → Entered numbers summary live slots n summary'
+  entered_from : {order summary' : List ℕ} → order ≡ paste summary live slots n → Sorted numbers order (live + n) summary' → Entered numbers summary live slots n summary'
   entered_from {order} {summary'} e s = entered (rw e at s)
+
+  -- as it is given to sorting: its first words by themselves
+  pub entering_front : {order : List ℕ} → order ≡ paste summary live slots n
+      → Placed numbers (take (live + n) order) (length (take (live + n) order)) × Risen numbers (take (live + n) order) live × (live ≤ length (take (live + n) order))
+  entering_front e =
+      let r = entering_ready e in
+      let a = length-take-le (live + n) _ r.0.long in
+      (placed_front r.0, risen_within (omega arith) r.1, omega arith)
+
+  pub entered_front : {order part : List ℕ} → order ≡ paste summary live slots n → Sorted numbers (take (live + n) order) (length (take (live + n) order)) part
+      → Entered numbers summary live slots n (part ++ drop (live + n) order)
+  entered_front e s = entered_from e (sorted_front (entering_ready e).0.long s)
+
+-- ---- looking up
+
+-- of the first words by themselves
+pub listed_front : {numbers summary : List ℕ} {live : ℕ} → Listed numbers summary live → Listed numbers (take live summary) (length (take live summary))
+listed_front {numbers} {summary} {live} k =
+    let e : length (take live summary) ≡ live = length-take-le live summary k.placed.long in
+    record {
+      placed = placed_front k.placed;
+      risen = risen_front k.placed.long k.risen;
+      named = λ s h j. rw (take_all (length (take live summary)) (take live summary) (omega arith)) (k.named s h j);
+      distinct = k.distinct;
+      few = k.few;
+    }
 
 -- ---- delete
 

@@ -11,7 +11,7 @@ use borrow.Author.Tests.{ne_eqb, eqb-true, eqb-false}
 use borrow.Rule.Slice.PartMut.{mid_of, put_mid, mid_len}
 use mir.Val.{bool_byte}
 use lib.Dec.{eqb}
-use lib.ListN.{length, take, drop, get_or, set, replicate, length-set, length-drop, drop_of_length-le}
+use lib.ListN.{length, take, drop, get_or, set, replicate, length-set, length-append, length-drop, drop_of_length-le}
 use lib.Seq.{take-suc, take_at, length-take-le, drop-cons, take-set-le, take-suc-set, drop-set-lt, get_or-drop, get_or-take}
 use Rattle.std.specs.List.{list_any}
 use Rattle.lists.specs.Lists.{filter, range, put_front}
@@ -45,6 +45,18 @@ counted_more {from} {n} {l} {i} {l'} h k c =
       size = length-set l' i (from + i) ∙ c.size;
     }
 
+pub counted_done : {from : ℕ} {l : List ℕ} {i : ℕ} {l' : List ℕ} → length l ≤ i → Counted from (length l) l i l' → l' ≡ range from (length l)
+counted_done {from} {l} {i} h c =
+    let e : i ≡ length l = omega (arith, c.below) in
+    let d : drop (length (range from (length l))) l ≡ [] = drop_of_length-le l (omega (arith, length_range from (length l))) in
+    rw e at c.list ∙ rw d (append-nil (range from (length l)))
+
+-- the first n places
+pub counted_front : (from n : ℕ) (l : List ℕ) {part : List ℕ} → n ≤ length l → part ≡ range from (length (take n l)) → part ++ drop n l ≡ put_front (range from n) l
+counted_front from n l h e =
+    let a : length (take n l) ≡ n = length-take-le n l h in
+    rw (e, a, length_range from n)
+
 -- blanks from a place on
 pub filled_past : (l : List ℕ) (i x : ℕ) {part : List ℕ} → i ≤ length l → part ≡ replicate (length (mid_of i (length l - i) l)) x → put_mid i (length l - i) l part ≡ take i l ++ replicate (length l - i) x
 filled_past l i x {part} h e =
@@ -53,11 +65,11 @@ filled_past l i x {part} h e =
     rw (b, e, a, append-nil (replicate (length l - i) x))
 
 -- counted up, then blanks
-pub counted_blank : (n m : ℕ) (l : List ℕ) {l₁ part : List ℕ} → length l ≡ m → n ≤ m → l₁ ≡ put_front (range 0 n) l → length l₁ ≡ length l → part ≡ replicate (length (mid_of n (length l₁ - n) l₁)) blank
+pub counted_blank : (n m : ℕ) (l : List ℕ) {l₁ part : List ℕ} → length l ≡ m → n ≤ m → l₁ ≡ put_front (range 0 n) l → part ≡ replicate (length (mid_of n (length l₁ - n) l₁)) blank
     → put_mid n (length l₁ - n) l₁ part ≡ range 0 n ++ replicate (m - n) blank
-counted_blank n m l {l₁} h k e s g =
+counted_blank n m l {l₁} h k e g =
     let f : take n l₁ ≡ range 0 n = rw e (take_at (range 0 n) (drop (length (range 0 n)) l) n (length_range 0 n)) in
-    let w : length l₁ ≡ m = s ∙ h in
+    let w : length l₁ ≡ m = omega (arith, ap length e, length-append (range 0 n) (drop (length (range 0 n)) l), length-drop (length (range 0 n)) l, length_range 0 n) in
     filled_past l₁ n blank (omega arith) g ∙ rw (f, w)
 
 -- ---- the live ones kept

@@ -1,34 +1,37 @@
 -- Numbers that stand twice: what the chunks found give together. Assumes nothing.
 use Prim.Native.Nat.{ℕ, zero, suc, ◌+◌, ◌-◌, ◌*◌, ◌≤◌, ◌<◌}
-use mathlib.Core.Bool.{Bool, true, false, cond, true≢false}
+use mathlib.Core.Bool.{Bool, true, false, not, cond, true≢false}
 use mathlib.Core.Path.{◌≡◌, refl, ap, sym, ◌∙◌}
 use mathlib.Core.List.{List, [], ◌∷◌}
-use native.Mathlib.Decide.{dec_lt}
+use native.Mathlib.Decide.{ℕ_discrete, dec_lt}
 use native.Mathlib.Omega.{arith}
-use borrow.Author.Tests.{eqb-true}
+use borrow.Author.Tests.{eqb-true, ltb-true, lt-ltb}
 use lib.Dec.{eqb}
 use lib.ListN.{length, take, drop, get_or, length-drop}
-use lib.Seq.{length-take-le, get_or-take, get_or-drop, take_at}
+use lib.Seq.{length-take-le, get_or-take, get_or-drop, take_all}
 use Rattle.std.specs.Prelude.{Option, Some, None, is_some}
 use Rattle.std.specs.Bool.{MatchBool}
 use Rattle.std.specs.Int.{div_ceil}
 use Rattle.std.proofs.lemmas.Grind.{div_ceil_times}
 use native.Mathlib.Nat.{mul-le-mul_right}
 use Rattle.std.specs.List.{HoldsAt, AllWithin}
-use Rattle.lists.specs.Lists.{All, elem, times, range, put_front}
+use Rattle.lists.specs.Lists.{All, elem, times, range}
 use Rattle.lists.proofs.All.{all_map}
 use Rattle.lists.proofs.Counts.{once_more}
-use Rattle.lists.proofs.Places.{pairwise_at}
+use Rattle.lists.proofs.Places.{all_at, at_all, pairwise_at}
 use Rattle.lists.proofs.Ranges.{length_range, times_before, times_once}
 use Rattle.lists.proofs.Unique.{Unique}
 use Rattle.sorting.specs.Inner.Places.{key_at, Placed, Sorted}
+use Rattle.sorting.proofs.ByKey.{at_pairwise}
 use Rattle.sorting.proofs.Counts.{times_at, times_all}
-use Rattle.numbers.specs.Numbers.{taken}
+use Rattle.sorting.proofs.Search.{risen_at}
+use Rattle.numbers.specs.Numbers.{number_of, rising, taken}
 use Rattle.numbers.specs.Inner.Chunks.{Met, Chunk, Sifted, Later, Checked}
+use Rattle.numbers.proofs.Exact.{rising_all, all_rising}
 use Rattle.numbers.proofs.Listing.{times_elem}
 use Rattle.numbers.proofs.Named.{at_elem}
-use Rattle.numbers.proofs.Order.{unique_apart}
-use Rattle.numbers.proofs.Taken.{taken_zero, taken_twice, taken_no}
+use Rattle.numbers.proofs.Order.{unique_apart, lower, Rises}
+use Rattle.numbers.proofs.Taken.{taken_none, taken_twice, taken_no}
 
 -- ---- the places of a chunk
 
@@ -53,9 +56,9 @@ few_unique (x ∷ xs) h = (go (elem x xs) refl, few_unique xs (λ t. omega (arit
     go true e = at_elem (true ≡ false) x xs e (λ i k q. absurd (omega (arith, h x, once_more x xs, rw q at (times_at xs i k))))
     go false e = refl
 
-module _ (given order₀ l : List ℕ) (a n : ℕ) (inside : a + n ≤ length given) (e : order₀ ≡ put_front (range a n) l) where
+module _ (given order₀ : List ℕ) (a n : ℕ) (inside : a + n ≤ length given) (e : order₀ ≡ range a n) where
   front : take n order₀ ≡ range a n
-  front = rw e (take_at (range a n) (drop (length (range a n)) l) n (length_range a n))
+  front = rw e (take_all n (range a n) (omega (arith, length_range a n)))
 
   -- they can be sorted
   pub chunk_placed : n ≤ length order₀ → Placed given order₀ n
@@ -70,7 +73,7 @@ module _ (given order₀ l : List ℕ) (a n : ℕ) (inside : a + n ≤ length gi
           rw (get_or-take n order₀ i 0 h, front) at (times_at (take n order₀) i (omega arith))
 
   -- and sorted they are a chunk
-  pub chunk_sorted : {order : List ℕ} → Sorted given order₀ n order → Chunk given order a n
+  chunk_sorted : {order : List ℕ} → Sorted given order₀ n order → Chunk given order a n
   chunk_sorted {order} f = record { inside = inside; placed = f.placed; risen = f.risen; within = within; every = every; apart = apart }
     where
       size : length (take n order) ≡ n
@@ -92,6 +95,10 @@ module _ (given order₀ l : List ℕ) (a n : ℕ) (inside : a + n ≤ length gi
           pairwise_at 0 (λ s t. s ≡ t → ⊥) (take n order) (unique_apart (take n order) (few_unique (take n order) (λ t. omega (arith, same t, range_few t a n)))) i j h (omega (arith, size))
           (get_or-take n order i 0 (omega arith) ∙ q ∙ sym (get_or-take n order j 0 k))
 
+  -- of an order that is as long
+  pub chunk_made : length order₀ ≡ n → {order : List ℕ} → Sorted given order₀ (length order₀) order → (length order ≡ n) × Chunk given order a n
+  chunk_made k f = (f.rearranged.long ∙ k, chunk_sorted (rw k at f))
+
 -- two places with one number
 pub chunk_twice : {given order : List ℕ} {a n : ℕ} → Chunk given order a n → (i j : ℕ) → i < j → j < n → key_at given order i ≡ key_at given order j → taken [] given ≡ true
 chunk_twice {given} {order} {a} {n} c i j h k e = go (dec_lt (get_or order i 0) (get_or order j 0)) (dec_lt (get_or order j 0) (get_or order i 0))
@@ -107,46 +114,38 @@ chunk_twice {given} {order} {a} {n} c i j h k e = go (dec_lt (get_or order i 0) 
     go (no l) (yes m) = taken_twice [] given (get_or order j 0) (get_or order i 0) m wi (sym e)
     go (no l) (no m) = absurd (c.apart i j h k (omega arith))
 
--- ---- equal neighbours
+-- ---- numbers that do not rise
 
-pub record Sifting (given order : List ℕ) (n low i : ℕ) : Type 0 where
-  pub below : i ≤ n
-  pub first : i ≡ 0 → low ≡ 0
-  pub last : (j : ℕ) → suc j ≡ i → low ≡ key_at given order j
-  pub high : (j : ℕ) → j < i → (0 < key_at given order j) × (key_at given order j ≤ low)
-  pub up : (j k : ℕ) → j < k → k < i → key_at given order j < key_at given order k
+pub sifted : {given order : List ℕ} {a n : ℕ} {r : Bool} → Chunk given order a n → n ≡ length order → r ≡ not (rising (length given) given 0 order) → Sifted given order n r
+sifted {given} {order} {a} {n} {r} c m e = go (rising (length given) given 0 order) refl e
+  where
+    go : (b : Bool) → rising (length given) given 0 order ≡ b → r ≡ not b → Sifted given order n r
+    go true f g =
+        let u = rising_all (length given) given 0 order f in
+        rw g
+        (record {
+          found = λ z. absurd (true≢false (sym z));
+          above = λ _ i h. (all_at 0 (λ s. (s < length given) × (0 < number_of given s)) order u.0 i (omega arith)).1;
+          up = λ _ i j h k. ltb-true (key_at given order i) (key_at given order j) (pairwise_at 0 (λ s t. lower given s t ≡ true) order u.1 i j h (omega arith));
+        })
+    go false f g = rw g (record { found = λ _. some (taken [] given) refl; above = λ z. absurd (true≢false z); up = λ z. absurd (true≢false z) })
+      where
+        some : (t : Bool) → taken [] given ≡ t → t ≡ true
+        some true h = refl
+        some false h = absurd (true≢false (sym (all_rising (length given) given 0 order inside rises) ∙ f))
+          where
+            inside : All (λ s. (s < length given) × (0 < number_of given s)) order
+            inside = at_all 0 (λ s. (s < length given) × (0 < number_of given s)) order
+                (λ i k. let l = c.placed.inside i (omega arith) in (l, (all_at 0 (λ m. (0 < m) × (elem m [] ≡ false)) given (taken_none [] given h).0 (get_or order i 0) l).0))
 
-module _ {given order : List ℕ} {a n low i m : ℕ} (c : Chunk given order a n) (h : i < n) (k : Sifting given order n low i) (e : m ≡ key_at given order i) where
-  pub sifting_found : m ≡ low → Sifted given order n true
-  sifting_found q = record { found = λ _. go i h k e; above = λ z. absurd (true≢false z); up = λ z. absurd (true≢false z) }
-    where
-      go : (i : ℕ) → i < n → Sifting given order n low i → m ≡ key_at given order i → taken [] given ≡ true
-      go zero l s f = taken_zero [] given (get_or order 0 0) (c.placed.inside 0 l) (sym f ∙ q ∙ s.first refl)
-      go (suc j) l s f = chunk_twice c j (suc j) (omega arith) l (sym (s.last j refl) ∙ sym q ∙ f)
-
-  pub sifting_more : (m ≡ low → ⊥) → Sifting given order n m (i + 1)
-  sifting_more d = record {
-    below = omega arith;
-    first = λ z. absurd (omega arith);
-    last = λ j z. let y : j ≡ i = omega arith in rw y e;
-    high = λ j l. high j l (dec_lt j i);
-    up = λ j p l w. up j p l w (dec_lt p i);
-  }
-    where
-      rise : low < m
-      rise = go i h k e
-        where
-          go : (i : ℕ) → i < n → Sifting given order n low i → m ≡ key_at given order i → low < m
-          go zero l s f = omega (arith, s.first refl)
-          go (suc j) l s f = omega (arith, s.last j refl, c.risen.up j l)
-
-      high : (j : ℕ) → j < i + 1 → Dec (j < i) → (0 < key_at given order j) × (key_at given order j ≤ m)
-      high j l (yes w) = let z = k.high j w in (z.0, omega (arith, z.1, rise))
-      high j l (no w) = let y : j ≡ i = omega arith in rw y (omega (arith, rise), omega (arith, e))
-
-      up : (j p : ℕ) → j < p → p < i + 1 → Dec (p < i) → key_at given order j < key_at given order p
-      up j p l w (yes x) = k.up j p l x
-      up j p l w (no x) = let y : p ≡ i = omega arith in let z = k.high j (omega arith) in rw y (omega (arith, z.1, rise, e))
+            rises : Rises given order
+            rises = at_pairwise (λ s t. lower given s t ≡ true) order
+                (λ i j l k. let k' : j < n = omega arith in
+                lt-ltb (key_at given order i) (key_at given order j) (below i j l k' (ℕ_discrete (key_at given order i) (key_at given order j))))
+              where
+                below : (i j : ℕ) → i < j → j < n → Dec (key_at given order i ≡ key_at given order j) → key_at given order i < key_at given order j
+                below i j l k (yes q) = absurd (true≢false (sym (chunk_twice c i j l k q) ∙ h))
+                below i j l k (no q) = omega (arith, risen_at c.risen i j (omega arith) k)
 
 -- ---- later places
 
@@ -184,6 +183,9 @@ later {given} {order} {a} {n} c false h = record {
 }
 
 -- ---- one chunk
+
+pub checked_early : {given order : List ℕ} {a n : ℕ} {r : Bool} → Sifted given order n r → r ≡ true → Checked given a n r
+checked_early s e = record { found = s.found; above = λ z. absurd (true≢false (sym e ∙ z)); once = λ z. absurd (true≢false (sym e ∙ z)) }
 
 module _ {given order : List ℕ} {a n : ℕ} {x : Bool} (c : Chunk given order a n) (s : Sifted given order n x) where
   pub checked_late : {r : Bool} → x ≡ false → Later given order a n r → Checked given a n r

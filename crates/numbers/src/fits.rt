@@ -32,7 +32,7 @@ fn numbers_misfit(marks: &[u8], numbers: &[u32]) -> bool
 }
 
 // Whether one of some words names no slot, or one whose number is not above the one before it.
-fn falls(numbers: &[u32], slots: &[u32]) -> bool
+pub fn falls(numbers: &[u32], slots: &[u32]) -> bool
     ensures { result ≡ not (rising (length numbers.now) numbers.now 0 slots.now) }
 {
     let mut low: u32 = 0;

@@ -10,22 +10,21 @@ ghost use Rattle.numbers.specs.Inner.Listed.{Listed};
 use slots::rows::BLANK;
 use sorting::below;
 
-// The numbers of all slots, and a summary of which the first `live` words name those that carry one, by rising number.
+// The numbers of all slots, and those that carry one, by rising number.
 #[derive(Clone, Copy)]
 pub struct Labels<'a> {
     pub numbers: &'a [u32],
     pub summary: &'a [u32],
-    pub live: usize,
-    pub ghost listed: { Listed numbers.now summary.now live },
+    pub ghost listed: { Listed numbers.now summary.now (length summary.now) },
 }
 
-// The place of `key` among the first `n` of `order`, which has a fixed length.
-pub fn place(keys: &[u32], order: &[u32], n: usize, key: u32) -> Option<usize>
-    requires { Placed keys.now order.now n × Risen keys.now order.now n }
-    ensures { Met keys.now order.now n key result }
+// The place in `order` of the key `key`.
+pub fn place(keys: &[u32], order: &[u32], key: u32) -> Option<usize>
+    requires { Placed keys.now order.now (length order.now) × Risen keys.now order.now (length order.now) }
+    ensures { Met keys.now order.now (length order.now) key result }
 {
-    let r = below(keys, order, n, key);
-    (r < n && keys[order[r] as usize] == key).then_some(r)
+    let r = below(keys, order, key);
+    (r < order.len() && keys[order[r] as usize] == key).then_some(r)
 }
 
 impl Labels<'_> {
@@ -36,7 +35,7 @@ impl Labels<'_> {
         if number == 0 {
             return None;
         }
-        let i = place(self.numbers, self.summary, self.live, number)?;
+        let i = place(self.numbers, self.summary, number)?;
         Some(self.summary[i])
     }
 

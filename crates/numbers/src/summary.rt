@@ -1,7 +1,7 @@
-// The summary written: by making, insert and delete. The number of its slots stands beside it since its memory is fixed: a word for each slot, of which the first
-// name those that are live.
+// The summary written: by making, insert and delete. How many slots are live stands beside it: callers have the whole summary, a word for each slot,
+// and what is behind the live ones is written too.
 ghost use Rattle.std.specs.Prelude.{◌≡◌, ◌+◌, ◌≤◌, length};
-ghost use Rattle.lists.specs.Lists.{range, put_front};
+ghost use Rattle.lists.specs.Lists.{range};
 ghost use Rattle.numbers.specs.Inner.Listed.{Apart, Summarized, Entering, Entered, Packed, Struck};
 
 use super::writing::zero_dead;
@@ -10,13 +10,13 @@ use slots::parts::copy;
 use slots::rows::BLANK;
 use sorting::{settle, sort};
 
-// Writes `from`, `from + 1`, .. to the first `n` places.
-pub fn count_up(order: &mut [u32], from: usize, n: usize)
-    requires { (n ≤ length order.old) × (from + n ≤ 65536) }
-    ensures { order.new ≡ put_front (range from n) order.old }
+// Writes `from`, `from + 1`, .. to the places.
+pub fn count_up(order: &mut [u32], from: usize)
+    requires { from + length order.old ≤ 65536 }
+    ensures { order.new ≡ range from (length order.old) }
 {
-    for i in 0..n {
-        order[i] = (from + i) as u32;
+    for (i, s) in order.iter_mut().enumerate() {
+        *s = (from + i) as u32;
     }
 }
 
@@ -25,12 +25,13 @@ pub fn summarize(numbers: &[u32], summary: &mut [u32], count: usize)
     requires { Apart numbers.now count × (length summary.old ≡ length numbers.now) }
     ensures { Summarized numbers.now count summary.new }
 {
-    count_up(summary, 0, count);
+    count_up(&mut summary[..count], 0);
     summary[count..].fill(BLANK);
-    sort(numbers, summary, count);
+    sort(numbers, &mut summary[..count]);
 }
 
-// Enters the first `n` of `slots`, which have their numbers, into the summary of `live` slots.
+// Enters the first `n` of `slots`, which have their numbers, into the summary of `live` slots. `n` stands beside `slots`, as in `copy_numbers`: C lends the list,
+// and what callers know is of its first `n`.
 pub fn enter(numbers: &[u32], summary: &mut [u32], live: usize, slots: &[u32], n: usize)
     requires { Entering numbers.now summary.old live slots.now n }
     ensures { Entered numbers.now summary.old live slots.now n summary.new }
@@ -38,10 +39,10 @@ pub fn enter(numbers: &[u32], summary: &mut [u32], live: usize, slots: &[u32], n
     let end = live + n;
     copy(&mut summary[live..end], &slots[..n]);
     if n <= 16 {
-        settle(numbers, summary, live, end);
+        settle(numbers, &mut summary[..end], live);
         return;
     }
-    sort(numbers, summary, end);
+    sort(numbers, &mut summary[..end]);
 }
 
 // Moves the live ones of the first `live` words to the front, in their order; how many they are.

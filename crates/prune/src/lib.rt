@@ -62,8 +62,8 @@ struct Output {
     to: usize,
 }
 
-// What the passes of a selection go over: candidates at `a` of the words, a factor each, and the distances that are kept meanwhile. That a table of `N` distances has
-// a size at all (`sized`) is a field, since a reference to one does not tell.
+// What the passes of a selection go over: candidates at `a` of the words, a factor each, and the distances that are kept meanwhile. That a table of `N` distances
+// has a size at all (`sized`) is a field, since a reference to one does not say so.
 #[derive(Drop)]
 struct Selector<'k, 's, 'f, 'w, const N: usize> {
     alpha: f32,
@@ -177,7 +177,7 @@ fn prepare(marks: &[u8], source: u32, words: &mut [u32], a: usize, n: usize) -> 
 }
 
 // Selects the neighbours of slot `source` from the `n` candidates at `a`, which it rearranges. Returns how many they are; they lie at `to`. Distances
-// that the table `kept` has are read there. Its callers have these nine in structs that differ, so that a struct of it would be made for the call alone.
+// that the table `kept` has are read there. Its callers have these nine in structs that differ, so that a struct of them would be made for the call alone.
 pub fn prune_scored<const N: usize>(
     degree: usize,
     alpha: f32,

@@ -17,7 +17,7 @@ use slots::marks::{is_valid, live_vector};
 use slots::rows::BLANK;
 use vectors::Space;
 
-// The target with `place` live ones before it in slot `s`'s row; blank past the last.
+// The target with `place` live ones before it in slot `s`'s row; blank past the last: that is document 01's answer, and `Value` has it as a number.
 fn target(graph: &Graph<'_>, s: usize, place: u32) -> u32
     ensures { result ≡ get_or (filter (is_valid (graph_of graph.now).marks) (refs_of (graph_of graph.now) s)) place blank }
 {

@@ -172,6 +172,7 @@ fn replay_list(rt: &impl Print, errors: &impl Print, list: &[u8]) -> io::Result<
 }
 
 // Reads from the input until it ends or the list is full, and returns how many bytes it put at the list's start.
+// A `for` with a bound that no list comes near: it needs no measure.
 fn read_full(input: &mut impl Read, list: &mut [u8]) -> io::Result<usize>
     ensures { IfOk result (λ n. n ≤ length list.new) }
 {

@@ -3,29 +3,30 @@
 
 use index::{DeleteSlices, Index, InsertSlices, Making, NewSlices, Refusal};
 use reading::{Reading, Value};
+use slots::rows::BLANK;
 use std::io;
 use updating::{Changed, Deleting, Inserting, Naming};
 
-const BLANK: u32 = u32::MAX;
-
-// What was read as a number; blank where it was turned back.
-fn number(value: Result<Value, Refusal>) -> u32 {
+// What was read as a number; none where it was turned back.
+fn number(value: Result<Value, Refusal>) -> Option<u32> {
     match value {
-        Ok(Value::Number(n)) => n,
-        Ok(Value::Version(n)) => u32::from(n),
-        Ok(Value::Alpha(_)) | Err(_) => BLANK,
+        Ok(Value::Number(n)) => Some(n),
+        Ok(Value::Version(n)) => Some(u32::from(n)),
+        Ok(Value::Alpha(_)) | Err(_) => None,
     }
 }
 
-// Prints a slot: its mark, version and live targets, at most two.
-fn print_slot<F: Fn(Reading) -> u32>(rt: &impl Print, read: &F, slot: u32) -> io::Result<()>
+// Prints a slot that can be read: its mark, version and live targets, at most two.
+fn print_slot<F: Fn(Reading) -> Option<u32>>(rt: &impl Print, read: &F, slot: u32) -> io::Result<()>
     requires { F.IsAlwaysCallable read.now }
 {
-    let mark = read(Reading::Mark(slot));
-    let version = read(Reading::Version(slot));
+    let (Some(mark), Some(version)) = (read(Reading::Mark(slot)), read(Reading::Version(slot)))
+    else {
+        return Ok(());
+    };
     print!(rt; "{slot} {mark} {version}")?;
     for place in 0..2 {
-        let target = read(Reading::Target(slot, place));
+        let target = read(Reading::Target(slot, place)).unwrap_or(BLANK);
         if target != BLANK {
             print!(rt; " {target}")?;
         }
@@ -33,12 +34,13 @@ fn print_slot<F: Fn(Reading) -> u32>(rt: &impl Print, read: &F, slot: u32) -> io
     rt.println("")
 }
 
-// Prints the shelf: entry and live count, then each slot.
-fn print_shelf<F: Fn(Reading) -> u32>(rt: &impl Print, read: &F) -> io::Result<()>
+// Prints a shelf that can be read: entry and live count, then each slot.
+fn print_shelf<F: Fn(Reading) -> Option<u32>>(rt: &impl Print, read: &F) -> io::Result<()>
     requires { F.IsAlwaysCallable read.now }
 {
-    let entry = read(Reading::Entry);
-    let live = read(Reading::Live);
+    let (Some(entry), Some(live)) = (read(Reading::Entry), read(Reading::Live)) else {
+        return Ok(());
+    };
     println!(rt; "entry {entry} live {live}")?;
     for slot in 0..4 {
         print_slot(rt, read, slot)?;

@@ -54,8 +54,7 @@ fn taken(numbers: &[u32], summary: &[u32], live: u32, given: &[u32]) -> bool
 {
     let labels = Labels {
         numbers,
-        summary,
-        live: live as usize,
+        summary: &summary[..live as usize],
     };
     labels.any_live(given) || repeated(given)
 }

@@ -26,7 +26,7 @@ pub fn by_slots<'a>(
     asked: Deleting<'a>,
     slots: &'a mut [u32],
 ) -> Deleting<'a>
-    requires { length slots.old ≡ limits.ids }
+    requires { limits.ids ≤ length slots.old }
     ensures { BySlots index (slices_of slices.now) (deleting_of asked.entry) (deleting_of result) }
 {
     let n = asked.names.len();
@@ -36,8 +36,7 @@ pub fn by_slots<'a>(
     {
         let labels = Labels {
             numbers: slices.numbers,
-            summary: slices.summary,
-            live: index.live as usize,
+            summary: &slices.summary[..index.live as usize],
         };
         labels.slots_of(asked.names, slots);
         return Deleting {

@@ -19,6 +19,9 @@ pub square_of : (x y : ℕ) {d : ℕ} → d ≡ (x - y) + (y - x) → d * d ≡ 
 unfolding squared_difference
 square_of x y e = rw e
 
+pub square_up : {x y : ℕ} → x < y → (y - x) * (y - x) ≡ squared_difference x y
+square_up {x} {y} h = square_of x y (omega arith)
+
 -- one step of the sum, from the front
 pub distance_step : (a b : List ℕ) (i : ℕ) → i < length a → i < length b
     → distance (drop i a) (drop i b) ≡ squared_difference (get_or a i 0) (get_or b i 0) + distance (drop (i + 1) a) (drop (i + 1) b)

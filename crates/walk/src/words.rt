@@ -119,17 +119,17 @@ impl List<'_> {
     ghost use Rattle.walk.specs.Inner.Scratch.{Listed, Scannable, Entered, Unexpanded, Next};
     ghost use Rattle.walk.specs.Inner.Searching.{SameWords};
 
-    // The place of the first candidate whose slot is not expanded; `count` where there is none.
-    fn unexpanded(&self) -> usize
+    // The place of the first candidate whose slot is not expanded.
+    fn unexpanded(&self) -> Option<usize>
         requires { Scannable self.now.words.now self.now.count self.now.next }
-        ensures { Unexpanded self.now.words.now self.now.count result }
+        ensures { (result ≡ None → Unexpanded self.now.words.now self.now.count self.now.count) × ((i : ℕ) → result ≡ Some i → Unexpanded self.now.words.now self.now.count i × (i < self.now.count)) }
     {
         for i in self.next..self.count {
             if mark(self.words, id_at(self.words, 0, i) as usize) != EXPANDED {
-                return i;
+                return Some(i);
             }
         }
-        self.count
+        None
     }
 
     // Whether the walk ends before candidate `i` is expanded: the list is full, and the candidate is not nearer than the worst.
@@ -146,8 +146,8 @@ impl List<'_> {
         requires { Scannable self.now.words.now self.now.count self.now.next }
         ensures { (result ≡ None → Next self.now.beam self.now.words.now self.now.count self.now.count) × ((i : ℕ) → result ≡ Some i → Next self.now.beam self.now.words.now self.now.count i × (i ≡ self.now.count → ⊥)) }
     {
-        let i = self.unexpanded();
-        if i == self.count || self.ends(i) {
+        let i = self.unexpanded()?;
+        if self.ends(i) {
             return None;
         }
         Some(i)

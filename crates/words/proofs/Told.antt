@@ -163,21 +163,21 @@ number_read {i} {s} {q} (Ok v) g c =
 number_read (Err d) g c = refl
 
 -- or the alpha
-alpha_read : {i : Index} {s : Slices} (r : Result Value Refusal) → Reads i s Alpha r → r ≡ map_ok Factor (map_ok alpha_in r)
+alpha_read : {i : Index} {s : Slices} (before : Float) (r : Result Value Refusal) → Reads i s Alpha r → r ≡ map_ok Factor (map_ok (alpha_in before) r)
 unfolding reading reading_of answer_of
-alpha_read {i} {s} (Ok v) c =
+alpha_read {i} {s} before (Ok v) c =
     let x = (view_of stored (state_of i s)).sizes.alpha in
     let e : v ≡ Factor x = same_value v (Factor x) (shows c) in
-    ap Ok (e ∙ ap Factor (sym (ap alpha_in e)))
-alpha_read (Err d) c = refl
+    ap Ok (e ∙ ap Factor (sym (ap (alpha_in before) e)))
+alpha_read before (Err d) c = refl
 
 module _ {words : List ℕ} {s : Slices} {r : Result Value Refusal} where
   pub reads_number : {q : Reading} {value value' status : ℕ} → gives_number q ≡ true → Reads (index_of words) s q r
       → (status, value') ≡ put (map_ok number_in r) value → ReadsNumber words s q value value' status
   reads_number {q} g c p = record { answer = map_ok number_in r; does = subst (Reads (index_of words) s q) (number_read r g c) c; told = p }
 
-  pub reads_alpha : {value value' : Float} {status : ℕ} → Reads (index_of words) s Alpha r → (status, value') ≡ put (map_ok alpha_in r) value → ReadsAlpha words s value value' status
-  reads_alpha c p = record { answer = map_ok alpha_in r; does = subst (Reads (index_of words) s Alpha) (alpha_read r c) c; told = p }
+  pub reads_alpha : {value value' : Float} {status : ℕ} → Reads (index_of words) s Alpha r → (status, value') ≡ put (map_ok (alpha_in value) r) value → ReadsAlpha words s value value' status
+  reads_alpha {value} c p = record { answer = map_ok (alpha_in value) r; does = subst (Reads (index_of words) s Alpha) (alpha_read value r c) c; told = p }
 
 -- ---- the vector of a slot
 

@@ -20,7 +20,7 @@ pub fn put_created(made: Result<Index, Refusal>, words: &mut [u32; 12]) -> u32
     put(made.map(words_from), words)
 }
 
-// Writes the words of an index that was changed, and how many slots were filled or emptied.
+// Writes the words of an index that was changed, and how many slots were filled or emptied: two places, where `put` writes one.
 pub fn put_changed(answer: Result<Changed, Refusal>, words: &mut [u32; 12], found: &mut u32) -> u32
     requires { (c : Change.Changed) → answer ≡ Ok c → T (not (is_nan c.index.alpha)) }
     ensures { (result, (words.new, found.new)) ≡ put (map_ok changed_words answer) (words.old, found.old) }

@@ -13,7 +13,8 @@ use deletion::stats_place;
 use index::{DeleteSlices, Refusal};
 use updating::{Changed, Deleting};
 
-// A delete's status, and where in the scratch the words of how many stats stand.
+// A delete's status, and where in the scratch the words of how many stats stand: of 0, at 0, where it writes none. All three are used whatever the status is: it is
+// returned to C, and `count` records are written from `at` on. An `Option` of a place would only be turned into these again.
 #[derive(Clone, Copy)]
 pub struct Left {
     pub status: u32,

@@ -1,4 +1,4 @@
-// What the guard's calls write.
+// What the guard's calls write. `words_of_status` and `words_of_report` are no `From`: both types of each are another crate's or the language's.
 ghost use Rattle.std.specs.Prelude.{not, ◌≡◌, T, Ok};
 ghost use Rattle.std.specs.Float.Ieee.{is_nan};
 ghost use Rattle.guarding.specs.declared.Enabled as GuardEnabled;
@@ -59,7 +59,7 @@ pub fn put_report(answer: Result<Report, Refusal>, report: &mut [u32; 8]) -> u32
     put(answer.map(words_of_report), report)
 }
 
-// Writes the words of an index whose guard was enabled, and the guard's status.
+// Writes the words of an index whose guard was enabled, and the guard's status: two places, where `put` writes one.
 pub fn put_enabled(
     answer: Result<Enabled, Refusal>,
     words: &mut [u32; 12],

@@ -1,4 +1,4 @@
-// An index in twelve words.
+// An index in twelve words. Its functions are no `From`: both types of each are another crate's or the language's.
 ghost use Rattle.std.specs.Prelude.{not, ◌≡◌, T};
 ghost use Rattle.std.specs.Float.Ieee.{is_nan};
 ghost use Rattle.words.specs.IndexWords.{alpha_of, guard_of, index_of, words_of};
@@ -6,7 +6,7 @@ ghost use Rattle.words.specs.IndexWords.{alpha_of, guard_of, index_of, words_of}
 use guard::Config;
 use index::{Guard, Index};
 
-// The alpha of its bits; a NaN's bits are read as 0.0.
+// The alpha of its bits; a NaN's bits are read as 0.0. They are tested before they are a number, not by `is_nan` after: Rattle gives bits of a NaN no meaning.
 fn alpha_from(bits: u32) -> f32
     ensures { result ≡ alpha_of bits }
 {
@@ -63,7 +63,8 @@ const OFF: Guard = Guard {
     pool: 0,
 };
 
-// The words that an index is written as.
+// The words that an index is written as. That alpha is no NaN is asked here and of the functions that write an answer's index: the words could not hold a NaN.
+// It is no field of `Index`, which may have any alpha: row 2 turns a NaN back.
 pub fn words_from(index: Index) -> [u32; 12]
     requires { T (not (is_nan index.alpha)) }
     ensures { result ≡ words_of index }

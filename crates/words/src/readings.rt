@@ -6,7 +6,7 @@ ghost use Rattle.words.specs.IndexWords.{index_of};
 ghost use Rattle.words.specs.Given.{map_ok, put, ReadsNumber};
 ghost use Rattle.words.specs.Inner.Putting.{gives_number, number_in, alpha_in};
 
-use super::answers::put;
+use super::answers::{number_of, put};
 use super::index_words::index_from;
 use index::{Refusal, Slices};
 use reading::{Reading, Value};
@@ -22,7 +22,7 @@ pub fn read_value(
     reading::read(index_from(words), slices, reading)
 }
 
-// The number that was read; alpha is none.
+// The number that was read; 0 for alpha. Its caller asks for a number only (`gives_number`), so no `Option` of it is needed.
 fn number_in(value: Value) -> u32
     ensures { result ≡ number_in value }
 {
@@ -33,22 +33,18 @@ fn number_in(value: Value) -> u32
     }
 }
 
-// The alpha that was read; a number is none.
-fn alpha_in(value: Value) -> f32
-    ensures { result ≡ alpha_in value }
-{
-    match value {
-        Value::Alpha(a) => a,
-        Value::Number(_) | Value::Version(_) => 0.0,
-    }
-}
-
-// Writes an alpha that was read.
-#[tactic(auto, using(crate::proofs::Told::put_mapped))]
+// Writes an alpha that was read; a number is not written.
 pub fn put_alpha(read: Result<Value, Refusal>, value: &mut f32) -> u32
-    ensures { (result, value.new) ≡ put (map_ok alpha_in read) value.old }
+    ensures { (result, value.new) ≡ put (map_ok (alpha_in value.old) read) value.old }
 {
-    put(read.map(alpha_in), value)
+    match read {
+        Ok(Value::Alpha(a)) => {
+            *value = a;
+            0
+        }
+        Ok(Value::Number(_) | Value::Version(_)) => 0,
+        Err(e) => number_of(e),
+    }
 }
 
 // Reads a number and writes it.

@@ -5,7 +5,7 @@ unsafe extern "C" {
         marks: *const u8, ml: usize, query: *const u8, ql: usize, entry: u32, beam: usize, scratch: *mut u32, sl: usize,
     ) -> usize;
     fn exported_prune(
-        degree: usize, alpha: f32, dim: usize, vectors: *const u8, vl: usize, kept: *mut u32, kl: usize, marks: *const u8, ml: usize, source: u32,
+        degree: usize, alpha: f32, dim: usize, vectors: *const u8, vl: usize, marks: *const u8, ml: usize, source: u32,
         scratch: *mut u32, sl: usize, a: usize, n: usize, to: usize,
     ) -> usize;
     fn finder_live(

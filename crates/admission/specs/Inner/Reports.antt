@@ -49,7 +49,8 @@ pub record Reports (report : Report) (checked checked' lost lost' : List ℕ) (r
   pub lost_list : lost' ≡ put_front report.lost lost
 
 -- what an assessment asks: slices that belong together, settings within their limits, lists of `count` places at least, and the guard's share of the
--- scratch; the pool and the ids may name any slots
+-- scratch; the pool and the ids may name any slots. Three contracts ask it, each handing it on: no type has it, since the index, its guard, the ids, the lists
+-- and the scratch are lent apart
 pub record Assessable (a : Arrays) (count sample beam : ℕ) (pool : List ℕ) (pooled : ℕ) (ids checked lost w : List ℕ) : Type 0 where
   pub bytes : Bytes a.dim (length a.marks) a.vectors
   pub rows : RowShape a.degree a.targets a.edges a.versions a.marks

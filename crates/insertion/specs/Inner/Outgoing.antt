@@ -26,7 +26,7 @@ pub record OwnRow (degree s : ℕ) (w : List ℕ) (at : Layout) (b e : ℕ) : Ty
   pub room : at.chosen + degree ≤ length w
   pub below : at.chosen + degree ≤ 8388608
 
--- the plans of a chunk's slots
+-- the plans of a chunk's slots, as the words lent to one call hold them: a fact of these words, so it is no field
 pub record OutgoingRows (degree capacity : ℕ) (slots w : List ℕ) (at : Layout) (n : ℕ) : Type 0 where
   pub few : length slots ≤ 256
   pub inside : Inside capacity slots

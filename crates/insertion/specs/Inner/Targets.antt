@@ -14,7 +14,7 @@ unfoldable pub renewed_at : List ℕ → Layout → ℕ → Store → ℕ → St
 renewed_at w at n b s =
     cond (ltb (head w s) n) (store_ops.write b s (ids (prune (store_view b) s (live_scored (store_view b) s ++ incoming_at w at (at_slot w at s 0 n))))) b
 
--- n candidates of plans, chained by slot, and room for a list and a selection
+-- n candidates of plans, chained by slot, and room for a list and a selection: a fact of the words lent to one call, so it is no field
 pub record Renewable (degree capacity : ℕ) (w : List ℕ) (at : Layout) (n : ℕ) : Type 0 where
   pub chains : Chains w at n capacity
   pub heads_in : marks_at + capacity ≤ at.plans

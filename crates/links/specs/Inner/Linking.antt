@@ -58,6 +58,7 @@ by_source ls b s = foldl apply_link b (from s ls)
 abbrev pub link_words : ℕ → ℕ
 link_words degree = 4 * degree + 2
 
+-- room for them: a fact of the words lent to one call, so it is no field
 pub record Room (degree : ℕ) (w : List ℕ) (at : ℕ) : Type 0 where
   pub inside : at + link_words degree ≤ length w
   pub below : at + link_words degree ≤ 8388608

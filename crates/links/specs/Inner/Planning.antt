@@ -53,11 +53,12 @@ pub record Distinct (xs : List ℕ) : Type 0 where
 abbrev pub plan_words : ℕ → ℕ
 plan_words degree = 1920 + link_words degree
 
+-- room for them: a fact of the words lent to one call, so it is no field
 pub record Area (degree : ℕ) (w : List ℕ) (base : ℕ) : Type 0 where
   pub inside : base + plan_words degree ≤ length w
   pub below : base + plan_words degree ≤ 8388608
 
--- the words in which it is made
+-- the words in which it is made: a fact of the words lent to one call, so it is no field
 pub record Plot (w : List ℕ) (base : ℕ) : Type 0 where
   pub inside : base + 1920 ≤ length w
   pub below : base + 1920 ≤ 8388608

@@ -40,10 +40,10 @@ number_in (Factor a) = 0
 number_in (Stamp n) = n
 
 -- the alpha that was read; a number is none
-abbrev pub alpha_in : Value → Float
-alpha_in (Number n) = of_bits binary32 0
-alpha_in (Factor a) = a
-alpha_in (Stamp n) = of_bits binary32 0
+abbrev pub alpha_in : Float → Value → Float
+alpha_in before (Number n) = before
+alpha_in before (Factor a) = a
+alpha_in before (Stamp n) = before
 
 -- where the stats of a delete stand in the scratch, and how many they are
 abbrev pub stats_left : Result Changed Refusal → ℕ → ℕ × ℕ

@@ -1,14 +1,15 @@
-use Rattle.admission.proofs.Entering.{passing_more, passing_found, passing_done, entry_kept}
+use Rattle.std.proofs.Common.{rules, ◌≡◌, true, false}
+use Rattle.std.proofs.lemmas.Iterator.{first_from_Range}
+use Rattle.landmarks.specs.Inner.Samples.{remains}
+use Rattle.admission.proofs.Entering.{first_entered, entry_kept}
 use Rattle.admission.proofs.entry.residual_entry.Goals as goal
 
 pub returns-then-stays : goal.returns-then-stays
 returns-then-stays c = entry_kept c.args.marks.now c.args.ids.now c.args.entry c.stays.ensures c.if-stays.true
 
-pub returns-then-stays-2 : goal.returns-then-stays-2
-returns-then-stays-2 c = passing_found c.args.marks.now c.args.ids.now c.args.entry c.stays.ensures c.if-stays.false c.loop-s.invariant c.loop-s-test.true c.stays-in-loop-s.ensures c.if-stays-2.true
-
-pub loop-s-preserved : goal.loop-s-preserved
-loop-s-preserved c = passing_more c.loop-s.invariant c.loop-s-test.true c.stays-in-loop-s.ensures c.if-stays-2.false
-
 pub returns : goal.returns
-returns c = passing_done c.args.marks.now c.args.ids.now c.args.entry c.stays.ensures c.if-stays.false c.loop-s.invariant c.loop-s-test.false
+returns c =
+    let marks = c.args.marks.now in
+    let ids = c.args.ids.now in
+    first_entered marks ids c.args.entry c.stays.ensures c.if-stays.false (search rules) c.find.result
+    (first_from_Range _ _ _ _ (λ s. remains marks ids s ≡ true) (λ s. remains marks ids s ≡ false) c.find.ensures.ran (λ x q k. search rules) (λ x q k. search rules))

@@ -10,12 +10,12 @@ use Rattle.admission.proofs.report.assess_delete_admission.Goals as goal
 
 pub returns-then-requested-eq0 : goal.returns-then-requested-eq0
 returns-then-requested-eq0 c =
-    let g = c.args.config in
+    let g = c.args.settings in
     (assessed_none (graph_of c.args.graph.now) c.args.entry g.count g.sample g.beam c.args.pool.now c.args.ids.now c.count_named-requested.ensures _ _ c.if-requested-eq0.true (search rules), record { checked = refl; lost = refl })
 
 pub returns-in_default : goal.returns-in_default
 returns-in_default c =
-    let g = c.args.config in
+    let g = c.args.settings in
     (assessed_gone (graph_of c.args.graph.now) c.args.entry g.count g.sample g.beam c.args.pool.now c.args.ids.now c.count_named-requested.ensures c.if-requested-eq0.false c.residual_entry.ensures _ _ c.in_default.is (search rules), record { checked = refl; lost = refl })
 
 pub probe-report-requires-clause-start_in_bounds : goal.probe-report-requires-clause-start_in_bounds
@@ -25,7 +25,7 @@ probe-report-requires-clause-start_in_bounds c =
 
 pub returns : goal.returns
 returns c =
-    let g = c.args.config in
+    let g = c.args.settings in
     let a = graph_of c.args.graph.now in
     let marks = c.args.graph.now.rows.marks.now in
     let start = c.in-Some.start in

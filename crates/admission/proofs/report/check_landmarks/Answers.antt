@@ -9,7 +9,7 @@ select_landmarks-more-requires c =
     let d : ℕ → ℕ → ℕ = slot_distance (space g.space.dim g.space.vectors.now) in
     let k = c.keep_landmarks-kept in
     let s = c.split_at_mut-front.ensures in
-    check_selectable d g.rows.marks.now c.args.ids.now c.args.trial.now.entry c.args.config.sample c.args.config.count c.args.pool.now k.ensures c.requires g.bytes g.shape.few k.auto.list refl refl s.front refl s.back
+    check_selectable d g.rows.marks.now c.args.ids.now c.args.trial.now.entry c.args.settings.sample c.args.settings.count c.args.pool.now k.ensures c.requires g.bytes g.shape.few k.auto.list refl refl s.front refl s.back
 
 pub returns : goal.returns
 returns c =
@@ -17,4 +17,4 @@ returns c =
     let d : ℕ → ℕ → ℕ = slot_distance (space g.space.dim g.space.vectors.now) in
     let s = c.split_at_mut-front.ensures in
     let f = rw (s.front, s.back) at c.select_landmarks-more.ensures in
-    checks d g.rows.marks.now c.args.ids.now c.args.trial.now.entry c.args.config.sample c.args.config.count c.args.pool.now c.keep_landmarks-kept.ensures f (rw s.front) refl
+    checks d g.rows.marks.now c.args.ids.now c.args.trial.now.entry c.args.settings.sample c.args.settings.count c.args.pool.now c.keep_landmarks-kept.ensures f (rw s.front) refl

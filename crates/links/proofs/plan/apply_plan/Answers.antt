@@ -13,7 +13,7 @@ score-requires-2 c = plan_remain c.args.pruner.now.together c.requires.0 c.requi
 pub span-t-requires : goal.span-t-requires
 span-t-requires c =
     let e = plan_planned c.args.pruner.now.together c.requires.0 c.requires.1 c.requires.2 c.requires.3 c.score.ensures c.nearest-i.ensures c.id_at-start.ensures c.put.ensures c.score-2.ensures c.keep_valid-m.ensures in
-    (e.0, e.1, c.requires.4, c.requires.5)
+    (e.0, e.1, c.requires.5)
 
 pub apply_sources-requires : goal.apply_sources-requires
 apply_sources-requires c =

@@ -1,15 +1,21 @@
+use mathlib.Core.Path.{sym}
 use native.Mathlib.Omega.{arith}
-use Rattle.numbers.proofs.Twice.{chunk_placed, chunk_sorted, checked_late}
+use lib.ListN.{length}
+use Rattle.numbers.proofs.Twice.{chunk_placed, chunk_made, sifted, checked_early, checked_late}
 use Rattle.numbers.proofs.fresh.chunk_repeats.Goals as goal
 
 pub sort-requires : goal.sort-requires
-sort-requires c = chunk_placed c.args.given.now c.count_up.new.order c.args.order.now c.args.a c.args.n c.requires.0 c.count_up.ensures (omega arith)
-
-pub equal_or_zero-requires : goal.equal_or_zero-requires
-equal_or_zero-requires c = chunk_sorted c.args.given.now c.count_up.new.order c.args.order.now c.args.a c.args.n c.requires.0 c.count_up.ensures c.sort.ensures
+sort-requires c = rw c.count_up.auto.order (chunk_placed c.args.given.now c.count_up.new.order c.args.a (length c.args.order.now) c.requires.0 c.count_up.ensures (omega (arith, c.count_up.auto.order)))
 
 pub again_later-requires : goal.again_later-requires
-again_later-requires c = chunk_sorted c.args.given.now c.count_up.new.order c.args.order.now c.args.a c.args.n c.requires.0 c.count_up.ensures c.sort.ensures
+again_later-requires c = let k = chunk_made c.args.given.now c.count_up.new.order c.args.a (length c.args.order.now) c.requires.0 c.count_up.ensures c.count_up.auto.order c.sort.ensures in rw k.0 k.1
 
-pub returns-else-equal_or_zero : goal.returns-else-equal_or_zero
-returns-else-equal_or_zero c = checked_late (chunk_sorted c.args.given.now c.count_up.new.order c.args.order.now c.args.a c.args.n c.requires.0 c.count_up.ensures c.sort.ensures) c.equal_or_zero.ensures c.if-equal_or_zero.false c.again_later.ensures
+pub returns-then-falls : goal.returns-then-falls
+returns-then-falls c =
+    let k = chunk_made c.args.given.now c.count_up.new.order c.args.a (length c.args.order.now) c.requires.0 c.count_up.ensures c.count_up.auto.order c.sort.ensures in
+    checked_early (sifted k.1 (sym k.0) c.falls.ensures) c.if-falls.true
+
+pub returns-else-falls : goal.returns-else-falls
+returns-else-falls c =
+    let k = chunk_made c.args.given.now c.count_up.new.order c.args.a (length c.args.order.now) c.requires.0 c.count_up.ensures c.count_up.auto.order c.sort.ensures in
+    checked_late k.1 (sifted k.1 (sym k.0) c.falls.ensures) c.if-falls.false (rw k.0 at c.again_later.ensures)

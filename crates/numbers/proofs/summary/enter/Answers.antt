@@ -1,14 +1,14 @@
-use Rattle.numbers.proofs.Listing.{entering_pasted, entering_ready, entered_from}
+use Rattle.numbers.proofs.Listing.{entering_pasted, entering_front, entered_front}
 use Rattle.numbers.proofs.summary.enter.Goals as goal
 
 pub settle-requires : goal.settle-requires
-settle-requires c = entering_ready c.requires (entering_pasted c.requires c.copy.ensures)
+settle-requires c = entering_front c.requires (entering_pasted c.requires c.copy.ensures)
 
 pub returns-then-n-le16 : goal.returns-then-n-le16
-returns-then-n-le16 c = entered_from c.requires (entering_pasted c.requires c.copy.ensures) c.settle.ensures
+returns-then-n-le16 c = entered_front c.requires (entering_pasted c.requires c.copy.ensures) c.settle.ensures
 
 pub sort-requires : goal.sort-requires
-sort-requires c = (entering_ready c.requires (entering_pasted c.requires c.copy.ensures)).0
+sort-requires c = (entering_front c.requires (entering_pasted c.requires c.copy.ensures)).0
 
 pub returns : goal.returns
-returns c = entered_from c.requires (entering_pasted c.requires c.copy.ensures) c.sort.ensures
+returns c = entered_front c.requires (entering_pasted c.requires c.copy.ensures) c.sort.ensures

@@ -13,4 +13,4 @@ pub loop-i-preserved : goal.loop-i-preserved
 loop-i-preserved c = scan_more _ _ c.id_at.ensures c.mark.ensures c.if-mark-ne-EXPANDED.false c.loop-i.invariant
 
 pub returns : goal.returns
-returns c = scan_all (omega (arith, c.loop-i.auto.i-end c.requires.passed, c.loop-i-test.false)) c.loop-i.invariant
+returns c = (λ q. scan_all (omega (arith, c.loop-i.auto.i-end c.requires.passed, c.loop-i-test.false)) c.loop-i.invariant, λ i q. cc)
