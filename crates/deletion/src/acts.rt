@@ -67,9 +67,10 @@ fn link_rows(
         (plans_at (between space.now.dim space.now.vectors.now) how.degree how.entry scratch.old at.stats at.plans at.count)
         (arrays_of space.now rows.new marks.now) scratch.old at.base (plan_words rows.old.degree) scratch.new × SameSlices rows.old rows.new }
 {
+    let mut kept = Kept::new(*space);
     let mut pruner = Pruner {
         alpha: how.alpha,
-        kept: Kept::new(*space),
+        kept: &mut kept,
         rows,
         marks,
     };

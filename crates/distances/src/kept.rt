@@ -1,4 +1,5 @@
 // Distances that are kept, so that each is worked out once.
+ghost use Rattle.std.specs.Prelude.{◌+◌, ◌*◌, ◌<◌};
 ghost use Rattle.distances.specs.Inner.Kept.{Keeps};
 
 use super::slot_distance;
@@ -14,11 +15,13 @@ struct Entry {
     dist: u32,
 }
 
-// The vectors of all slots, and a table of `N` distances of them. Where `N` is 0, none is kept.
+// The vectors of all slots, and a table of `N` distances of them. Where `N` is 0, none is kept. That such a table has a size at all (`sized`) is a field, since
+// a reference to one does not say so.
 #[derive(Drop)]
 pub struct Kept<'a, const N: usize> {
     pub space: Space<'a>,
     entries: [Entry; N],
+    pub ghost sized: { 24 + N * 8 < 9223372036854775808 },
     ghost keeps: { Keeps space.dim space.vectors.now entries },
 }
 

@@ -112,7 +112,7 @@ module _ (p : Pruner 0) (slots : List ℕ) {w : List ℕ} {at : Layout} {n : ℕ
 
 -- what is left beside what stays
 pub rows_end : {how : Selection} {p p₂ : Pruner 0} {slots w : List ℕ} {at : Layout} {n : ℕ} → p.alpha ≡ how.alpha → ((entry : ℕ) → Written entry p (rows_written w at n slots (index_by entry p)) p₂)
-    → RowsWritten how (held p) slots w at n (rows_mut_of p.kept.space.dim p.kept.space.vectors.now p₂.rows.now p.marks.now) × SameSlices p.rows.now p₂.rows.now
+    → RowsWritten how (held p) slots w at n (rows_mut_of p.kept.now.space.dim p.kept.now.space.vectors.now p₂.rows.now p.marks.now) × SameSlices p.rows.now p₂.rows.now
 rows_end {how} {p} {p₂} a g =
     let s = (g 0).same in
     let x = p₂.together in

@@ -17,13 +17,13 @@ use Rattle.candidates.proofs.Words.{cands_agree}
 use Rattle.row.specs.Row.{Together, index_of, Writable, WroteIds}
 use Rattle.row.specs.Lent.{held, SamePruner}
 use Rattle.row.specs.declared.pruner.Pruner.{Pruner}
-use Rattle.row.proofs.Kept.{pruner_then}
+use Rattle.row.proofs.Kept.{pruner_none, pruner_then}
 use Rattle.insertion.specs.declared.layout.Layout.{Layout}
 use Rattle.insertion.specs.Inner.Chains.{head}
 use Rattle.insertion.specs.Inner.Plans.{start_of, plan_cands}
 use Rattle.insertion.specs.Inner.Outgoing.{own_row, own_at, OwnRow, OutgoingRows}
 use Rattle.insertion.specs.Inner.Writing.{index_by, Written, Below}
-use Rattle.insertion.proofs.Same.{together_as, long_written, pruner_none, below_none, below_then}
+use Rattle.insertion.proofs.Same.{together_as, long_written, below_none, below_then}
 
 -- ---- one slot; z is s as an index
 module _ (p : Pruner 0) (at : Layout) (n : ℕ) {s : ℕ} {w : List ℕ} (b e : ℕ) where
@@ -47,15 +47,15 @@ module _ (p : Pruner 0) (at : Layout) (n : ℕ) {s : ℕ} {w : List ℕ} (b e : 
 
     module _ {targets edges w' : List ℕ}
         (f : WroteIds p.rows.now.degree p.rows.now.targets.now p.rows.now.edges.now p.rows.now.versions.now s w (at.plans + 2 * b) (e - b) at.chosen targets edges w') where
-      written : (entry : ℕ) → index_of p.alpha entry (arrays p.kept.space.dim p.rows.now.degree p.kept.space.vectors.now targets edges p.rows.now.versions.now p.marks.now)
+      written : (entry : ℕ) → index_of p.alpha entry (arrays p.kept.now.space.dim p.rows.now.degree p.kept.now.space.vectors.now targets edges p.rows.now.versions.now p.marks.now)
           ≡ store_ops.write (index_by entry p) s (ids (cands w (at.plans + 2 * b) (e - b)))
-      written entry = (f.row.does p.kept.space.dim p.kept.space.vectors.now p.marks.now).does (index_by entry p) refl h
+      written entry = (f.row.does p.kept.now.space.dim p.kept.now.space.vectors.now p.marks.now).does (index_by entry p) refl h
 
-      pub unnamed_together : Together (arrays p.kept.space.dim p.rows.now.degree p.kept.space.vectors.now targets edges p.rows.now.versions.now p.marks.now)
+      pub unnamed_together : Together (arrays p.kept.now.space.dim p.rows.now.degree p.kept.now.space.vectors.now targets edges p.rows.now.versions.now p.marks.now)
       unnamed_together = together_as (long_written (held p) s _ p.together (written 0)) p.together
 
       pub unnamed_written : {z : ℕ} → z ≡ s → n ≤ get_or w (marks_at + z) 0 → (entry : ℕ)
-          → (index_of p.alpha entry (arrays p.kept.space.dim p.rows.now.degree p.kept.space.vectors.now targets edges p.rows.now.versions.now p.marks.now)
+          → (index_of p.alpha entry (arrays p.kept.now.space.dim p.rows.now.degree p.kept.now.space.vectors.now targets edges p.rows.now.versions.now p.marks.now)
           ≡ own_row w n (cands w (at.plans + 2 * b) (e - b)) (index_by entry p) s)
           × Below at.chosen w w'
       unfolding own_row

@@ -7,7 +7,6 @@ use lib.ListN.{length}
 use lib.Ieee.{Float}
 use Rattle.slots.specs.Store.{Arrays, Shaped, arrays, write_vector, write_neighbors, filled, store_ops}
 use Rattle.slots.specs.Inner.Writing.{Filled}
-use Rattle.slots.proofs.Slices.{same_none}
 use Rattle.slots.proofs.Changes.{shaped_marked, shaped_vector}
 use Rattle.slots.proofs.Written.{shaped_written}
 use Rattle.slots.proofs.Done.{filled_arrays}
@@ -15,8 +14,6 @@ use Rattle.slots.proofs.Writes.{Whole, store_writes}
 use Rattle.row.specs.Row.{Together, index_of}
 use Rattle.row.proofs.Kept.{together_kept, together_shaped}
 use Rattle.insertion.specs.declared.inserter.Inserter.{Inserter}
-use Rattle.row.specs.Lent.{SamePruner}
-use Rattle.row.specs.declared.pruner.Pruner.{Pruner}
 use Rattle.insertion.specs.Inner.Inserting.{SameInserter}
 use Rattle.insertion.specs.Inner.Writing.{Below}
 
@@ -89,10 +86,6 @@ inserter_then f g =
 -- as many marks
 pub inserter_marks : {i i' : Inserter} → SameInserter i i' → length i'.graph.now.marks.now ≡ length i.graph.now.marks.now
 inserter_marks {i} {i'} f = sym i'.together.rows.versions_long ∙ rw f.slices.versions i.together.rows.versions_long
-
--- ---- a pruner
-pub pruner_none : (p : Pruner 0) → SamePruner p p
-pruner_none p = record { slices = same_none p.rows.now; rows = refl; alpha = refl; marks = refl; space = refl }
 
 pub below_none : (e : ℕ) (w : List ℕ) → Below e w w
 below_none e w = record { size = refl; same = λ j l. refl }

@@ -23,9 +23,9 @@ use Rattle.insertion.specs.Inner.Chains.{head, at_slot, incoming_at, Takeable, T
 use Rattle.insertion.specs.Inner.Targets.{renewed_at, Renewable}
 use Rattle.row.specs.Lent.{SamePruner}
 use Rattle.row.specs.declared.pruner.Pruner.{Pruner}
-use Rattle.row.proofs.Kept.{pruner_then}
+use Rattle.row.proofs.Kept.{pruner_none, pruner_then}
 use Rattle.insertion.specs.Inner.Writing.{index_by, Written, Below}
-use Rattle.insertion.proofs.Same.{together_as, long_written, pruner_none, below_none, below_then}
+use Rattle.insertion.proofs.Same.{together_as, long_written, below_none, below_then}
 use Rattle.insertion.proofs.Chaining.{Agrees, incoming_agree, chain_agree}
 
 -- ---- what comes in

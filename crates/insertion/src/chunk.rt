@@ -32,9 +32,10 @@ fn write_beside<'a>(
     requires outgoing_rows { OutgoingRows rows.old.degree (length marks.now) plans.now.slots.now scratch.old plans.now.at plans.now.n × Renewable rows.old.degree (length marks.now) scratch.old plans.now.at plans.now.n }
     ensures { RowsWritten how (rows_mut_of space.entry.dim space.entry.vectors.now rows.old marks.now) plans.now.slots.now scratch.old plans.now.at plans.now.n (rows_mut_of space.entry.dim space.entry.vectors.now rows.new marks.now) × SameSlices rows.old rows.new }
 {
+    let mut kept = Kept::new(space);
     let mut pruner = Pruner {
         alpha: how.alpha,
-        kept: Kept::new(space),
+        kept: &mut kept,
         rows,
         marks,
     };

@@ -11,7 +11,7 @@ use slots::scratch::MARKS;
 
 // Writes the slots of the plans' candidates from `b` up to `e` as the row of slot `s`, unless one of all candidates names it.
 fn write_unnamed(
-    pruner: &mut Pruner<'_, '_, '_, '_, 0>,
+    pruner: &mut Pruner<'_, '_, '_, '_, '_, 0>,
     plans: &Plans<'_>,
     s: u32,
     b: usize,
@@ -29,7 +29,7 @@ fn write_unnamed(
 
 // Writes the rows of those slots of a chunk that no plan names.
 pub fn write_outgoing(
-    pruner: &mut Pruner<'_, '_, '_, '_, 0>,
+    pruner: &mut Pruner<'_, '_, '_, '_, '_, 0>,
     plans: &Plans<'_>,
     scratch: &mut [u32],
 )

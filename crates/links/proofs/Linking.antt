@@ -22,7 +22,7 @@ use Rattle.prune.specs.Prune.{prune}
 use Rattle.row.specs.Row.{Together, index_of, LiveScored, WrotePruned}
 use Rattle.row.specs.Lent.{held}
 use Rattle.row.specs.declared.pruner.Pruner.{Pruner}
-use Rattle.row.proofs.Kept.{together_shaped, pruner_then}
+use Rattle.row.proofs.Kept.{together_shaped, pruner_none, pruner_then}
 use Rattle.repair.specs.Repair.{Link, insert_and_prune}
 use Rattle.repair.proofs.Sources.{both_ways}
 use Rattle.std.proofs.lemmas.List.{take_more}
@@ -141,7 +141,7 @@ pub made_none : {table : ℕ} (l : Pruner table) (w : List ℕ) (at : ℕ) (word
 made_none l w at words =
     record {
       applied = applied_none l.alpha (held l) w at (words l.rows.now.degree);
-      same = record { slices = record { degree = refl; targets = refl; edges = refl; versions = refl }; rows = refl; alpha = refl; marks = refl; space = refl };
+      same = pruner_none l;
     }
 
 module _ {table : ℕ} {l l₁ : Pruner table} {ls : List Link} {w w₁ : List ℕ} {at : ℕ} {words : ℕ → ℕ} (f : Made l ls w at words l₁ w₁) where

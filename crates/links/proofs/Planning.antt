@@ -271,7 +271,7 @@ pub made_area : {table : ℕ} {l l₁ : Pruner table} {ls : List Link} {w w₁ :
 made_area f g = record { inside = rw f.same.slices.degree (omega (arith, g.inside, f.applied.size)); below = rw f.same.slices.degree g.below }
 
 module _ {table : ℕ} {l l₁ : Pruner table} {w w₁ : List ℕ} (repair_degree entry : ℕ) {stats plans count base j : ℕ}
-    (f : Made l (plans_at (between l.kept.space.dim l.kept.space.vectors.now) repair_degree entry w stats plans j) w base plan_words l₁ w₁) (b : Plans l.marks.now w stats plans count base) (h : j < count) where
+    (f : Made l (plans_at (between l.kept.now.space.dim l.kept.now.space.vectors.now) repair_degree entry w stats plans j) w base plan_words l₁ w₁) (b : Plans l.marks.now w stats plans count base) (h : j < count) where
   number : count_at w₁ stats j ≡ count_at w stats j
   number = f.applied.same (stats + 4 * j + 2) (λ (u : base ≤ stats + 4 * j + 2). absurd (omega (arith, b.counted)))
 
@@ -290,11 +290,11 @@ module _ {table : ℕ} {l l₁ : Pruner table} {w w₁ : List ℕ} (repair_degre
   plans_next = (record { few = few; live = rw (f.same.marks, given) (b.each j h).live; once = rw given (b.each j h).once }, below)
 
   pub plans_more : {l₂ : Pruner table} {w₂ : List ℕ}
-      → Made l₁ (repair_links (between l₁.kept.space.dim l₁.kept.space.vectors.now) repair_degree entry (ids (cands w₁ (plans + 640 * j) (count_at w₁ stats j)))) w₁ base plan_words l₂ w₂
-      → Made l (plans_at (between l.kept.space.dim l.kept.space.vectors.now) repair_degree entry w stats plans (j + 1)) w base plan_words l₂ w₂
+      → Made l₁ (repair_links (between l₁.kept.now.space.dim l₁.kept.now.space.vectors.now) repair_degree entry (ids (cands w₁ (plans + 640 * j) (count_at w₁ stats j)))) w₁ base plan_words l₂ w₂
+      → Made l (plans_at (between l.kept.now.space.dim l.kept.now.space.vectors.now) repair_degree entry w stats plans (j + 1)) w base plan_words l₂ w₂
   plans_more g =
-      let d = between l.kept.space.dim l.kept.space.vectors.now in
-      let s : repair_links (between l₁.kept.space.dim l₁.kept.space.vectors.now) repair_degree entry (ids (cands w₁ (plans + 640 * j) (count_at w₁ stats j))) ≡ plan_at d repair_degree entry w stats plans j =
+      let d = between l.kept.now.space.dim l.kept.now.space.vectors.now in
+      let s : repair_links (between l₁.kept.now.space.dim l₁.kept.now.space.vectors.now) repair_degree entry (ids (cands w₁ (plans + 640 * j) (count_at w₁ stats j))) ≡ plan_at d repair_degree entry w stats plans j =
       rw (f.same.space, given) in
       let k : plans_at d repair_degree entry w stats plans (j + 1) ≡ plans_at d repair_degree entry w stats plans j ++ plan_at d repair_degree entry w stats plans j =
       ap (concat_map (plan_at d repair_degree entry w stats plans)) (rw (add-one j) (sym (rw (zero-add j) at (range_snoc 0 j)))) ∙ concat_snoc (plan_at d repair_degree entry w stats plans) (range 0 j) j in

@@ -23,7 +23,7 @@ fn add_target(space: &Space<'_>, s: u32, t: u32, scratch: &mut [u32], at: usize,
 
 // Applies a link: the stored row of `source` takes `target`, where it has it not, and is pruned. `InsertAndPrune` in the Rust.
 pub fn apply_link(
-    pruner: &mut Pruner<'_, '_, '_, '_, KEPT>,
+    pruner: &mut Pruner<'_, '_, '_, '_, '_, KEPT>,
     source: u32,
     target: u32,
     scratch: &mut [u32],

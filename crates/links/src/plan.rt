@@ -42,7 +42,7 @@ pub fn attempted(repair_degree: usize, n: usize) -> usize
 
 // Applies the links of the plan of the `n` candidates at `at`. `repair_kr_mst_operations` in the Rust, which only lists them.
 fn apply_plan(
-    pruner: &mut Pruner<'_, '_, '_, '_, KEPT>,
+    pruner: &mut Pruner<'_, '_, '_, '_, '_, KEPT>,
     table: Table,
     pairs: &mut [Pair],
     scratch: &mut [u32],
@@ -50,7 +50,7 @@ fn apply_plan(
     n: usize,
 )
     requires { (table.entry < length pruner.old.marks.now) × Plan pruner.old.marks.now scratch.old at n × (at + 2 * n ≤ table.base) × Area pruner.old.rows.now.degree scratch.old table.base × (table.degree ≤ 16) × (length pairs.old ≡ 5120) }
-    ensures { Made pruner.old (repair_links (between pruner.old.kept.space.dim pruner.old.kept.space.vectors.now) table.degree table.entry (ids (cands scratch.old at n))) scratch.old table.base plan_words pruner.new scratch.new }
+    ensures { Made pruner.old (repair_links (between pruner.old.kept.now.space.dim pruner.old.kept.now.space.vectors.now) table.degree table.entry (ids (cands scratch.old at n))) scratch.old table.base plan_words pruner.new scratch.new }
 {
     if n == 0 {
         return;
@@ -75,9 +75,9 @@ fn apply_plan(
 }
 
 // Applies the links of the plans of a table in order, each with its candidates in 640 words and their number in the third of its four counts.
-pub fn apply_plans(pruner: &mut Pruner<'_, '_, '_, '_, KEPT>, table: Table, scratch: &mut [u32])
+pub fn apply_plans(pruner: &mut Pruner<'_, '_, '_, '_, '_, KEPT>, table: Table, scratch: &mut [u32])
     requires { (table.entry < length pruner.old.marks.now) × Plans pruner.old.marks.now scratch.old table.stats table.plans table.count table.base × Area pruner.old.rows.now.degree scratch.old table.base × (table.degree ≤ 16) }
-    ensures { Made pruner.old (plans_at (between pruner.old.kept.space.dim pruner.old.kept.space.vectors.now) table.degree table.entry scratch.old table.stats table.plans table.count) scratch.old table.base plan_words pruner.new scratch.new }
+    ensures { Made pruner.old (plans_at (between pruner.old.kept.now.space.dim pruner.old.kept.now.space.vectors.now) table.degree table.entry scratch.old table.stats table.plans table.count) scratch.old table.base plan_words pruner.new scratch.new }
 {
     let mut pairs = [Pair { slot: 0, parent: 0 }; PAIRS];
     for j in 0..table.count {

@@ -14,7 +14,7 @@ use row::Pruner;
 
 // Applies the link from `x` to `p` where `x` is the source `s`.
 fn apply_from(
-    pruner: &mut Pruner<'_, '_, '_, '_, KEPT>,
+    pruner: &mut Pruner<'_, '_, '_, '_, '_, KEPT>,
     s: u32,
     x: u32,
     p: u32,
@@ -32,7 +32,7 @@ fn apply_from(
 
 // Applies those links of a pair whose source is `s`.
 fn apply_pair(
-    pruner: &mut Pruner<'_, '_, '_, '_, KEPT>,
+    pruner: &mut Pruner<'_, '_, '_, '_, '_, KEPT>,
     s: u32,
     pair: Pair,
     scratch: &mut [u32],
@@ -47,7 +47,7 @@ fn apply_pair(
 
 // Applies those links of the pairs whose source is `s`, in their order.
 fn apply_source(
-    pruner: &mut Pruner<'_, '_, '_, '_, KEPT>,
+    pruner: &mut Pruner<'_, '_, '_, '_, '_, KEPT>,
     s: u32,
     pairs: &[Pair],
     scratch: &mut [u32],
@@ -64,7 +64,7 @@ fn apply_source(
 // Applies the links of pairs, source by source; the sources are the slots of the `m` candidates at `from`. A source's links prune nearly the same row,
 // so that most distances are kept.
 pub fn apply_sources(
-    pruner: &mut Pruner<'_, '_, '_, '_, KEPT>,
+    pruner: &mut Pruner<'_, '_, '_, '_, '_, KEPT>,
     pairs: &[Pair],
     scratch: &mut [u32],
     from: usize,

@@ -62,8 +62,7 @@ struct Output {
     to: usize,
 }
 
-// What the passes of a selection go over: candidates at `a` of the words, a factor each, and the distances that are kept meanwhile. That a table of `N` distances
-// has a size at all (`sized`) is a field, since a reference to one does not say so.
+// What the passes of a selection go over: candidates at `a` of the words, a factor each, and the distances that are kept meanwhile.
 #[derive(Drop)]
 struct Selector<'k, 's, 'f, 'w, const N: usize> {
     alpha: f32,
@@ -71,7 +70,6 @@ struct Selector<'k, 's, 'f, 'w, const N: usize> {
     factors: &'f mut [f32],
     words: &'w mut [u32],
     a: usize,
-    ghost sized: { 24 + N * 8 < 9223372036854775808 },
     ghost given: { Given kept.now.space words.now a (length factors.now) },
 }
 

@@ -10,7 +10,7 @@ use Rattle.slots.specs.View.{live_neighbors}
 use Rattle.slots.specs.Store.{Arrays, Shaped, Store, vector_of, store_view, store_ops, with_arrays, write_neighbors, arrays}
 use Rattle.slots.proofs.Writes.{Whole, after_write, neighbors_kept, store_writes}
 use Rattle.prune.specs.Prune.{prune}
-use Rattle.slots.proofs.Slices.{same_then}
+use Rattle.slots.proofs.Slices.{same_none, same_then}
 use Rattle.row.specs.Lent.{SamePruner}
 use Rattle.row.specs.declared.pruner.Pruner.{Pruner}
 use Rattle.row.specs.Row.{Together, index_of, live_scored}
@@ -72,9 +72,12 @@ pub index_with : (alpha : Float) (entry : ℕ) (a a' : Arrays) → length a'.mar
 index_with alpha entry a a' e = ap (λ (n : ℕ). record { arrays = a'; capacity = n; alpha = alpha; entry = entry }) e
 
 -- a pruner stays, call after call
+pub pruner_none : {n : ℕ} (p : Pruner n) → SamePruner p p
+pruner_none p = record { slices = same_none p.rows.now; rows = refl; alpha = refl; marks = refl; kept = refl; space = refl }
+
 pub pruner_then : {n : ℕ} {p p₁ p₂ : Pruner n} → SamePruner p p₁ → SamePruner p₁ p₂ → SamePruner p p₂
 pruner_then f g =
-    record { slices = same_then f.slices g.slices; rows = g.rows ∙ f.rows; alpha = g.alpha ∙ f.alpha; marks = g.marks ∙ f.marks; space = g.space ∙ f.space }
+    record { slices = same_then f.slices g.slices; rows = g.rows ∙ f.rows; alpha = g.alpha ∙ f.alpha; marks = g.marks ∙ f.marks; kept = g.kept ∙ f.kept; space = g.space ∙ f.space }
 
 -- ---- a row is written: what is read of another slot stays, and so does every selection
 distances_kept : (b : Store) (s t : ℕ) (x row : List ℕ)

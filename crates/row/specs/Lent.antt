@@ -6,7 +6,7 @@ use Rattle.row.specs.declared.pruner.Pruner.{Pruner}
 
 -- the rows beside vectors and marks, as lists
 abbrev pub held : {n : ℕ} → Pruner n → Arrays
-held p = rows_mut_of p.kept.space.dim p.kept.space.vectors.now p.rows.now p.marks.now
+held p = rows_mut_of p.kept.now.space.dim p.kept.now.space.vectors.now p.rows.now p.marks.now
 
 -- what a function leaves of it: all but the contents of the rows and the kept distances
 pub record SamePruner {n : ℕ} (p p' : Pruner n) : Type 0 where
@@ -14,4 +14,5 @@ pub record SamePruner {n : ℕ} (p p' : Pruner n) : Type 0 where
   pub rows : p'.rows.ghost_name ≡ p.rows.ghost_name
   pub alpha : p'.alpha ≡ p.alpha
   pub marks : p'.marks ≡ p.marks
-  pub space : p'.kept.space ≡ p.kept.space
+  pub kept : p'.kept.ghost_name ≡ p.kept.ghost_name
+  pub space : p'.kept.now.space ≡ p.kept.now.space

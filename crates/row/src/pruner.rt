@@ -9,15 +9,15 @@ use slots::{Graph, RowsMut};
 // What rows are selected with: rows beside vectors and marks, and distances that are kept meanwhile. A lifetime each: with one for all, whoever makes it would ask
 // its callers for that one.
 #[derive(Drop)]
-pub struct Pruner<'s, 'r, 'a, 'm, const N: usize> {
+pub struct Pruner<'k, 's, 'r, 'a, 'm, const N: usize> {
     pub alpha: f32,
-    pub kept: Kept<'s, N>,
+    pub kept: &'k mut Kept<'s, N>,
     pub rows: &'a mut RowsMut<'r>,
     pub marks: &'m [u8],
-    pub ghost together: { Together (rows_mut_of kept.space.dim kept.space.vectors.now rows.now marks.now) },
+    pub ghost together: { Together (rows_mut_of kept.now.space.dim kept.now.space.vectors.now rows.now marks.now) },
 }
 
-impl<const N: usize> Pruner<'_, '_, '_, '_, N> {
+impl<const N: usize> Pruner<'_, '_, '_, '_, '_, N> {
     ghost use Rattle.std.specs.Prelude.{◌≡◌, ◌<◌, length};
     ghost use Rattle.slots.specs.Lent.{graph_of};
     ghost use Rattle.row.specs.Row.{Prunable, WrotePruned};
@@ -42,7 +42,7 @@ impl<const N: usize> Pruner<'_, '_, '_, '_, N> {
         let alpha = self.alpha;
         let marks = self.marks;
         let rows = &mut *self.rows;
-        let kept = &mut self.kept;
+        let kept = &mut *self.kept;
         let r = prune::prune_scored(rows.degree, alpha, kept, marks, s, scratch, at, n, to);
         write_ids(rows, s, scratch, to, r, to);
     }

@@ -1,4 +1,5 @@
-use Rattle.insertion.proofs.Same.{pruner_none, below_none}
+use Rattle.row.proofs.Kept.{pruner_none}
+use Rattle.insertion.proofs.Same.{below_none}
 use Rattle.insertion.proofs.Targeting.{renewed_not, row_takes, row_prunable, renewed_new}
 use mathlib.Core.Path.{refl}
 use native.Mathlib.Omega.{arith}

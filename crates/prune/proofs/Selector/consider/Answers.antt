@@ -12,7 +12,7 @@ invariant_of-self g c =
     let before = c.settle.new.self in
     let same = c.settle.ensures.2 in
     let room : Room (c.args.m + 1) before.words.now before.a (length before.factors.now) c.args.to = rw (c.settle.ensures.1, same.a, same.count) c.requires.1 in
-    record { sized = before.sized; given = considered_given _ _ _ room c.put.ensures before.given }
+    record { given = considered_given _ _ _ room c.put.ensures before.given }
 
 pub returns : goal.returns
 returns g c =

@@ -5,7 +5,7 @@ use Rattle.prune.proofs.Selector.settle.Goals as goal
 
 pub raised-requires : goal.raised-requires
 raised-requires g c =
-    let sized = c.args.self.now.sized in
+    let sized = c.args.self.now.kept.now.sized in
     let given = c.args.self.now.given in (
       search rules,
       rw c.loop-j.invariant.1 (

@@ -8,4 +8,4 @@ returns-then-entry-pair g c = let h : (c.args.x * 31 + c.args.y) % g.row.N < len
 
 pub invariant_of-self : goal.invariant_of-self
 invariant_of-self g c = let h : (c.args.x * 31 + c.args.y) % g.row.N < length c.args.self.now.entries = search rules in
-    record { keeps = keeps_written c.args.self.now.keeps _ h c.requires.3 c.requires.4 c.slot_distance-dist.ensures }
+    record { sized = c.args.self.now.sized; keeps = keeps_written c.args.self.now.keeps _ h c.requires.3 c.requires.4 c.slot_distance-dist.ensures }

@@ -13,5 +13,5 @@ returns g c =
     let same = c.write_ids.ensures.1 in
     let p = c.prune_scored-r.ensures in (
       rw (p.1, same.degree, same.versions) (wrote_pruned c.requires.0 p.0 c.write_ids.ensures.0),
-      record { slices = same; rows = refl; alpha = refl; marks = refl; space = p.1 },
+      record { slices = same; rows = refl; alpha = refl; marks = refl; kept = refl; space = p.1 },
     )
