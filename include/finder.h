@@ -27,9 +27,9 @@
  * - A call that is refused writes nothing. The refusals that apply are tested in the order of their numbers, and the first that holds is returned.
  * - What a function writes must not overlap anything else that it is lent; what it only reads may overlap. Outputs, scratch and the memory of a new index may
  *   hold anything before.
- * - No function allocates, and none of the archive keeps a pointer or calls anything but memset and memcpy. Several threads may read one index at a time while
- *   none changes it; each has its own scratch and its own outputs.
- * - The deletes take less than 118 KiB of stack, making and insert less than 24, the other functions less than 8.
+ * - No function allocates, and none of the archive keeps a pointer or calls anything but memset. Several threads may read one index at a time while none changes
+ *   it; each has its own scratch and its own outputs.
+ * - The deletes take less than 114 KiB of stack, making and insert less than 24, the other functions less than 8.
  * - Floats are rounded to nearest, as they are in a program that does not change it.
  * - Each call tests anew what the refusals name, whoever wrote the words and the slices. The words of one index with the slices of another of the same sizes
  *   and live count are not told apart.

@@ -47,7 +47,7 @@ impl fmt::Debug for SlicesMut<'_> {
 
 /// An index in memory that is borrowed, to be changed; [`ViewMut::as_view`] reads it.
 ///
-/// The memory may hold anything: each call tests it, and refuses what is no index. The deletes take up to 118 KiB of stack, making and insert up to 24.
+/// The memory may hold anything: each call tests it, and refuses what is no index. The deletes take up to 114 KiB of stack, making and insert up to 24.
 ///
 /// ```
 /// use finder::{Error, Making, Scratch, SlicesMut, ViewMut, BLANK, INDEX_WORDS, POOL};

@@ -229,12 +229,11 @@ module _ {live : ℕ → Bool} {n : ℕ} {old summary slots ns : List ℕ} (f : 
       omega (arith, a, b, length-append (take count summary) slots, live_few after n)
 
 -- what `enter` asks for, once the numbers are written
-pub inserting_entering : {live : ℕ → Bool} {cap : ℕ} {old summary slots ns numbers : List ℕ} {n count : ℕ} → Inserting live cap old summary (take n slots) ns → numbers ≡ write_numbers (take n slots) ns old
-    → count ≡ length (filter live (range 0 cap)) → n ≤ length slots → Entering numbers summary count slots n
-inserting_entering {live} {cap} {old} {summary} {slots} {ns} {numbers} {n} {count} f e many h =
-    let l : length numbers ≡ cap = ap length e ∙ write_numbers_long (take n slots) ns old ∙ f.long in
+pub inserting_entering : {live : ℕ → Bool} {cap : ℕ} {old summary slots ns numbers : List ℕ} {count : ℕ} → Inserting live cap old summary slots ns → numbers ≡ write_numbers slots ns old
+    → count ≡ length (filter live (range 0 cap)) → Entering numbers summary count slots
+inserting_entering {live} {cap} {old} {summary} {slots} {ns} {numbers} {count} f e many =
+    let l : length numbers ≡ cap = ap length e ∙ write_numbers_long slots ns old ∙ f.long in
     let s : length summary ≡ cap = listed_long f.labelled many in
-    let w : length (take n slots) ≡ n = length-take-le n slots h in
     record {
       placed = record { long = omega (arith, count_few f.labelled many); inside = λ i k. omega (arith, (front_live f.labelled many i k).0) };
       risen = record {
@@ -242,30 +241,32 @@ inserting_entering {live} {cap} {old} {summary} {slots} {ns} {numbers} {n} {coun
             let b : key_at numbers summary (suc i) ≡ key_at old summary (suc i) = rw e (old_number f many (suc i) k) in
             omega (arith, a, b, front_up f.labelled many i k);
       };
-      inside = all_map (λ s. s < cap) (λ s. s < length numbers) (λ s k. omega arith) (take n slots) f.inside;
-      given = h;
+      inside = all_map (λ s. s < cap) (λ s. s < length numbers) (λ s k. omega arith) slots f.inside;
       room = omega (arith, joined_few f many);
       few = omega (arith, f.few);
     }
 
 -- the order that is sorted: the summary with the new slots behind its front
-module _ {numbers summary : List ℕ} {live : ℕ} {slots : List ℕ} {n : ℕ} (f : Entering numbers summary live slots n) where
-  pasted_front : take (live + n) (paste summary live slots n) ≡ take live summary ++ take n slots
-  pasted_front = take-paste summary live slots n (omega (arith, f.room)) f.given
+module _ {numbers summary : List ℕ} {live : ℕ} {slots : List ℕ} (f : Entering numbers summary live slots) where
+  abbrev n : ℕ
+  n = length slots
+
+  pasted_front : take (live + n) (paste summary live slots n) ≡ take live summary ++ slots
+  pasted_front = take-paste summary live slots n (omega (arith, f.room)) (omega arith) ∙ rw (take_all n slots (omega arith))
 
   front_size : length (take live summary) ≡ live
   front_size = length-take-le live summary (omega (arith, f.room))
 
   pasted_old : (i : ℕ) → i < live → get_or (paste summary live slots n) i 0 ≡ get_or summary i 0
   pasted_old i h =
-      sym (get_or-take (live + n) (paste summary live slots n) i 0 (omega arith)) ∙ rw pasted_front (get_or-append (take live summary) (take n slots) 0 i (omega (arith, front_size)))
+      sym (get_or-take (live + n) (paste summary live slots n) i 0 (omega arith)) ∙ rw pasted_front (get_or-append (take live summary) slots 0 i (omega (arith, front_size)))
       ∙ get_or-take live summary i 0 h
 
   entering_placed : Placed numbers (paste summary live slots n) (live + n)
   entering_placed = record {
-    long = omega (arith, f.room, length-paste summary live slots n f.room f.given);
-    inside = λ i h. taken_at (λ s. s < length numbers) (paste summary live slots n) (live + n) i (omega (arith, f.room, length-paste summary live slots n f.room f.given))
-        (rw pasted_front (all_append (λ s. s < length numbers) (take live summary) (take n slots)
+    long = omega (arith, f.room, length-paste summary live slots n f.room (omega arith));
+    inside = λ i h. taken_at (λ s. s < length numbers) (paste summary live slots n) (live + n) i (omega (arith, f.room, length-paste summary live slots n f.room (omega arith)))
+        (rw pasted_front (all_append (λ s. s < length numbers) (take live summary) slots
         (at_front (λ s. s < length numbers) f.placed.inside) f.inside)) h;
   }
     where
@@ -276,34 +277,32 @@ module _ {numbers summary : List ℕ} {live : ℕ} {slots : List ℕ} {n : ℕ} 
   entering_risen = record { up = λ i h. let h' : i < live = omega arith in rw (pasted_old i h', pasted_old (suc i) h) (f.risen.up i h) }
 
   -- what sorting it leaves
-  entered : {summary' : List ℕ} → Sorted numbers (paste summary live slots n) (live + n) summary' → Entered numbers summary live slots n summary'
+  entered : {summary' : List ℕ} → Sorted numbers (paste summary live slots n) (live + n) summary' → Entered numbers summary live slots summary'
   entered {summary'} s = record {
     listed = λ before after old ns g e many w. sorted_summary s after (length numbers)
         (λ a b h k p q z. inserted_distinct g after w a b h k p q (rw (← e) z))
         (rw pasted_front (joined_once g many)) (λ t. ap (elem t) pasted_front ∙ joined_members g many after w t) (rest before old ns g many);
   }
     where
-      rest : (before : ℕ → Bool) (old ns : List ℕ) → Inserting before (length numbers) old summary (take n slots) ns → live ≡ length (filter before (range 0 (length numbers)))
+      rest : (before : ℕ → Bool) (old ns : List ℕ) → Inserting before (length numbers) old summary slots ns → live ≡ length (filter before (range 0 (length numbers)))
           → drop (live + n) (paste summary live slots n) ≡ replicate (length numbers - (live + n)) blank
       rest before old ns g many =
           let e : (length numbers - live) - n ≡ length numbers - (live + n) = omega arith in
-          drop-paste summary live slots n (omega (arith, f.room)) f.given ∙ sym (drop-drop n live summary)
+          drop-paste summary live slots n (omega (arith, f.room)) (omega arith) ∙ sym (drop-drop n live summary)
           ∙ ap (drop n) (back_is g.labelled many) ∙ drop_replicate n (length numbers - live) blank ∙ ap (λ j. replicate j blank) e
 
   -- the same of an order that equals it
   -- the new slots are pasted behind the live ones
-  pub entering_pasted : {part : List ℕ} → part ≡ put_front (take n slots) (take (live + n - live) (drop live summary)) → put_mid live (live + n - live) summary part ≡ paste summary live slots n
+  pub entering_pasted : {part : List ℕ} → part ≡ put_front slots (take (live + n - live) (drop live summary)) → put_mid live (live + n - live) summary part ≡ paste summary live slots n
   entering_pasted {part} e =
-      let a : length (take n slots) ≡ n = length-take-le n slots f.given in
-      let b : take n (take n slots) ≡ take n slots = take_all n (take n slots) (omega arith) in
-      let k : length (take (live + n - live) (drop live summary)) ≤ length (take n slots) = simp length-take (omega (arith, a)) in
-      let w : part ≡ take n slots = rw (drop_of_length-le (take (live + n - live) (drop live summary)) k, append-nil) at e in
-      put_mid-paste live (live + n - live) summary part (take n slots) n w (omega arith) (sym a) ∙ rw b
+      let k : length (take (live + n - live) (drop live summary)) ≤ length slots = simp length-take (omega arith) in
+      let w : part ≡ slots = rw (drop_of_length-le (take (live + n - live) (drop live summary)) k, append-nil) at e in
+      put_mid-paste live (live + n - live) summary part slots n w (omega arith) refl
 
   entering_ready : {order : List ℕ} → order ≡ paste summary live slots n → Placed numbers order (live + n) × Risen numbers order live × (live ≤ live + n)
   entering_ready e = (rw e entering_placed, rw e entering_risen, omega arith)
 
-  entered_from : {order summary' : List ℕ} → order ≡ paste summary live slots n → Sorted numbers order (live + n) summary' → Entered numbers summary live slots n summary'
+  entered_from : {order summary' : List ℕ} → order ≡ paste summary live slots n → Sorted numbers order (live + n) summary' → Entered numbers summary live slots summary'
   entered_from {order} {summary'} e s = entered (rw e at s)
 
   -- as it is given to sorting: its first words by themselves
@@ -315,7 +314,7 @@ module _ {numbers summary : List ℕ} {live : ℕ} {slots : List ℕ} {n : ℕ} 
       (placed_front r.0, risen_within (omega arith) r.1, omega arith)
 
   pub entered_front : {order part : List ℕ} → order ≡ paste summary live slots n → Sorted numbers (take (live + n) order) (length (take (live + n) order)) part
-      → Entered numbers summary live slots n (part ++ drop (live + n) order)
+      → Entered numbers summary live slots (part ++ drop (live + n) order)
   entered_front e s = entered_from e (sorted_front (entering_ready e).0.long s)
 
 -- ---- looking up

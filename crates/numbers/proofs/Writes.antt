@@ -2,12 +2,12 @@
 use Prim.Native.Nat.{ℕ, zero, suc, ◌+◌, ◌≤◌, ◌<◌}
 use mathlib.Core.Bool.{Bool, not, cond}
 use mathlib.Core.Path.{◌≡◌, ap, sym, ◌∙◌}
-use mathlib.Core.List.{List, map}
+use mathlib.Core.List.{List, map, append-nil}
 use native.Mathlib.Decide.{dec_lt}
 use native.Mathlib.Numerals.{add-one}
 use native.Mathlib.Omega.{arith}
 use lib.Dec.{eqb}
-use lib.ListN.{length, take, drop, get_or, set, length-set, length-map}
+use lib.ListN.{length, take, drop, get_or, set, length-set, length-map, drop_of_length-le}
 use lib.Seq.{take-suc, length-take-le, get_or-set_same, get_or-set_other, ext_get_or}
 use Rattle.lists.specs.Lists.{range, put_front}
 use Rattle.lists.proofs.Front.{front_map}
@@ -33,6 +33,12 @@ mapped_more f {xs} {n} {l} {i} {l'} {v} h k j m e =
       list = rw (m.list, e, add-one i, take-suc xs i 0 (omega arith)) (rw b at (front_map f (take i xs) (get_or xs i 0) l d));
       size = length-set l' i v ∙ m.size;
     }
+
+pub mapped_all : (f : ℕ → ℕ) {xs l : List ℕ} {i : ℕ} {l' : List ℕ} → length l ≤ length xs → length l ≤ i → Mapped f xs (length l) l i l' → l' ≡ map f (take (length l) xs)
+mapped_all f {xs} {l} {i} {l'} h k m =
+    let e : i ≡ length l = omega (arith, m.below) in
+    let d : length l ≤ length (map f (take (length l) xs)) = omega (arith, length-map (take (length l) xs) f, length-take-le (length l) xs h) in
+    rw (drop_of_length-le l d, append-nil) at (rw e at m.list)
 
 -- ---- numbers written to slots
 

@@ -30,14 +30,14 @@ pub fn summarize(numbers: &[u32], summary: &mut [u32], count: usize)
     sort(numbers, &mut summary[..count]);
 }
 
-// Enters the first `n` of `slots`, which have their numbers, into the summary of `live` slots. `n` stands beside `slots`, as in `copy_numbers`: C lends the list,
-// and what callers know is of its first `n`.
-pub fn enter(numbers: &[u32], summary: &mut [u32], live: usize, slots: &[u32], n: usize)
-    requires { Entering numbers.now summary.old live slots.now n }
-    ensures { Entered numbers.now summary.old live slots.now n summary.new }
+// Enters slots, which have their numbers, into the summary of `live` others.
+pub fn enter(numbers: &[u32], summary: &mut [u32], live: usize, slots: &[u32])
+    requires { Entering numbers.now summary.old live slots.now }
+    ensures { Entered numbers.now summary.old live slots.now summary.new }
 {
+    let n = slots.len();
     let end = live + n;
-    copy(&mut summary[live..end], &slots[..n]);
+    copy(&mut summary[live..end], slots);
     if n <= 16 {
         settle(numbers, &mut summary[..end], live);
         return;

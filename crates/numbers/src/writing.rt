@@ -4,13 +4,13 @@ ghost use Rattle.lists.specs.Lists.{All, put_front};
 ghost use Rattle.slots.specs.Store.{is_valid};
 ghost use Rattle.numbers.specs.Numbers.{number_of, write_numbers, live_numbers};
 
-// Writes the numbers of the first `n` of `slots`, which C lends and may be longer, to the front of `out`.
-pub fn copy_numbers(numbers: &[u32], slots: &[u32], n: usize, out: &mut [u32])
-    requires { (n ≤ length slots.now) × (n ≤ length out.old) }
-    ensures { out.new ≡ put_front (map (number_of numbers.now) (take n slots.now)) out.old }
+// Fills `out` with the numbers of the first slots.
+pub fn copy_numbers(numbers: &[u32], slots: &[u32], out: &mut [u32])
+    requires { length out.old ≤ length slots.now }
+    ensures { out.new ≡ map (number_of numbers.now) (take (length out.old) slots.now) }
 {
-    for i in 0..n {
-        out[i] = numbers.get(slots[i] as usize).copied().unwrap_or(0);
+    for (i, number) in out.iter_mut().enumerate() {
+        *number = numbers.get(slots[i] as usize).copied().unwrap_or(0);
     }
 }
 

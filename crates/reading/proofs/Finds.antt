@@ -2,14 +2,14 @@
 use Prim.Native.Nat.{ℕ, ◌+◌, ◌*◌, min, ◌≤◌, ◌<◌}
 use mathlib.Core.Bool.{Bool, true, false, not, ◌||◌}
 use mathlib.Core.Path.{◌≡◌, refl, sym, ap, ◌∙◌, subst}
-use mathlib.Core.List.{List, [], ◌∷◌, map}
+use mathlib.Core.List.{List, [], ◌∷◌, map, ◌++◌}
 use mathlib.Core.Option.{some}
 use native.Mathlib.Omega.{arith}
 use borrow.Author.Tests.{ltb-true, ltb-false, eqb-true, not-false}
 use lib.Dec.{eqb, ltb}
 use lib.Ieee.{Float}
 use lib.ListN.{length, take, drop, set, length-set, length-map}
-use lib.Seq.{take_all, take_at}
+use lib.Seq.{length-take-le, take_all, take_at}
 use Rattle.lists.specs.Lists.{put_front}
 use Rattle.lists.proofs.All.{all_take}
 use Rattle.lists.proofs.Front.{front_map}
@@ -179,8 +179,14 @@ module _ {index : Index} {s : Slices} (a : Searching) (f : Found) (scratch : Lis
             }
 
         -- room for their numbers, beside slots as many as before
-        pub search_copies : {m : ℕ} → m ≡ length f.slots.now → (n ≤ m) × (n ≤ length f.numbers.now)
-        search_copies l = (omega (arith, e, room), omega (arith, e, room))
+        pub search_named : n ≤ length f.numbers.now
+        search_named = omega (arith, e, room)
+
+        pub search_first : n ≡ length (take n f.numbers.now)
+        search_first = sym (length-take-le n f.numbers.now search_named)
+
+        pub search_copies : {m : ℕ} → m ≡ length f.slots.now → length (take n f.numbers.now) ≤ m
+        search_copies l = rw (← search_first) (omega (arith, e, room))
 
         nearest_found : cands scratch' 0 n ≡ take a.k (search_pool (store_view (state_of index s).graph) a.query.now a.beam)
         unfolding state_of
@@ -190,8 +196,8 @@ module _ {index : Index} {s : Slices} (a : Searching) (f : Found) (scratch : Lis
         unfolding refusal tests state_of stored store_ops store_view shown room_of
         not_refused m h = let g = sym (let_through index s d z) ∙ h in cc
 
-        module _ {slots' : List ℕ} {dists' : List Float} {numbers' : List ℕ} (h : Shown scratch' n f.slots.now f.dists.now slots' dists')
-            (copied : numbers' ≡ put_front (map (number_of s.numbers) (take n slots')) f.numbers.now) where
+        module _ {slots' : List ℕ} {dists' : List Float} {out : List ℕ} (h : Shown scratch' n f.slots.now f.dists.now slots' dists')
+            (copied : out ≡ map (number_of s.numbers) (take (length (take n f.numbers.now)) slots')) where
           -- the numbers found
           abbrev figures : List ℕ
           figures = map (number_of s.numbers) (ids (cands scratch' 0 n))
@@ -202,10 +208,12 @@ module _ {index : Index} {s : Slices} (a : Searching) (f : Found) (scratch : Lis
               let l = ids (cands scratch' 0 n) in
               ap (take n) h.slots_written ∙ take_at l (drop (length l) f.slots.now) n (length-map (cands scratch' 0 n) (λ c. c.id) ∙ cands_length scratch' 0 n)
 
-          figures_written : numbers' ≡ put_front figures f.numbers.now
-          figures_written = copied ∙ ap (λ l. put_front (map (number_of s.numbers) l) f.numbers.now) shown_first
+          figures_written : out ++ drop n f.numbers.now ≡ put_front figures f.numbers.now
+          figures_written =
+              let k : length figures ≡ n = length-map (ids (cands scratch' 0 n)) (number_of s.numbers) ∙ length-map (cands scratch' 0 n) (λ c. c.id) ∙ cands_length scratch' 0 n in
+              rw (copied, ← search_first, shown_first, k)
 
-          pub searches_on : Searches index s (searching_of a) (found_of f) scratch (search_outputs slots' dists' numbers') scratch' (Ok n)
+          pub searches_on : Searches index s (searching_of a) (found_of f) scratch (search_outputs slots' dists' (out ++ drop n f.numbers.now)) scratch' (Ok n)
           unfolding tests perform found_as written state_of stored store_ops store_view shown room_of call_of slices_of run_refusal
           searches_on =
               record {

@@ -98,6 +98,6 @@ pub fn search(
     let dists = &mut *found.dists;
     let numbers = &mut *found.numbers;
     show(scratch, n, slots, dists);
-    copy_numbers(slices.numbers, slots, n, numbers);
+    copy_numbers(slices.numbers, slots, &mut numbers[..n]);
     Ok(n as u32)
 }

@@ -127,8 +127,8 @@ module _ (index : Index) (s : Slices) (a : Insert) (slots scratch : ℕ) {n : �
 -- the slots filled can be entered
 module _ {numbers summary : List ℕ} {live : ℕ} {slots given : List ℕ} (k : Labelable numbers summary live slots given) {numbers' : List ℕ}
     (e : numbers' ≡ write_numbers (take (length given) slots) given numbers) where
-  pub label_entering : Entering numbers' summary live slots (length given)
-  label_entering = inserting_entering k.inserting e k.many k.long
+  pub label_entering : Entering numbers' summary live (take (length given) slots)
+  label_entering = inserting_entering k.inserting e k.many
 
 -- ---- an insert
 

@@ -139,7 +139,7 @@ fn label(numbers: &mut [u32], summary: &mut [u32], live: u32, slots: &[u32], giv
     ensures { Relabelled numbers.old summary.old live slots.now given.now numbers.new summary.new }
 {
     write_numbers(numbers, slots, given);
-    enter(numbers, summary, live as usize, slots, given.len());
+    enter(numbers, summary, live as usize, &slots[..given.len()]);
 }
 
 // Inserts vectors with their numbers into the lowest free slots, which go to the front of `slots`.

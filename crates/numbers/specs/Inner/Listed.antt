@@ -39,17 +39,16 @@ pub record Inserting (live : ℕ → Bool) (n : ℕ) (numbers summary slots ns :
   pub fresh : taken numbers ns ≡ false
 
 -- what `enter` is given: new slots, and numbers in which the summary still rises
-pub record Entering (numbers summary : List ℕ) (live : ℕ) (slots : List ℕ) (n : ℕ) : Type 0 where
+pub record Entering (numbers summary : List ℕ) (live : ℕ) (slots : List ℕ) : Type 0 where
   pub placed : Placed numbers summary live
   pub risen : Risen numbers summary live
-  pub inside : All (λ s. s < length numbers) (take n slots)
-  pub given : n ≤ length slots
-  pub room : live + n ≤ length summary
+  pub inside : All (λ s. s < length numbers) slots
+  pub room : live + length slots ≤ length summary
   pub few : length summary ≤ 65536
 
-pub record Entered (numbers summary : List ℕ) (live : ℕ) (slots : List ℕ) (n : ℕ) (summary' : List ℕ) : Type 0 where
-  pub listed : (before after : ℕ → Bool) (old ns : List ℕ) → Inserting before (length numbers) old summary (take n slots) ns → numbers ≡ write_numbers (take n slots) ns old
-      → live ≡ length (filter before (range 0 (length numbers))) → ((s : ℕ) → s < length numbers → after s ≡ (before s || elem s (take n slots)))
+pub record Entered (numbers summary : List ℕ) (live : ℕ) (slots summary' : List ℕ) : Type 0 where
+  pub listed : (before after : ℕ → Bool) (old ns : List ℕ) → Inserting before (length numbers) old summary slots ns → numbers ≡ write_numbers slots ns old
+      → live ≡ length (filter before (range 0 (length numbers))) → ((s : ℕ) → s < length numbers → after s ≡ (before s || elem s slots))
       → summary' ≡ summary_of after (length numbers) numbers
 
 -- ---- delete

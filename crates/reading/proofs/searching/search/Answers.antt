@@ -2,7 +2,7 @@ use Rattle.std.proofs.lemmas.Result.{err_from_is_err_and}
 use mathlib.Core.Path.{refl}
 use Rattle.index.specs.Lent.{slices_of}
 use Rattle.index.proofs.Decide.{passed, passed_bytes, passed_rows}
-use Rattle.reading.proofs.Finds.{searches_back, search_ready, search_fits, search_copies, searches_on}
+use Rattle.reading.proofs.Finds.{searches_back, search_ready, search_fits, search_named, search_first, search_copies, searches_on}
 use Rattle.reading.proofs.searching.search.Goals as goal
 
 pub returns-in_err-check_search : goal.returns-in_err-check_search
@@ -21,6 +21,12 @@ search_pool-pool-requires c = search_ready c.args.asked.now c.args.found.now c.a
 
 pub show-requires : goal.show-requires
 show-requires c = search_fits c.args.asked.now c.args.found.now c.args.scratch.now c.check_search.ensures c.in_ok-check_search.was c.graph-graph.ensures c.search_pool-pool.ensures c.min-n.ensures
+
+pub slice_bounds-copy_numbers-end : goal.slice_bounds-copy_numbers-end
+slice_bounds-copy_numbers-end c = search_named c.args.asked.now c.args.found.now c.args.scratch.now c.check_search.ensures c.in_ok-check_search.was c.graph-graph.ensures c.search_pool-pool.ensures c.min-n.ensures
+
+pub slice_bounds-copy_numbers-end-2 : goal.slice_bounds-copy_numbers-end-2
+slice_bounds-copy_numbers-end-2 c = search_first c.args.asked.now c.args.found.now c.args.scratch.now c.check_search.ensures c.in_ok-check_search.was c.graph-graph.ensures c.search_pool-pool.ensures c.min-n.ensures
 
 pub copy_numbers-requires : goal.copy_numbers-requires
 copy_numbers-requires c = search_copies c.args.asked.now c.args.found.now c.args.scratch.now c.check_search.ensures c.in_ok-check_search.was c.graph-graph.ensures c.search_pool-pool.ensures c.min-n.ensures c.show.auto.slots
