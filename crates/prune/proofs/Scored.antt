@@ -21,7 +21,7 @@ use Rattle.candidates.proofs.After.{left_left, left_holds, left_so}
 use Rattle.slots.specs.Store.{is_valid}
 use Rattle.slots.proofs.Places.{live_inside}
 use Rattle.prune.specs.Prune.{passes, considered, prune_scored}
-use Rattle.prune.specs.Inner.Selecting.{Given, Room, Selected, Ready, Pruned}
+use Rattle.prune.specs.Inner.Selecting.{Given, Room, Selected, Picked, Ready, Pruned}
 use Rattle.prune.proofs.Chosen.{considered_most, considered_live, all_of_given, chosen}
 
 -- ---- what is selected from
@@ -48,10 +48,11 @@ pub given_for : {degree : ℕ} {space : Space} {w : List ℕ} {a m to : ℕ} (mo
     → Given space w a (length (take m (replicate most z))) × Room degree w a (length (take m (replicate most z))) to
 given_for {m = m} most z h g r = rw (as_many most m z h) (g, r)
 
-picked : {degree : ℕ} {alpha : Float} {d : ℕ → ℕ → ℕ} {w : List ℕ} {a : ℕ} (n : ℕ) {to r : ℕ} {w' : List ℕ} (factors : List Float) → factors ≡ replicate n zero_factor
-    → Selected degree alpha d factors w a (length factors) to r w' → cands w' to r ≡ passes degree alpha d (cands w a n)
+pub picked : {degree : ℕ} {alpha : Float} {d : ℕ → ℕ → ℕ} {w : List ℕ} {a : ℕ} (n : ℕ) {to r : ℕ} {w' : List ℕ} (factors : List Float) → factors ≡ replicate n zero_factor
+    → Selected degree alpha d factors w a (length factors) to r w' → Picked degree alpha d w a n to r w'
 unfolding passes
-picked {w = w} {a = a} n factors e u = rw (passes, cands_length w a n, zero_is) (rw (e, length-replicate n zero_factor) at u.list)
+picked {w = w} {a = a} n factors e u =
+    record { list = rw (passes, cands_length w a n, zero_is) (rw (e, length-replicate n zero_factor) at u.list); few = u.few; size = u.size; same = u.same }
 
 -- ---- from one step to the next
 module _ {degree : ℕ} (space : Space) {marks w : List ℕ} {a n to : ℕ} (q : Ready degree space.dim space.vectors.now marks w a n to) (source : ℕ) {m : ℕ} {v : List ℕ}
@@ -81,12 +82,11 @@ module _ {degree : ℕ} (space : Space) {marks w : List ℕ} {a n to : ℕ} (q :
   pub still_few : m ≤ 750
   still_few = omega (arith, f.count, considered_most (is_valid marks) source (cands w a n))
 
-  pub pruned : {alpha : Float} {d : ℕ → ℕ → ℕ} {r : ℕ} {w' : List ℕ} (factors : List Float) → factors ≡ replicate m zero_factor → Selected degree alpha d factors v a (length factors) to r w'
-      → Pruned degree alpha (is_valid marks) d source w a n to r w'
+  pub pruned : {alpha : Float} {d : ℕ → ℕ → ℕ} {r : ℕ} {w' : List ℕ} → Picked degree alpha d v a m to r w' → Pruned degree alpha (is_valid marks) d source w a n to r w'
   unfolding prune_scored
-  pruned {alpha} {d} {r} {w'} factors z u =
+  pruned {alpha} {d} {r} {w'} u =
       let live = is_valid marks in
-      let e : cands w' to r ≡ prune_scored degree alpha live d source (cands w a n) = picked m factors z u ∙ ap (passes degree alpha d) f.list in
+      let e : cands w' to r ≡ prune_scored degree alpha live d source (cands w a n) = u.list ∙ ap (passes degree alpha d) f.list in
       record {
         list = e;
         count = sym (cands_length w' to r) ∙ ap length e;

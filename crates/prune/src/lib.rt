@@ -8,7 +8,7 @@ ghost use Rattle.candidates.specs.Quotient.{fmax, fmin};
 ghost use Rattle.candidates.specs.Inner.Words.{cands, Left};
 ghost use Rattle.slots.specs.Store.{is_valid};
 ghost use Rattle.prune.specs.Prune.{considered};
-ghost use Rattle.prune.specs.Inner.Selecting.{next_threshold, raised_factor, settled, Given, Room, Considered, Selected, Ready, Pruned};
+ghost use Rattle.prune.specs.Inner.Selecting.{next_threshold, raised_factor, settled, Given, Room, Considered, Selected, Picked, Ready, Pruned};
 
 use distances::Kept;
 
@@ -143,7 +143,7 @@ impl<const N: usize> Selector<'_, '_, '_, '_, N> {
 
 // Selects from as many candidates at `a` as there are factors. A function of its own: with the selector made beside the array of factors it was not proved what it
 // leaves in `words` and `kept`.
-fn pick<const N: usize>(
+fn run_passes<const N: usize>(
     alpha: f32,
     kept: &mut Kept<'_, N>,
     factors: &mut [f32],
@@ -162,6 +162,23 @@ fn pick<const N: usize>(
         a,
     };
     selector.select(out)
+}
+
+// Selects from the `n` candidates at `a`, 750 at most. The factors are an array of this function alone, so that they take the same part of the stack as what
+// `prepare` needs before.
+fn pick<const N: usize>(
+    alpha: f32,
+    kept: &mut Kept<'_, N>,
+    words: &mut [u32],
+    a: usize,
+    n: usize,
+    out: Output,
+) -> usize
+    requires { Given kept.old.space words.old a n × Room out.degree words.old a n out.to × (n ≤ 750) }
+    ensures { Picked out.degree alpha (slot_distance (space_of kept.old.space)) words.old a n out.to result words.new × (kept.new.space ≡ kept.old.space) }
+{
+    let mut factors = [0.0f32; 750];
+    run_passes(alpha, kept, &mut factors[..n], words, a, out)
 }
 
 // What is selected from: no source, no dead slot, by distance, each slot's first, 750 at most. Returns how many are left.
@@ -191,7 +208,5 @@ pub fn prune_scored<const N: usize>(
     ensures { Pruned degree alpha (is_valid marks.now) (slot_distance (space_of kept.old.space)) source scratch.old a n to result scratch.new × (kept.new.space ≡ kept.old.space) }
 {
     let m = prepare(marks, source, scratch, a, n);
-    let mut factors = [0.0f32; 750];
-    let out = Output { degree, to };
-    pick(alpha, kept, &mut factors[..m], scratch, a, out)
+    pick(alpha, kept, scratch, a, m, Output { degree, to })
 }

@@ -8,7 +8,7 @@ use Rattle.vectors.specs.declared.Space.{Space}
 use Rattle.candidates.specs.Candidates.{Candidate}
 use Rattle.candidates.specs.Quotient.{largest, fmax, fmin, quotient}
 use Rattle.candidates.specs.Inner.Words.{cand, cands, Small, Outside}
-use Rattle.prune.specs.Prune.{growth, thresholds, no_candidate, Selection, raise, pass, prune_scored}
+use Rattle.prune.specs.Prune.{growth, thresholds, no_candidate, Selection, raise, pass, passes, prune_scored}
 
 -- the threshold after t
 unfoldable pub next_threshold : Float → Float → Float
@@ -61,6 +61,13 @@ pub record Considered (alpha : Float) (d : ℕ → ℕ → ℕ) (c : List Candid
 -- all passes over the n candidates at a, from the factors on: the r taken ones lie at `to`
 pub record Selected (degree : ℕ) (alpha : Float) (d : ℕ → ℕ → ℕ) (factors : List Float) (w : List ℕ) (a n to r : ℕ) (w' : List ℕ) : Type 0 where
   pub list : cands w' to r ≡ (foldl (pass degree alpha d (cands w a n)) (selection factors []) (thresholds alpha)).selected
+  pub few : r ≤ degree
+  pub size : length w' ≡ length w
+  pub same : Outside to (2 * degree) w w'
+
+-- the same with all factors 0 before
+pub record Picked (degree : ℕ) (alpha : Float) (d : ℕ → ℕ → ℕ) (w : List ℕ) (a n to r : ℕ) (w' : List ℕ) : Type 0 where
+  pub list : cands w' to r ≡ passes degree alpha d (cands w a n)
   pub few : r ≤ degree
   pub size : length w' ≡ length w
   pub same : Outside to (2 * degree) w w'
