@@ -1,6 +1,6 @@
 -- A row one place at a time: `live_at` finds the next live target, or that there is none at the place. Assumes nothing.
-use Rattle.std.proofs.Common.{◌≡◌, ℕ, ◌+◌, ◌-◌, ◌*◌, ◌<◌, ◌≤◌, Bool, true, false, cond, not, ◌&&◌, eqb, List, [], ◌∷◌, length, get_or, drop, sym, refl, ap, ◌∙◌, true≢false, add-one, arith, length-drop, drop_of_length-le, length-take, get_or-drop, drop-cons, get_or-take, eq-eqb, ne_eqb, eqb-true}
-use mathlib.Core.Bool.{and-false}
+use Rattle.std.proofs.Common.{◌≡◌, ℕ, ◌+◌, ◌*◌, ◌<◌, ◌≤◌, Bool, true, false, cond, not, ◌&&◌, eqb, List, [], ◌∷◌, length, get_or, drop, sym, refl, ap, ◌∙◌, true≢false, add-one, arith, length-drop, drop_of_length-le, length-take, get_or-drop, drop-cons, get_or-take, eq-eqb, ne_eqb, eqb-true}
+use mathlib.Core.Bool.{and-false, ◌||◌}
 use native.Mathlib.Decide.{dec_lt}
 use borrow.Author.Tests.{eqb-false}
 use lib.ListN.{get_or-eq_default}
@@ -8,6 +8,7 @@ use Rattle.lists.specs.Lists.{filter, elem, part}
 use Rattle.lists.proofs.Parts.{fits_in}
 use Rattle.slots.specs.Store.{Arrays, Shaped, blank, is_valid, current, refs_of, arrays}
 use Rattle.slots.specs.Inner.Rows.{RowShape, ref_of, ref_at, refs_from, live_from}
+use Rattle.std.specs.List.{list_any, zip}
 use Rattle.std.specs.Prelude.{Option, Some, None}
 
 -- ---- marks
@@ -164,65 +165,31 @@ module _ (a : Arrays) (s place : ℕ) {r : Option ℕ} {t : ℕ} (e : r ≡ ref_
 
 -- ---- looking for a reference
 
--- the rows alone decide what a row holds
-rows_alone : (degree : ℕ) (targets edges versions : List ℕ) (s dim : ℕ) (vectors marks : List ℕ)
-    → refs_of (arrays dim degree vectors targets edges versions marks) s ≡ refs_of (arrays 0 degree [] targets edges versions []) s
-unfolding refs_of
-rows_alone degree targets edges versions s dim vectors marks = refl
+-- a row holds id where one of its references has it as target and its version
+pub looking_any : (versions : List ℕ) (id v : ℕ) → (id ≡ blank → ⊥) → v ≡ get_or versions id 0 → (ts es : List ℕ)
+    → list_any (λ r. eqb r.0 id && eqb r.1 v) (zip ts es) ≡ elem id (current versions ts es)
+unfolding current
+looking_any versions id v b e [] es = refl
+looking_any versions id v b e (t ∷ ts) [] = refl
+looking_any versions id v b e (t ∷ ts) (x ∷ es) = go (eqb t id) refl (looking_any versions id v b e ts es)
+  where
+    rest : List ℕ
+    rest = current versions ts es
 
--- what is left of the row from an index on decides whether it holds id
-pub record Looking (id degree : ℕ) (targets edges versions : List ℕ) (s at : ℕ) : Type 0 where
-  pub left : elem id (refs_from (arrays 0 degree [] targets edges versions []) s (at - s * degree)) ≡ elem id (refs_of (arrays 0 degree [] targets edges versions []) s)
-
-pub looking_none : (id degree : ℕ) (targets edges versions : List ℕ) (s : ℕ) → Looking id degree targets edges versions s (s * degree)
-looking_none id degree targets edges versions s =
-    let z : s * degree - s * degree ≡ 0 = omega arith in
-    record { left = rw z (ap (elem id) (refs_from_whole _ s)) }
-
--- what the code sees at an index: a target and whether its edge version is v
-module _ {id degree : ℕ} {targets edges versions : List ℕ} {s at v : ℕ} (ft : s * degree + degree ≤ length targets) (fe : s * degree + degree ≤ length edges) (low : s * degree ≤ at)
-    (h : at < s * degree + degree) (e : v ≡ get_or versions id 0) (l : Looking id degree targets edges versions s at) where
-  rest : List ℕ
-  rest = refs_from (arrays 0 degree [] targets edges versions []) s (at - s * degree + 1)
-
-  step : elem id (cond (not (eqb (get_or targets at 0) blank) && eqb (get_or edges at 0) (get_or versions (get_or targets at 0) 0)) (get_or targets at 0 ∷ rest) rest)
-      ≡ elem id (refs_of (arrays 0 degree [] targets edges versions []) s)
-  unfolding rest
-  step =
-      let z : s * degree + (at - s * degree) ≡ at = omega arith in
-      rw z at (ap (elem id) (sym (refs_from_step (arrays 0 degree [] targets edges versions []) s (at - s * degree) ft fe (omega arith))) ∙ l.left)
-
-  -- the next index
-  after : elem id rest ≡ elem id (refs_of (arrays 0 degree [] targets edges versions []) s) → Looking id degree targets edges versions s (at + 1)
-  unfolding rest
-  after k = let z : at + 1 - s * degree ≡ at - s * degree + 1 = omega arith in record { left = rw z k }
-
-  pub looking_other : (get_or targets at 0 ≡ id → ⊥) → Looking id degree targets edges versions s (at + 1)
-  looking_other n = after (sym (go (not (eqb t blank) && eqb (get_or edges at 0) (get_or versions t 0))) ∙ step)
-    where
-      t : ℕ
-      t = get_or targets at 0
-
-      go : (b : Bool) → elem id (cond b (t ∷ rest) rest) ≡ elem id rest
-      go true = rw (ne_eqb id t (λ q. n (sym q)))
-      go false = refl
-
-  pub looking_stale : get_or targets at 0 ≡ id → (get_or edges at 0 ≡ v → ⊥) → Looking id degree targets edges versions s (at + 1)
-  looking_stale t n =
-      let k : eqb (get_or edges at 0) (get_or versions id 0) ≡ false = ne_eqb _ _ (λ q. n (q ∙ sym e)) in
-      after (rw (t, k, and-false) at step)
-
-  pub looking_found : (id ≡ blank → ⊥) → get_or targets at 0 ≡ id → get_or edges at 0 ≡ v
-      → (dim : ℕ) (vectors marks : List ℕ) → true ≡ elem id (refs_of (arrays dim degree vectors targets edges versions marks) s)
-  looking_found b t k dim vectors marks =
-      (rw (t, ne_eqb id blank b, eq-eqb (get_or edges at 0) (get_or versions id 0) (k ∙ e), eq-eqb id id refl) at step)
-      ∙ ap (elem id) (sym (rows_alone degree targets edges versions s dim vectors marks))
-
-pub looking_done : {id degree : ℕ} {targets edges versions : List ℕ} {s at : ℕ} → s * degree + degree ≤ at → Looking id degree targets edges versions s at
-    → (dim : ℕ) (vectors marks : List ℕ) → false ≡ elem id (refs_of (arrays dim degree vectors targets edges versions marks) s)
-looking_done {id} {degree} {targets} {edges} {versions} {s} {at} h l dim vectors marks =
-    (rw (refs_from_end (arrays 0 degree [] targets edges versions []) s (at - s * degree) (omega arith)) at l.left)
-    ∙ ap (elem id) (sym (rows_alone degree targets edges versions s dim vectors marks))
+    go : (q : Bool) → eqb t id ≡ q → list_any (λ r. eqb r.0 id && eqb r.1 v) (zip ts es) ≡ elem id rest
+        → ((q && eqb x v) || list_any (λ r. eqb r.0 id && eqb r.1 v) (zip ts es)) ≡ elem id (cond (not (eqb t blank) && eqb x (get_or versions t 0)) (t ∷ rest) rest)
+    go true q ih =
+        let z : t ≡ id = eqb-true t id q in
+        rw (z, ne_eqb id blank b, ← e) (same (eqb x v))
+      where
+        same : (c : Bool) → (c || list_any (λ r. eqb r.0 id && eqb r.1 v) (zip ts es)) ≡ elem id (cond c (id ∷ rest) rest)
+        same true = rw (eq-eqb id id refl)
+        same false = ih
+    go false q ih = ih ∙ sym (other (not (eqb t blank) && eqb x (get_or versions t 0)))
+      where
+        other : (c : Bool) → elem id (cond c (t ∷ rest) rest) ≡ elem id rest
+        other true = rw (ne_eqb id t (λ z. eqb-false t id q (sym z)))
+        other false = refl
 
 -- no row holds a blank one
 no_blank : (versions ts es : List ℕ) → false ≡ elem blank (current versions ts es)

@@ -60,12 +60,11 @@ impl Rows<'_> {
             return false;
         }
         let version = self.versions.get(id as usize).copied().unwrap_or(0);
-        let base = s * self.degree;
-        for at in base..base + self.degree {
-            if self.targets[at] == id && self.edges[at] == version {
-                return true;
-            }
-        }
-        false
+        let first = s * self.degree;
+        let end = first + self.degree;
+        self.targets[first..end]
+            .iter()
+            .zip(self.edges[first..end].iter())
+            .any(|(target, edge)| *target == id && *edge == version)
     }
 }
