@@ -1,5 +1,5 @@
 -- The list in the words: a candidate enters it, the first that is not expanded is looked for, and the walk's end is tested. Assumes nothing.
-use Prim.Native.Nat.{ℕ, ◌+◌, ◌-◌, ◌*◌, min, ◌≤◌, ◌<◌}
+use Prim.Native.Nat.{ℕ, zero, suc, ◌+◌, ◌-◌, ◌*◌, min, ◌≤◌, ◌<◌}
 use mathlib.Core.Bool.{true}
 use mathlib.Core.Path.{◌≡◌, refl, ap, sym, ◌∙◌}
 use mathlib.Core.List.{List}
@@ -15,7 +15,9 @@ use Rattle.candidates.specs.Inner.Words.{pair, cand, cands, Inserted, Small}
 use Rattle.candidates.proofs.Words.{cands_length, cands_take, cands_snoc, cands_init, cands_last, outside_none, outside_wide}
 use Rattle.walk.specs.Walk.{worst, enter, ends}
 use Rattle.slots.specs.Scratch.{marks_at}
-use Rattle.walk.specs.Inner.Scratch.{mark, Listed, Entered, Unexpanded}
+use Rattle.std.specs.Option.{MatchOption}
+use Rattle.std.specs.Prelude.{Option, None, Some}
+use Rattle.walk.specs.Inner.Scratch.{mark, Listed, Scannable, Entered, Unexpanded}
 
 pub worst_at : (w : List ℕ) (n : ℕ) → 0 < n → worst (cands w 0 n) ≡ (cand w (0 + 2 * (n - 1))).dist
 worst_at w n h = ap (λ (c : Candidate). c.dist) (cands_last w 0 n h (pair 0 0))
@@ -89,9 +91,22 @@ ends_full {beam} w {n} {i} {a} {b} h k p q =
     rw (cands_length w 0 n, le-leb beam n h, r, t)
 
 -- ---- the first that is not expanded
-pub scan_more : (w : List ℕ) (i : ℕ) {s m : ℕ} → s ≡ (cand w (0 + 2 * i)).id → m ≡ mark w s → m ≡ 2 → All (λ c. mark w c.id ≡ 2) (cands w 0 i)
-    → All (λ c. mark w c.id ≡ 2) (cands w 0 (i + 1))
-scan_more w i e p h f = rw (cands_snoc w 0 i) (all_append _ (cands w 0 i) _ f (rw e at (sym p ∙ h), tt))
+module _ {w : List ℕ} {n next : ℕ} (s : Scannable w n next) where
+  scan_up : (j : ℕ) → ((k : ℕ) → next ≤ k → k < next + j → mark w (cand w (2 * k)).id ≡ 2) → All (λ c. mark w c.id ≡ 2) (cands w 0 (next + j))
+  scan_up zero h = let e : next + 0 ≡ next = omega arith in rw e s.done
+  scan_up (suc j) h =
+      let e : next + suc j ≡ next + j + 1 = omega arith in
+      let z : 0 + 2 * (next + j) ≡ 2 * (next + j) = omega arith in
+      rw (e, cands_snoc w 0 (next + j)) (all_append _ (cands w 0 (next + j)) _ (scan_up j (λ k a b. h k a (omega arith))) (rw z (h (next + j) (omega arith) (omega arith)), tt))
 
-pub scan_all : {w : List ℕ} {n i : ℕ} → n ≡ i → All (λ c. mark w c.id ≡ 2) (cands w 0 i) → Unexpanded w n n
-scan_all e f = rw e (record { within = omega arith; done = f; stops = λ l. absurd (omega arith) })
+  scan_to : (r : ℕ) → next ≤ r → ((k : ℕ) → next ≤ k → k < r → mark w (cand w (2 * k)).id ≡ 2) → All (λ c. mark w c.id ≡ 2) (cands w 0 r)
+  scan_to r l h = let e : next + (r - next) ≡ r = omega arith in rw e at (scan_up (r - next) (λ k a b. h k a (omega arith)))
+
+  pub scanned : (r : Option ℕ)
+      → MatchOption r ((k : ℕ) → next ≤ k → k < n → mark w (cand w (2 * k)).id ≡ 2)
+          (λ i. (next ≤ i) × (i < n) × (mark w (cand w (2 * i)).id ≡ 2 → ⊥) × ((k : ℕ) → next ≤ k → k < i → mark w (cand w (2 * k)).id ≡ 2))
+      → (r ≡ None → Unexpanded w n n) × ((i : ℕ) → r ≡ Some i → Unexpanded w n i × (i < n))
+  scanned None h = ((λ q. record { within = omega arith; done = scan_to n s.passed h; stops = λ l. absurd (omega arith) }), λ i q. cc)
+  scanned (Some r) h =
+      let u : Unexpanded w n r = record { within = omega (arith, h.1); done = scan_to r h.0 h.3; stops = λ l. h.2 } in
+      ((λ q. cc), λ i q. let e : r ≡ i = cc in rw (← e) (u, h.1))
