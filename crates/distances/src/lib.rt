@@ -62,8 +62,8 @@ fn rest(a: &[u8], b: &[u8], from: usize) -> u32
     ensures { Summed a.now b.now from (length a.now - from) result }
 {
     let mut sum: u32 = 0;
-    for i in from..a.len() {
-        sum += squared_difference(a[i], b[i]);
+    for (x, y) in a[from..].iter().zip(b[from..].iter()) {
+        sum += squared_difference(*x, *y);
     }
     sum
 }
