@@ -171,16 +171,12 @@ fn replay_list(rt: &impl Print, errors: &impl Print, list: &[u8]) -> io::Result<
     counts.report(rt)
 }
 
-// Reads from the input until it ends or the list is full, and returns how many bytes it put at the list's start.
-// A `for` with a bound that no list comes near: it needs no measure.
+// Reads from the input until it ends or the list is full, and returns how many bytes it put at the list's start. Not a `for`: a turn goes on as far as was read.
 fn read_full(input: &mut impl Read, list: &mut [u8]) -> io::Result<usize>
     ensures { IfOk result (λ n. n ≤ length list.new) }
 {
     let mut done: usize = 0;
-    for _ in 0..u64::MAX {
-        if done >= list.len() {
-            break;
-        }
+    while done < list.len() {
         let n = input.read(&mut list[done..])?;
         if n == 0 {
             break;
