@@ -11,7 +11,8 @@ use Rattle.candidates.specs.Inner.Words.{cands, Small, Outside, Clear}
 use Rattle.prune.specs.Prune.{prune}
 use Rattle.prune.specs.Inner.Selecting.{Room}
 
--- slices that belong together, within the limits
+-- slices that belong together, within the limits. `Pruner` and `Inserter` carry it; a delete's graph does not: each of its acts that writes one of the slices would
+-- show it again, and only the last two ask it.
 pub record Together (a : Arrays) : Type 0 where
   pub bytes : Bytes a.dim (length a.marks) a.vectors
   pub rows : RowShape a.degree a.targets a.edges a.versions a.marks

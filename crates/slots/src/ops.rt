@@ -1,6 +1,7 @@
 // The operations on an index that insert and delete are made of, on lent slices: `Ops` in the definitions.
 ghost use Rattle.std.specs.Prelude.{◌≡◌, suc, ◌+◌, ◌*◌, ◌%◌, ◌<◌, ◌≤◌, length, slice_index, slice_index_or, slice_set};
 ghost use Rattle.slots.specs.Store.{blank, edge_version};
+ghost use Rattle.slots.specs.Inner.Rows.{HasRow};
 ghost use Rattle.slots.specs.Inner.Writing.{SlotIn, Filled, Wrote, Killed, Finished};
 ghost use Rattle.slots.specs.Lent.{SameSlices};
 
@@ -21,7 +22,7 @@ fn edge_version(versions: &[u16], id: u32) -> u16
 impl RowsMut<'_> {
     // Writes the first `degree` ids into slot `s`'s row, with their targets' present versions, then blanks. `write_neighbors` in the Rust.
     pub fn write(&mut self, s: usize, ids: &[u32])
-        requires { (s * self.old.degree + self.old.degree ≤ length self.old.targets.now) × (s * self.old.degree + self.old.degree ≤ length self.old.edges.now) }
+        requires { HasRow self.old.degree self.old.targets.now self.old.edges.now s }
         ensures { Wrote self.old.degree self.old.targets.now self.old.edges.now self.old.versions.now s ids.now self.new.targets.now self.new.edges.now × SameSlices self.old self.new }
     {
         let base = s * self.degree;
@@ -68,7 +69,7 @@ fn next_version(versions: &mut [u16], s: usize)
 
 // The last act of a delete on slot `s`: the next version, and an empty row. `finish_delete_plan` in the Rust.
 pub fn finish(degree: usize, targets: &mut [u32], edges: &mut [u16], versions: &mut [u16], s: usize)
-    requires { (s * degree + degree ≤ length targets.old) × (s * degree + degree ≤ length edges.old) × (s < length versions.old) }
+    requires { HasRow degree targets.old edges.old s × (s < length versions.old) }
     ensures { Finished degree targets.old edges.old versions.old s targets.new edges.new versions.new }
 {
     next_version(versions, s);

@@ -2,7 +2,7 @@
 ghost use Rattle.std.specs.Prelude.{◌≡◌, ℕ, ◌+◌, ◌*◌, ◌<◌, ◌≤◌, List, Some, length};
 ghost use Rattle.lists.specs.Lists.{elem};
 ghost use Rattle.slots.specs.Store.{refs_of, arrays};
-ghost use Rattle.slots.specs.Inner.Rows.{RowShape, ref_at};
+ghost use Rattle.slots.specs.Inner.Rows.{RowShape, HasRow, ref_at};
 ghost use Rattle.slots.specs.Lent.{rows_of};
 
 use super::graph::Rows;
@@ -40,7 +40,7 @@ impl Rows<'_> {
     // Reads the first and the last target of slot `s`'s row and its first edge version, so that the row is on its way from memory when it is gone through.
     // Returns a sum that tells nothing.
     pub fn touch(&self, s: usize) -> u32
-        requires { (s * self.now.degree + self.now.degree ≤ length self.now.targets.now) × (s * self.now.degree + self.now.degree ≤ length self.now.edges.now) }
+        requires { HasRow self.now.degree self.now.targets.now self.now.edges.now s }
         ensures { result ≤ 1020 }
     {
         if self.degree == 0 {
@@ -53,7 +53,7 @@ impl Rows<'_> {
 
     // Whether slot `s`'s row holds `id` with its present version, live or dead.
     pub fn holds(&self, s: usize, id: u32) -> bool
-        requires { (s * self.now.degree + self.now.degree ≤ length self.now.targets.now) × (s * self.now.degree + self.now.degree ≤ length self.now.edges.now) }
+        requires { HasRow self.now.degree self.now.targets.now self.now.edges.now s }
         ensures { (dim : ℕ) (vectors : List ℕ) → result ≡ elem id (refs_of (rows_of dim vectors self.now) s) }
     {
         if id == BLANK {

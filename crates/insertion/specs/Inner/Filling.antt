@@ -14,7 +14,7 @@ fillings_from dim bytes slots from k = map (filling_at dim bytes slots) (range f
 abbrev pub chunk_of : ℕ → List ℕ → List ℕ → List Filling
 chunk_of dim bytes slots = fillings_from dim bytes slots 0 (length slots)
 
--- each slot is below the capacity
+-- each slot is below the capacity: a fact of lent words, so it is no field
 abbrev pub Inside : ℕ → List ℕ → Type 0
 Inside capacity slots = (i : ℕ) → i < length slots → get_or slots i 0 < capacity
 

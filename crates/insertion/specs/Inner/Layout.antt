@@ -19,6 +19,6 @@ pub record Parts (capacity degree : ℕ) (at : Layout) : Type 0 where
   pub chosen_in : at.chosen + 2 * degree ≤ work_at capacity + insert_words degree
   pub below : work_at capacity + insert_words degree ≤ 8388608
 
--- the words hold all of it
+-- the words hold all of it: a fact of the words lent to one call, so it is no field
 abbrev pub Enough : ℕ → ℕ → List ℕ → Type 0
 Enough degree capacity w = work_at capacity + insert_words degree ≤ length w

@@ -5,7 +5,7 @@ use Rattle.sorting.specs.Inner.Places.{Placed, Risen}
 use Rattle.slots.specs.Store.{is_valid}
 use Rattle.numbers.specs.Numbers.{number_of, taken, write_numbers, live_numbers, summary_of, Labelled}
 
--- the first `live` words of the summary name every slot with a number, by rising number
+-- the first `live` words of the summary name every slot with a number, by rising number. `Labels` carries it; an insert, which writes both, asks it of what it is lent.
 pub record Listed (numbers summary : List ℕ) (live : ℕ) : Type 0 where
   pub placed : Placed numbers summary live
   pub risen : Risen numbers summary live

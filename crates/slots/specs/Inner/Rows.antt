@@ -12,6 +12,10 @@ pub record RowShape (degree : ℕ) (targets edges versions marks : List ℕ) : T
   pub versions_long : length versions ≡ length marks
   pub few : length marks ≤ 65536
 
+-- slot s has a row, inside both slices: all that reading or writing one row asks
+abbrev pub HasRow : ℕ → List ℕ → List ℕ → ℕ → Type 0
+HasRow degree targets edges s = (s * degree + degree ≤ length targets) × (s * degree + degree ≤ length edges)
+
 -- ---- what is read
 
 abbrev pub ref_of : Bool → ℕ → Option ℕ

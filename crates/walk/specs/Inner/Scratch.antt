@@ -73,7 +73,7 @@ takes_turns a query beam w n = Walk.turns beam (query_distance (space a.dim a.ve
 abbrev pub first_state : ℕ → List ℕ → ℕ → ℕ → State
 first_state capacity ids d start = record { list = pair d start ∷ []; marks = set (mark_all (replicate capacity 0) ids) start 1 }
 
--- n candidates in order, which one can enter
+-- n candidates in order, which one can enter: a fact of the lent words and of n, both of which change at each turn
 pub record Listed (beam : ℕ) (w : List ℕ) (n : ℕ) : Type 0 where
   pub long : list_words ≤ length w
   pub some : 1 ≤ beam
