@@ -1,6 +1,6 @@
 -- Numbers in a line of text, as lists of bytes.
 use denote.Ref.{Bor}
-use Rattle.std.specs.Prelude.{List, Option, IsSomeAnd, ◌≡◌, ℕ, ◌∷◌, ◌++◌, ◌≤◌, slice_index}
+use Rattle.std.specs.Prelude.{List, [], Option, IsSomeAnd, ◌≡◌, ℕ, ◌∷◌, ◌++◌, ◌≤◌, slice_index}
 use Rattle.std.specs.Str.Parse.{IsNumeral, digits_value}
 
 -- a byte is a digit
@@ -18,3 +18,8 @@ pub record Follows (before rest : List ℕ) (value : ℕ) : Type 0 where
 -- this number was read next of a line, of which that much was left before and after; none is left behind a number that is none
 abbrev pub Reads : Option (Bor (List ℕ)) → Option (Bor (List ℕ)) → ℕ → Type 0
 Reads old new value = IsSomeAnd old (λ before. IsSomeAnd new (λ rest. Follows before.now rest.now value))
+
+-- these numbers were read next of a line, one behind the other
+abbrev pub ReadsAll : Option (Bor (List ℕ)) → Option (Bor (List ℕ)) → List ℕ → Type 0
+ReadsAll old new [] = old ≡ new
+ReadsAll old new (value ∷ values) = (between : Option (Bor (List ℕ))) × Reads old between value × ReadsAll between new values
