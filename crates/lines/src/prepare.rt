@@ -1,5 +1,6 @@
 // Lines that prepare calls: what is lent and given, and what is altered by hand.
-ghost use Rattle.std.specs.Prelude.{◌≡◌, ◌≤◌, length, take, min};
+ghost use Rattle.std.specs.Prelude.{◌≡◌, ◌≤◌, length};
+ghost use Rattle.lines.specs.Inner.Lent.{lent_of};
 
 use super::words::Preparing;
 use index::{Guard, Index, Slices};
@@ -55,8 +56,14 @@ pub struct Arrays<'a> {
 }
 
 impl Arrays<'_> {
+    ghost use Rattle.std.specs.Prelude.{◌≡◌};
+    ghost use Rattle.lines.specs.Inner.Lent.{lent_of};
+
     // What is lent of an index that is read.
-    pub fn slices(&self, lent: Lent) -> Slices<'_> {
+    pub fn slices(&self, lent: Lent) -> Slices<'_>
+        ensures graph { (result.vectors.now ≡ lent_of lent.vectors self.now.vectors.now) × (result.targets.now ≡ lent_of lent.targets self.now.targets.now) × (result.edges.now ≡ lent_of lent.edges self.now.edges.now) × (result.versions.now ≡ lent_of lent.versions self.now.versions.now) × (result.marks.now ≡ lent_of lent.marks self.now.marks.now) }
+        ensures beside { (result.pool.now ≡ lent_of lent.pool self.now.pool.now) × (result.numbers.now ≡ lent_of lent.numbers self.now.numbers.now) × (result.summary.now ≡ lent_of lent.summary self.now.summary.now) }
+    {
         Slices {
             vectors: part(self.vectors, lent.vectors),
             targets: part(self.targets, lent.targets),
@@ -72,14 +79,14 @@ impl Arrays<'_> {
 
 // What is lent of an array.
 pub fn part<T>(of: &[T], lent: usize) -> &[T]
-    ensures { (result.now ≡ take (min lent (length of.now)) of.now) × (length result.now ≤ length of.now) }
+    ensures { (result.now ≡ lent_of lent of.now) × (length result.now ≤ length of.now) }
 {
     &of[..lent.min(of.len())]
 }
 
 // The same of one that is written, or goes into a struct with ones that are.
 pub fn part_mut<T>(of: &mut [T], lent: usize) -> &mut [T]
-    ensures { (result.now ≡ take (min lent (length of.old)) of.old) × (length result.now ≤ length of.old) }
+    ensures { (result.now ≡ lent_of lent of.old) × (length result.now ≤ length of.old) }
 {
     let n = lent.min(of.len());
     &mut of[..n]

@@ -1,0 +1,3 @@
+-- The words of inner contracts: what a line begins with, and what is lent.
+pub mod Lent
+pub mod Words
