@@ -1,6 +1,7 @@
 -- Numbers in a line of text, as lists of bytes.
 use denote.Ref.{Bor}
-use Rattle.std.specs.Prelude.{List, [], Option, IsSomeAnd, ◌≡◌, ℕ, ◌∷◌, ◌++◌, ◌≤◌, slice_index}
+use Rattle.std.specs.Prelude.{List, Option, IsSomeAnd, ◌≡◌, ℕ, ◌∷◌, ◌++◌, ◌≤◌, slice_index}
+use Rattle.std.specs.List.{FoldsTo}
 use Rattle.std.specs.Str.Parse.{IsNumeral, digits_value}
 
 -- a byte is a digit
@@ -21,5 +22,4 @@ Reads old new value = IsSomeAnd old (λ before. IsSomeAnd new (λ rest. Follows 
 
 -- these numbers were read next of a line, one behind the other
 abbrev pub ReadsAll : Option (Bor (List ℕ)) → Option (Bor (List ℕ)) → List ℕ → Type 0
-ReadsAll old new [] = old ≡ new
-ReadsAll old new (value ∷ values) = (between : Option (Bor (List ℕ))) × Reads old between value × ReadsAll between new values
+ReadsAll old new values = FoldsTo (λ before value rest. Reads before rest value) old values new
