@@ -1,3 +1,4 @@
 -- The words of inner contracts: what a line begins with, and what is lent.
+pub mod Given
 pub mod Lent
 pub mod Words

@@ -1,5 +1,6 @@
 // Lines that prepare calls: what is lent and given, and what is altered by hand.
-ghost use Rattle.std.specs.Prelude.{◌≡◌, ◌≤◌, length};
+ghost use Rattle.std.specs.Prelude.{◌≡◌, ◌+◌, ◌-◌, ◌%◌, ◌≤◌, length, IfOk, Ok};
+ghost use Rattle.lines.specs.Inner.Given.{Given};
 ghost use Rattle.lines.specs.Inner.Lent.{lent_of};
 
 use super::words::Preparing;
@@ -152,10 +153,15 @@ pub fn words<T: TryFrom<u32> + Copy>(
 ) -> Result<(), Differs>
 where
     <T as TryFrom<u32>>::Error: Drop,
+    ensures { IfOk result (λ _. Given (λ number word. T.try_from_gives ((number + 4294967296 - more) % 4294967296) (Ok word)) line.old.rest line.new.rest n to.old to.new) }
 {
     for i in 0..n {
         let word = small(line.number()?.wrapping_sub(more))?;
-        *to.get_mut(i).ok_or(Differs::TooMuch)? = word;
+        // Not by `get_mut`: of a slice's the check knows the length and no element.
+        if to.len() <= i {
+            return Err(Differs::TooMuch);
+        }
+        to[i] = word;
     }
     Ok(())
 }

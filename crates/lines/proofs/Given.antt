@@ -1,0 +1,22 @@
+-- Numbers that are read into an array: before the first, and one more.
+use denote.Ref.{Bor}
+use Rattle.std.proofs.Common.{List, Option, ℕ, ◌≡◌, ◌<◌, ◌+◌, length, take, set, sym, ◌∙◌, refl, arith}
+use mathlib.Core.Path.{subst}
+use Rattle.std.specs.List.{FoldsTo}
+use Rattle.std.proofs.lemmas.Fn.{FoldsTo-push}
+use Rattle.std.proofs.lemmas.Grind.{drop_more_same}
+use Rattle.std.proofs.lemmas.List.{take_more_set, drop-set-lt}
+use Rattle.text.specs.Inner.Text.{Reads}
+use Rattle.lines.specs.Inner.Given.{Given}
+
+module _ {A : Type 0} (gives : ℕ → A → Type 0) where
+  pub given_none : (left : Option (Bor (List ℕ))) (words : List A) → Given gives left left 0 words words
+  given_none left words = record { room = omega arith; reads = refl; behind = refl }
+
+  pub given_more : {old left rest : Option (Bor (List ℕ))} {i : ℕ} {before after : List A} (number : ℕ) (word : A) → Given gives old left i before after → i < length after → length after ≡ length before → Reads left rest number → gives number word → Given gives old rest (i + 1) before (set after i word)
+  given_more {old} {left} {rest} {i} {before} {after} number word given inside long reads is =
+    let R = λ (from : Option (Bor (List ℕ))) (w : A) (to : Option (Bor (List ℕ))). (n : ℕ) × Reads from to n × gives n w in
+    record
+      { room = omega arith
+      ; reads = subst (λ (words : List A). FoldsTo R old words rest) (sym (take_more_set after i word inside)) (FoldsTo-push R old (take i after) left word rest given.reads (number, reads, is))
+      ; behind = drop-set-lt (i + 1) after i word (omega arith) ∙ drop_more_same after before i given.behind }
