@@ -1,5 +1,7 @@
 // Lines that prepare calls: what is lent and given, and what is altered by hand.
-ghost use Rattle.std.specs.Prelude.{◌≡◌, ◌+◌, ◌-◌, ◌%◌, ◌≤◌, length, IfOk, Ok};
+ghost use denote.Ref.{Bor};
+ghost use Rattle.std.specs.Prelude.{List, Option, ℕ, ◌≡◌, ◌+◌, ◌-◌, ◌%◌, ◌≤◌, length, IfOk, Ok};
+ghost use Rattle.text.specs.Inner.Text.{Reads, Ended};
 ghost use Rattle.lines.specs.Inner.Given.{Given};
 ghost use Rattle.lines.specs.Inner.Lent.{lent_of};
 
@@ -107,7 +109,9 @@ fn lengths(line: &mut Numbers<'_>, to: &mut [usize; 12]) -> Result<(), Differs> 
 }
 
 // Performs a line `lend`.
-fn lend(line: &mut Numbers<'_>, lent: &mut Lent) -> Result<(), Differs> {
+fn lend(line: &mut Numbers<'_>, lent: &mut Lent) -> Result<(), Differs>
+    ensures { IfOk result (λ _. Ended line.new.rest) }
+{
     let mut all = [0usize; 12];
     let read = lengths(line, &mut all);
     let [
@@ -175,6 +179,7 @@ fn give<T: TryFrom<u32> + Copy>(
 ) -> Result<(), Differs>
 where
     <T as TryFrom<u32>>::Error: Drop,
+    ensures { IfOk result (λ _. (left : Option (Bor (List ℕ))) × Reads line.old.rest left count.new × Given (λ number word. T.try_from_gives ((number + 4294967296 - more) % 4294967296) (Ok word)) left line.new.rest count.new given.old given.new × Ended line.new.rest) }
 {
     let n = line.argument() as usize;
     *count = n;
@@ -202,7 +207,9 @@ fn alter(guard: &mut Guard, field: u32, value: u32) {
 }
 
 // Performs a line `set`. What alters the guard changes nothing where it is off; a field over 11 alters what 11 does, and the line differs.
-fn set(line: &mut Numbers<'_>, index: &mut Index) -> Result<(), Differs> {
+fn set(line: &mut Numbers<'_>, index: &mut Index) -> Result<(), Differs>
+    ensures { IfOk result (λ _. Ended line.new.rest) }
+{
     let field = line.argument();
     let value = line.argument();
     match field {
@@ -237,7 +244,9 @@ fn put<T: Copy>(to: &mut [T], lent: usize, place: usize, value: T) -> Result<(),
 }
 
 // Performs a line `store`.
-fn store(line: &mut Numbers<'_>, lent: Lent, arrays: &mut Arrays<'_>) -> Result<(), Differs> {
+fn store(line: &mut Numbers<'_>, lent: Lent, arrays: &mut Arrays<'_>) -> Result<(), Differs>
+    ensures { IfOk result (λ _. Ended line.new.rest) }
+{
     let array = line.number()?;
     let place = line.number()? as usize;
     let value = line.number()?;
@@ -260,7 +269,9 @@ pub fn perform(
     line: &mut Numbers<'_>,
     state: &mut State,
     arrays: &mut Arrays<'_>,
-) -> Result<(), Differs> {
+) -> Result<(), Differs>
+    ensures { IfOk result (λ _. Ended line.new.rest) }
+{
     match what {
         Preparing::Lend => lend(line, &mut state.lent),
         Preparing::Give => give(line, &mut state.lent.given, 0, arrays.given),

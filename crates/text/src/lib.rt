@@ -1,10 +1,10 @@
 // The numbers of a line of text, read from the left and compared with answers.
 #![tactic(auto)]
 
-ghost use Rattle.std.specs.Prelude.{◌≡◌, ◌≢◌, ◌≤◌, ◌++◌, [], length, slice_index, take, None, Ok, MatchOption, MatchResult, IfOk, IfSome, IsSomeAnd};
+ghost use Rattle.std.specs.Prelude.{◌≡◌, ◌≢◌, ◌≤◌, ◌++◌, length, slice_index, take, None, Ok, MatchResult, IfOk, IfSome, IsSomeAnd};
 ghost use Rattle.std.specs.Str.Parse.{IsNumeral, digits_value};
 ghost use Rattle.text.specs.declared.Differs.TheVariants.{Malformed};
-ghost use Rattle.text.specs.Inner.Text.{Digit, Reads, ReadsAll};
+ghost use Rattle.text.specs.Inner.Text.{Digit, Reads, ReadsAll, Asks, Ended};
 
 // How a line differs: it is malformed, it asks for more than there is room for, or its answer is another one.
 #[derive(Clone, Copy, PartialEq, Eq, Debug)]
@@ -67,7 +67,7 @@ impl<'a> Numbers<'a> {
 
     // The next number as what a call is given: 0 where there is none, and nothing can be read behind it.
     pub fn argument(&mut self) -> u32
-        ensures { MatchOption self.new.rest (result ≡ 0) (λ _. Reads self.old.rest self.new.rest result) }
+        ensures { Asks self.old.rest self.new.rest result }
     {
         self.number().unwrap_or(0)
     }
@@ -101,7 +101,7 @@ impl<'a> Numbers<'a> {
 
     // Whether every number was read.
     pub fn end(&self) -> Result<(), Differs>
-        ensures { IfOk result (λ _. IsSomeAnd self.now.rest (λ rest. rest.now ≡ [])) }
+        ensures { IfOk result (λ _. Ended self.now.rest) }
     {
         if self.rest == Some(b"") {
             return Ok(());
