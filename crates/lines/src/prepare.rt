@@ -1,7 +1,7 @@
 // Lines that prepare calls: what is lent and given, and what is altered by hand.
 ghost use denote.Ref.{Bor};
 ghost use Rattle.std.specs.Prelude.{List, Option, ℕ, ◌≡◌, ◌+◌, ◌-◌, ◌%◌, ◌≤◌, length, IfOk, Ok};
-ghost use Rattle.text.specs.Inner.Text.{Reads, Ended};
+ghost use Rattle.text.specs.Inner.Text.{Reads, ReadsAll, Ended};
 ghost use Rattle.lines.specs.Inner.Given.{Given};
 ghost use Rattle.lines.specs.Inner.Lent.{lent_of};
 
@@ -96,7 +96,9 @@ pub fn part_mut<T>(of: &mut [T], lent: usize) -> &mut [T]
 }
 
 // Reads lengths. One that asks for too much, or 0 where there is none, stands for those behind it too.
-fn lengths(line: &mut Numbers<'_>, to: &mut [usize; 12]) -> Result<(), Differs> {
+fn lengths(line: &mut Numbers<'_>, to: &mut [usize; 12]) -> Result<(), Differs>
+    ensures { IfOk result (λ _. ReadsAll line.old.rest line.new.rest to.new) }
+{
     for (i, most) in MOST.iter().enumerate() {
         let n = line.number()?;
         if *most < n {
