@@ -4,6 +4,7 @@ ghost use Rattle.std.specs.Prelude.{List, Option, ℕ, ◌≡◌, ◌+◌, ◌-�
 ghost use Rattle.text.specs.Inner.Text.{Reads, ReadsAll, Ended};
 ghost use Rattle.lines.specs.Inner.Given.{Given};
 ghost use Rattle.lines.specs.Inner.Lent.{lent_of};
+ghost use Rattle.lines.specs.Inner.Prepared.{Lends, Sets, altered, alpha_of};
 
 use super::words::Preparing;
 use index::{Guard, Index, Slices};
@@ -112,7 +113,7 @@ fn lengths(line: &mut Numbers<'_>, to: &mut [usize; 12]) -> Result<(), Differs>
 
 // Performs a line `lend`.
 fn lend(line: &mut Numbers<'_>, lent: &mut Lent) -> Result<(), Differs>
-    ensures { IfOk result (λ _. Ended line.new.rest) }
+    ensures { IfOk result (λ _. Lends line.old.rest line.new.rest lent.old lent.new) }
 {
     let mut all = [0usize; 12];
     let read = lengths(line, &mut all);
@@ -190,7 +191,9 @@ where
 }
 
 // Alpha from its multiple of 2^24. It is any u32: `as f32` takes only what an f32 holds exactly.
-pub fn alpha_of(n: u32) -> f32 {
+pub fn alpha_of(n: u32) -> f32
+    ensures { result ≡ alpha_of n }
+{
     if n == u32::MAX {
         return f32::NAN;
     }
@@ -198,7 +201,9 @@ pub fn alpha_of(n: u32) -> f32 {
 }
 
 // Alters one setting of a guard, or the length of its pool. Its field is a number, as the list writes it.
-fn alter(guard: &mut Guard, field: u32, value: u32) {
+fn alter(guard: &mut Guard, field: u32, value: u32)
+    ensures { guard.new ≡ altered field value guard.old }
+{
     match field {
         7 => guard.config.count = value,
         8 => guard.config.multiplier = value,
@@ -210,7 +215,7 @@ fn alter(guard: &mut Guard, field: u32, value: u32) {
 
 // Performs a line `set`. What alters the guard changes nothing where it is off; a field over 11 alters what 11 does, and the line differs.
 fn set(line: &mut Numbers<'_>, index: &mut Index) -> Result<(), Differs>
-    ensures { IfOk result (λ _. Ended line.new.rest) }
+    ensures { IfOk result (λ _. Sets line.old.rest line.new.rest index.old index.new) }
 {
     let field = line.argument();
     let value = line.argument();

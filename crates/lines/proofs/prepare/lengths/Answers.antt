@@ -1,5 +1,4 @@
-use Rattle.std.proofs.Common.{List, Option, ℕ, ◌≡◌, rules, sym, take}
-use denote.Ref.{Bor}
+use Rattle.std.proofs.Common.{List, ℕ, rules}
 use mathlib.Core.Path.{subst}
 use lib.Seq.{take_all}
 use Rattle.text.specs.Inner.Text.{ReadsAll}

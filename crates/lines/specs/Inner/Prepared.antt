@@ -1,0 +1,55 @@
+-- What lines leave that prepare a call.
+use denote.Ref.{Bor}
+use Rattle.std.specs.Prelude.{List, [], ◌∷◌, Option, None, option_map, ℕ, pos, cond, eqb, ◌≡◌, ◌≤◌, Float}
+use Rattle.std.specs.Float.{binary32}
+use Rattle.std.specs.Float.Ieee.{div, of_bits, of_int}
+use Rattle.index.specs.declared.Guard.{Guard}
+use Rattle.index.specs.declared.Index.{Index}
+use Rattle.text.specs.Inner.Text.{ReadsAll, Asks, Ended}
+use Rattle.lines.specs.declared.prepare.Lent.{Lent}
+
+-- the lengths that a line `lend` has
+abbrev pub lengths_of : Lent → List ℕ
+lengths_of l = l.vectors ∷ l.targets ∷ l.edges ∷ l.versions ∷ l.marks ∷ l.pool ∷ l.numbers ∷ l.summary ∷ l.slots ∷ l.dists ∷ l.found ∷ l.words ∷ []
+
+-- the lengths lent were read next of a line, which ends behind them; what is given stays
+pub record Lends (old new : Option (Bor (List ℕ))) (before after : Lent) : Type 0 where
+  pub reads : ReadsAll old new (lengths_of after)
+  pub ended : Ended new
+  pub given : (after.given ≡ before.given) × (after.rows ≡ before.rows) × (after.figures ≡ before.figures)
+
+-- alpha from its multiple of 2^24; the largest number is for none
+abbrev pub alpha_of : ℕ → Float
+alpha_of n = cond (eqb n 4294967295) (of_bits binary32 0x7fc0_0000) (div binary32 (of_int binary32 (pos n)) (of_bits binary32 0x4b80_0000))
+
+-- a guard with one of its settings altered, or the length of its pool
+abbrev pub altered : ℕ → ℕ → Guard → Guard
+altered field value guard =
+  cond (eqb field 7) (record guard { config = record guard.config { count = value } })
+    (cond (eqb field 8) (record guard { config = record guard.config { multiplier = value } })
+      (cond (eqb field 9) (record guard { config = record guard.config { sample = value } })
+        (cond (eqb field 10) (record guard { config = record guard.config { beam = value } })
+          (record guard { pool = value }))))
+
+-- an index with one of its fields set
+abbrev pub with_field : ℕ → ℕ → Index → Index
+with_field field value index =
+  cond (eqb field 0) (record index { dim = value })
+    (cond (eqb field 1) (record index { capacity = value })
+      (cond (eqb field 2) (record index { degree = value })
+        (cond (eqb field 3) (record index { alpha = alpha_of value })
+          (cond (eqb field 4) (record index { entry = value })
+            (cond (eqb field 5) (record index { live = value })
+              (cond (eqb field 6) (record index { guard = None })
+                (record index { guard = option_map (altered field value) index.guard })))))))
+
+-- the number of a field and its value were read next of a line, which ends behind them, and the index has that value there
+pub record Sets (old new : Option (Bor (List ℕ))) (before after : Index) : Type 0 where
+  pub field : ℕ
+  pub value : ℕ
+  pub named : Option (Bor (List ℕ))
+  pub with_field_number : Asks old named field
+  pub with_value : Asks named new value
+  pub ended : Ended new
+  pub known : field ≤ 11
+  pub set : after ≡ with_field field value before
