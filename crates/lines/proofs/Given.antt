@@ -15,14 +15,15 @@ module _ {A : Type 0} (gives : ℕ → A → Type 0) where
 
   pub given_more : {old left rest : Option (Bor (List ℕ))} {i : ℕ} {before after : List A} (number : ℕ) (word : A) → Given gives old left i before after → i < length after → length after ≡ length before → Reads left rest number → gives number word → Given gives old rest (i + 1) before (set after i word)
   given_more {old} {left} {rest} {i} {before} {after} number word given inside long reads is =
-    let R = λ (from : Option (Bor (List ℕ))) (w : A) (to : Option (Bor (List ℕ))). (n : ℕ) × Reads from to n × gives n w in
-    record
-      { room = omega arith
-      ; reads = subst (λ (words : List A). FoldsTo R old words rest) (sym (take_more_set after i word inside)) (FoldsTo-push R old (take i after) left word rest given.reads (number, reads, is))
-      ; behind = drop-set-lt (i + 1) after i word (omega arith) ∙ drop_more_same after before i given.behind }
+      let R = λ (from : Option (Bor (List ℕ))) (w : A) (to : Option (Bor (List ℕ))). (n : ℕ) × Reads from to n × gives n w in
+      record {
+        room = omega arith;
+        reads = subst (λ (words : List A). FoldsTo R old words rest) (sym (take_more_set after i word inside)) (FoldsTo-push R old (take i after) left word rest given.reads (number, reads, is));
+        behind = drop-set-lt (i + 1) after i word (omega arith) ∙ drop_more_same after before i given.behind;
+      }
 
 -- one more number that is read into a list
 pub reads_more : (old left rest : Option (Bor (List ℕ))) (i : ℕ) (numbers : List ℕ) (number : ℕ) → ReadsAll old left (take i numbers) → i < length numbers → Reads left rest number → ReadsAll old rest (take (i + 1) (set numbers i number))
 reads_more old left rest i numbers number read inside reads =
-  let R = λ (from : Option (Bor (List ℕ))) (n : ℕ) (to : Option (Bor (List ℕ))). Reads from to n in
-  subst (λ (ns : List ℕ). FoldsTo R old ns rest) (sym (take_more_set numbers i number inside)) (FoldsTo-push R old (take i numbers) left number rest read reads)
+    let R = λ (from : Option (Bor (List ℕ))) (n : ℕ) (to : Option (Bor (List ℕ))). Reads from to n in
+    subst (λ (ns : List ℕ). FoldsTo R old ns rest) (sym (take_more_set numbers i number inside)) (FoldsTo-push R old (take i numbers) left number rest read reads)

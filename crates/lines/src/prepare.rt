@@ -1,10 +1,10 @@
 // Lines that prepare calls: what is lent and given, and what is altered by hand.
 ghost use denote.Ref.{Bor};
-ghost use Rattle.std.specs.Prelude.{List, Option, ℕ, ◌≡◌, ◌+◌, ◌-◌, ◌%◌, ◌≤◌, length, IfOk, Ok};
+ghost use Rattle.std.specs.Prelude.{slice_set, ◌<◌, List, Option, ℕ, ◌≡◌, ◌+◌, ◌-◌, ◌%◌, ◌≤◌, length, IfOk, Ok};
 ghost use Rattle.text.specs.Inner.Text.{Reads, ReadsAll, Ended};
 ghost use Rattle.lines.specs.Inner.Given.{Given};
 ghost use Rattle.lines.specs.Inner.Lent.{lent_of};
-ghost use Rattle.lines.specs.Inner.Prepared.{Lends, Sets, altered, alpha_of};
+ghost use Rattle.lines.specs.Inner.Prepared.{Lends, Sets, Stored, Stores, altered, alpha_of};
 
 use super::words::Preparing;
 use index::{Guard, Index, Slices};
@@ -240,24 +240,26 @@ fn set(line: &mut Numbers<'_>, index: &mut Index) -> Result<(), Differs>
 }
 
 // Writes a value to a place of an array, if it is lent.
-fn put<T: Copy>(to: &mut [T], lent: usize, place: usize, value: T) -> Result<(), Differs> {
-    match part_mut(to, lent).get_mut(place) {
-        None => Err(Differs::TooMuch),
-        Some(at) => {
-            *at = value;
-            Ok(())
-        }
+fn put<T: Copy>(to: &mut [T], lent: usize, place: usize, value: T) -> Result<(), Differs>
+    ensures { IfOk result (λ _. (place < lent) × (to.new ≡ slice_set to.old place value)) }
+{
+    if lent.min(to.len()) <= place {
+        return Err(Differs::TooMuch);
     }
+    to[place] = value;
+    Ok(())
 }
 
-// Performs a line `store`.
-fn store(line: &mut Numbers<'_>, lent: Lent, arrays: &mut Arrays<'_>) -> Result<(), Differs>
-    ensures { IfOk result (λ _. Ended line.new.rest) }
+// Writes a value to a place of the array of this number, if it is lent.
+fn store_to(
+    array: u32,
+    lent: Lent,
+    arrays: &mut Arrays<'_>,
+    place: usize,
+    value: u32,
+) -> Result<(), Differs>
+    ensures { IfOk result (λ _. Stored array place value arrays.old arrays.new) }
 {
-    let array = line.number()?;
-    let place = line.number()? as usize;
-    let value = line.number()?;
-    line.end()?;
     match array {
         0 => put(arrays.marks, lent.marks, place, small(value)?),
         1 => put(arrays.versions, lent.versions, place, small(value)?),
@@ -268,6 +270,17 @@ fn store(line: &mut Numbers<'_>, lent: Lent, arrays: &mut Arrays<'_>) -> Result<
         6 => put(arrays.summary, lent.summary, place, value),
         _ => Err(Differs::Malformed),
     }
+}
+
+// Performs a line `store`.
+fn store(line: &mut Numbers<'_>, lent: Lent, arrays: &mut Arrays<'_>) -> Result<(), Differs>
+    ensures { IfOk result (λ _. Stores line.old.rest line.new.rest arrays.old arrays.new) }
+{
+    let array = line.number()?;
+    let place = line.number()? as usize;
+    let value = line.number()?;
+    line.end()?;
+    store_to(array, lent, arrays, place, value)
 }
 
 // Performs a line that prepares a call.

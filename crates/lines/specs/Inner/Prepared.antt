@@ -1,6 +1,7 @@
 -- What lines leave that prepare a call.
 use denote.Ref.{Bor}
-use Rattle.std.specs.Prelude.{List, [], ◌∷◌, Option, None, option_map, ℕ, pos, cond, eqb, ◌≡◌, ◌≤◌, Float}
+use Rattle.lines.specs.declared.prepare.Arrays.{Arrays}
+use Rattle.std.specs.Prelude.{slice_set, List, [], ◌∷◌, Option, None, option_map, ℕ, pos, cond, eqb, ◌≡◌, ◌≤◌, Float}
 use Rattle.std.specs.Float.{binary32}
 use Rattle.std.specs.Float.Ieee.{div, of_bits, of_int}
 use Rattle.index.specs.declared.Guard.{Guard}
@@ -25,23 +26,23 @@ alpha_of n = cond (eqb n 4294967295) (of_bits binary32 0x7fc0_0000) (div binary3
 -- a guard with one of its settings altered, or the length of its pool
 abbrev pub altered : ℕ → ℕ → Guard → Guard
 altered field value guard =
-  cond (eqb field 7) (record guard { config = record guard.config { count = value } })
+    cond (eqb field 7) (record guard { config = record guard.config { count = value } })
     (cond (eqb field 8) (record guard { config = record guard.config { multiplier = value } })
-      (cond (eqb field 9) (record guard { config = record guard.config { sample = value } })
-        (cond (eqb field 10) (record guard { config = record guard.config { beam = value } })
-          (record guard { pool = value }))))
+    (cond (eqb field 9) (record guard { config = record guard.config { sample = value } })
+    (cond (eqb field 10) (record guard { config = record guard.config { beam = value } })
+    (record guard { pool = value }))))
 
 -- an index with one of its fields set
 abbrev pub with_field : ℕ → ℕ → Index → Index
 with_field field value index =
-  cond (eqb field 0) (record index { dim = value })
+    cond (eqb field 0) (record index { dim = value })
     (cond (eqb field 1) (record index { capacity = value })
-      (cond (eqb field 2) (record index { degree = value })
-        (cond (eqb field 3) (record index { alpha = alpha_of value })
-          (cond (eqb field 4) (record index { entry = value })
-            (cond (eqb field 5) (record index { live = value })
-              (cond (eqb field 6) (record index { guard = None })
-                (record index { guard = option_map (altered field value) index.guard })))))))
+    (cond (eqb field 2) (record index { degree = value })
+    (cond (eqb field 3) (record index { alpha = alpha_of value })
+    (cond (eqb field 4) (record index { entry = value })
+    (cond (eqb field 5) (record index { live = value })
+    (cond (eqb field 6) (record index { guard = None })
+    (record index { guard = option_map (altered field value) index.guard })))))))
 
 -- the number of a field and its value were read next of a line, which ends behind them, and the index has that value there
 pub record Sets (old new : Option (Bor (List ℕ))) (before after : Index) : Type 0 where
@@ -53,3 +54,27 @@ pub record Sets (old new : Option (Bor (List ℕ))) (before after : Index) : Typ
   pub ended : Ended new
   pub known : field ≤ 11
   pub set : after ≡ with_field field value before
+
+-- an array: with a value at a place, if it is the one that is stored to
+abbrev pub stored : ℕ → ℕ → ℕ → ℕ → List ℕ → List ℕ
+stored which array place value words = cond (eqb array which) (slice_set words place value) words
+
+-- a value was stored to a place of the array of that number
+pub record Stored (array place value : ℕ) (before after : Arrays) : Type 0 where
+  pub known : array ≤ 6
+  pub marks : after.marks.now ≡ stored 0 array place value before.marks.now
+  pub versions : after.versions.now ≡ stored 1 array place value before.versions.now
+  pub targets : after.targets.now ≡ stored 2 array place value before.targets.now
+  pub edges : after.edges.now ≡ stored 3 array place value before.edges.now
+  pub vectors : after.vectors.now ≡ stored 4 array place value before.vectors.now
+  pub numbers : after.numbers.now ≡ stored 5 array place value before.numbers.now
+  pub summary : after.summary.now ≡ stored 6 array place value before.summary.now
+
+-- the number of an array, a place and a value were read next of a line, which ends behind them, and the value is stored there
+pub record Stores (old new : Option (Bor (List ℕ))) (before after : Arrays) : Type 0 where
+  pub array : ℕ
+  pub place : ℕ
+  pub value : ℕ
+  pub reads : ReadsAll old new (array ∷ place ∷ value ∷ [])
+  pub ended : Ended new
+  pub stores : Stored array place value before after
