@@ -1,6 +1,6 @@
 -- Numbers that are read into an array: before the first, and one more.
 use denote.Ref.{Bor}
-use Rattle.std.proofs.Common.{List, Option, ℕ, ◌≡◌, ◌<◌, ◌+◌, length, take, set, sym, ◌∙◌, refl, arith}
+use Rattle.std.proofs.Common.{◌∷◌, [], List, Option, ℕ, ◌≡◌, ◌<◌, ◌+◌, length, take, set, sym, ◌∙◌, refl, arith}
 use mathlib.Core.Path.{subst}
 use Rattle.std.specs.List.{FoldsTo}
 use Rattle.std.proofs.lemmas.Fn.{FoldsTo-push}
@@ -27,3 +27,12 @@ pub reads_more : (old left rest : Option (Bor (List ℕ))) (i : ℕ) (numbers : 
 reads_more old left rest i numbers number read inside reads =
     let R = λ (from : Option (Bor (List ℕ))) (n : ℕ) (to : Option (Bor (List ℕ))). Reads from to n in
     subst (λ (ns : List ℕ). FoldsTo R old ns rest) (sym (take_more_set numbers i number inside)) (FoldsTo-push R old (take i numbers) left number rest read reads)
+
+module _ {A : Type 0} {gives gives′ : ℕ → A → Type 0} (more : (number : ℕ) (word : A) → gives number word → gives′ number word) where
+  reads_weaker : (old : Option (Bor (List ℕ))) (words : List A) (new : Option (Bor (List ℕ))) → FoldsTo (λ left word rest. (number : ℕ) × Reads left rest number × gives number word) old words new → FoldsTo (λ left word rest. (number : ℕ) × Reads left rest number × gives′ number word) old words new
+  reads_weaker old [] new same = same
+  reads_weaker old (word ∷ words) new (left, (number, reads, is), rest) = (left, (number, reads, more number word is), reads_weaker left words new rest)
+
+  -- what is read gives words in another way too, if each number does
+  pub given_weaker : (old new : Option (Bor (List ℕ))) (n : ℕ) (before after : List A) → Given gives old new n before after → Given gives′ old new n before after
+  given_weaker old new n before after given = record { room = given.room; reads = reads_weaker old (take n after) new given.reads; behind = given.behind }

@@ -4,7 +4,7 @@ ghost use Rattle.std.specs.Prelude.{slice_set, ◌<◌, List, Option, ℕ, ◌�
 ghost use Rattle.text.specs.Inner.Text.{Reads, ReadsAll, Ended};
 ghost use Rattle.lines.specs.Inner.Given.{Given};
 ghost use Rattle.lines.specs.Inner.Lent.{lent_of};
-ghost use Rattle.lines.specs.Inner.Prepared.{Lends, Sets, Stored, Stores, altered, alpha_of};
+ghost use Rattle.lines.specs.Inner.Prepared.{Lends, Prepared, Sets, Stored, Stores, altered, alpha_of};
 
 use super::words::Preparing;
 use index::{Guard, Index, Slices};
@@ -290,7 +290,7 @@ pub fn perform(
     state: &mut State,
     arrays: &mut Arrays<'_>,
 ) -> Result<(), Differs>
-    ensures { IfOk result (λ _. Ended line.new.rest) }
+    ensures { IfOk result (λ _. Prepared what line.old.rest line.new.rest state.old state.new arrays.old arrays.new) }
 {
     match what {
         Preparing::Lend => lend(line, &mut state.lent),

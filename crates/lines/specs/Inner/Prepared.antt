@@ -1,12 +1,15 @@
 -- What lines leave that prepare a call.
 use denote.Ref.{Bor}
 use Rattle.lines.specs.declared.prepare.Arrays.{Arrays}
-use Rattle.std.specs.Prelude.{slice_set, List, [], ◌∷◌, Option, None, option_map, ℕ, pos, cond, eqb, ◌≡◌, ◌≤◌, Float}
+use Rattle.lines.specs.declared.prepare.State.{State}
+use Rattle.lines.specs.declared.words.Preparing.{Preparing}
+use Rattle.lines.specs.Inner.Given.{Given}
+use Rattle.std.specs.Prelude.{◌+◌, ◌-◌, ◌%◌, slice_set, List, [], ◌∷◌, Option, None, option_map, ℕ, pos, cond, eqb, ◌≡◌, ◌≤◌, Float}
 use Rattle.std.specs.Float.{binary32}
 use Rattle.std.specs.Float.Ieee.{div, of_bits, of_int}
 use Rattle.index.specs.declared.Guard.{Guard}
 use Rattle.index.specs.declared.Index.{Index}
-use Rattle.text.specs.Inner.Text.{ReadsAll, Asks, Ended}
+use Rattle.text.specs.Inner.Text.{Reads, ReadsAll, Asks, Ended}
 use Rattle.lines.specs.declared.prepare.Lent.{Lent}
 
 -- the lengths that a line `lend` has
@@ -78,3 +81,16 @@ pub record Stores (old new : Option (Bor (List ℕ))) (before after : Arrays) : 
   pub reads : ReadsAll old new (array ∷ place ∷ value ∷ [])
   pub ended : Ended new
   pub stores : Stored array place value before after
+
+-- n was read next of a line, which ends behind n more numbers; each of these was `more` than a word at the start of an array
+abbrev pub Gives : ℕ → Option (Bor (List ℕ)) → Option (Bor (List ℕ)) → ℕ → List ℕ → List ℕ → Type 0
+Gives more old new n before after = (left : Option (Bor (List ℕ))) × Reads old left n × Given (λ number word. word ≡ (number + 4294967296 - more) % 4294967296) left new n before after × Ended new
+
+-- what a line leaves of the index, what is lent and the arrays
+abbrev pub Prepared : Preparing → Option (Bor (List ℕ)) → Option (Bor (List ℕ)) → State → State → Arrays → Arrays → Type 0
+Prepared Preparing.Lend old new s s′ a a′ = Lends old new s.lent s′.lent × (s′.index ≡ s.index)
+Prepared Preparing.Give old new s s′ a a′ = Gives 0 old new s′.lent.given a.given.now a′.given.now × (s′.index ≡ s.index)
+Prepared Preparing.Rows old new s s′ a a′ = Gives 1 old new s′.lent.rows a.rows.now a′.rows.now × (s′.index ≡ s.index)
+Prepared Preparing.Numbers old new s s′ a a′ = Gives 0 old new s′.lent.figures a.figures.now a′.figures.now × (s′.index ≡ s.index)
+Prepared Preparing.Set old new s s′ a a′ = Sets old new s.index s′.index × (s′.lent ≡ s.lent)
+Prepared Preparing.Store old new s s′ a a′ = Stores old new a a′ × (s′ ≡ s)
