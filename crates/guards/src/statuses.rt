@@ -1,7 +1,7 @@
 // Lines `status`, and the numbers of a status.
 ghost use Rattle.std.specs.Prelude.{IfOk};
 ghost use Rattle.text.specs.Inner.Text.{ReadsAll};
-ghost use Rattle.guards.specs.Inner.Answers.{status_numbers};
+ghost use Rattle.guards.specs.Inner.Answers.{StatusRead, status_numbers};
 
 use guarding::Status;
 use lines::answers::expect_done;
@@ -16,7 +16,9 @@ pub fn expect_status(line: &mut Numbers<'_>, s: Status) -> Result<(), Differs>
 }
 
 // Performs a line `status`.
-pub fn status(line: &mut Numbers<'_>, state: State, arrays: &Arrays<'_>) -> Result<(), Differs> {
+pub fn status(line: &mut Numbers<'_>, state: State, arrays: &Arrays<'_>) -> Result<(), Differs>
+    ensures { IfOk result (λ _. StatusRead line.old.rest line.new.rest) }
+{
     let standing = guarding::guard_status(state.index, &arrays.slices(state.lent));
     let Some(s) = expect_done(line, standing)? else {
         return Ok(());
