@@ -1,4 +1,8 @@
 // Lines `delete`.
+ghost use Rattle.std.specs.Prelude.{◌≡◌, IfOk};
+ghost use Rattle.text.specs.Inner.Text.{Reads};
+ghost use Rattle.changes.specs.Inner.Deletes.{number_of, Asked, Emptied};
+
 use deletion::stats_place;
 use index::{DeleteSlices, Refusal};
 use lines::answers::expect_done;
@@ -7,7 +11,9 @@ use text::{Differs, Numbers};
 use updating::{Changed, Deleting, Naming};
 
 // What the names of a delete are.
-fn naming(line: &mut Numbers<'_>) -> Result<Naming, Differs> {
+fn naming(line: &mut Numbers<'_>) -> Result<Naming, Differs>
+    ensures { IfOk result (λ naming. Reads line.old.rest line.new.rest (number_of naming)) }
+{
     match line.number()? {
         0 => Ok(Naming::Slots),
         1 => Ok(Naming::Numbers),
@@ -16,7 +22,9 @@ fn naming(line: &mut Numbers<'_>) -> Result<Naming, Differs> {
 }
 
 // What a delete of these names asks for.
-pub fn asked<'a>(line: &mut Numbers<'_>, names: &'a [u32]) -> Result<Deleting<'a>, Differs> {
+pub fn asked<'a>(line: &mut Numbers<'_>, names: &'a [u32]) -> Result<Deleting<'a>, Differs>
+    ensures { IfOk result (λ asked. (asked.names ≡ names.entry) × Asked line.old.rest line.new.rest asked.naming asked.repair_beam asked.repair_degree) }
+{
     let naming = naming(line)?;
     Ok(Deleting {
         names,
@@ -32,7 +40,9 @@ pub fn expect_emptied(
     n: u32,
     capacity: u32,
     scratch: &[u32],
-) -> Result<(), Differs> {
+) -> Result<(), Differs>
+    ensures { IfOk result (λ _. Emptied line.old.rest line.new.rest n capacity scratch.now) }
+{
     line.expect(n)?;
     let stats = scratch
         .get(stats_place(capacity)..)
@@ -46,7 +56,9 @@ fn expect_deleted(
     state: &mut State,
     deleted: Result<Changed, Refusal>,
     scratch: &[u32],
-) -> Result<(), Differs> {
+) -> Result<(), Differs>
+    ensures { state.new.lent ≡ state.old.lent }
+{
     if let Ok(changed) = deleted {
         state.index = changed.index;
     }
@@ -62,7 +74,9 @@ pub fn delete(
     state: &mut State,
     arrays: &mut Arrays<'_>,
     scratch: &mut [u32],
-) -> Result<(), Differs> {
+) -> Result<(), Differs>
+    ensures { state.new.lent ≡ state.old.lent }
+{
     let lent = state.lent;
     let asked = asked(line, part_mut(arrays.rows, lent.rows))?;
     // Not by a method of the arrays: the borrow checker does not cover one that gives a struct of parts of its `&mut` fields.

@@ -1,4 +1,6 @@
 // Lines `insert`.
+ghost use Rattle.std.specs.Prelude.{◌≡◌};
+
 use index::{InsertSlices, Refusal};
 use lines::answers::expect_done;
 use lines::prepare::{Arrays, State, part_mut};
@@ -11,7 +13,9 @@ fn expect_inserted(
     state: &mut State,
     inserted: Result<Changed, Refusal>,
     slots: &[u32],
-) -> Result<(), Differs> {
+) -> Result<(), Differs>
+    ensures { state.new.lent ≡ state.old.lent }
+{
     if let Ok(changed) = inserted {
         state.index = changed.index;
     }
@@ -28,7 +32,9 @@ pub fn insert(
     state: &mut State,
     arrays: &mut Arrays<'_>,
     scratch: &mut [u32],
-) -> Result<(), Differs> {
+) -> Result<(), Differs>
+    ensures { state.new.lent ≡ state.old.lent }
+{
     let mut slots = [0u32; 1024];
     let lent = state.lent;
     let asked = Inserting {

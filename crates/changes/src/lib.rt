@@ -1,6 +1,9 @@
 // The lines of calls that make or change an index, each compared with the stored answer.
 #![tactic(auto)]
 
+ghost use Rattle.std.specs.Prelude.{◌≡◌, IfOk};
+ghost use Rattle.text.specs.Inner.Text.{Ended};
+
 mod deleting;
 mod inserting;
 mod making;
@@ -20,7 +23,10 @@ pub fn perform(
     state: &mut State,
     arrays: &mut Arrays<'_>,
     scratch: &mut [u32],
-) -> Result<(), Differs> {
+) -> Result<(), Differs>
+    ensures lent { state.new.lent ≡ state.old.lent }
+    ensures read { IfOk result (λ _. Ended line.new.rest) }
+{
     match what {
         Changing::Make => make(line, state, arrays)?,
         Changing::Insert => insert(line, state, arrays, scratch)?,

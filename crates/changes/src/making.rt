@@ -1,4 +1,6 @@
 // Lines `make`.
+ghost use Rattle.std.specs.Prelude.{◌≡◌};
+
 use index::{Making, NewSlices};
 use lines::answers::expect_done;
 use lines::prepare::{Arrays, State, alpha_of, part_mut};
@@ -9,7 +11,9 @@ pub fn make(
     line: &mut Numbers<'_>,
     state: &mut State,
     arrays: &mut Arrays<'_>,
-) -> Result<(), Differs> {
+) -> Result<(), Differs>
+    ensures { state.new.lent ≡ state.old.lent }
+{
     let lent = state.lent;
     let given = Making {
         dim: line.argument(),

@@ -1,4 +1,9 @@
 // Lines `assess`.
+ghost use Rattle.std.specs.Prelude.{List, ℕ, Result, IfOk};
+ghost use Rattle.index.specs.declared.Refusal.{Refusal};
+ghost use Rattle.admission.specs.declared.report.Report.{Report};
+ghost use Rattle.guards.specs.Inner.Answers.{Answered, Reported};
+
 use super::reports::expect_report;
 use admission::{Lists, Report};
 use index::Refusal;
@@ -12,7 +17,9 @@ fn expect_assessed(
     assessed: Result<Report, Refusal>,
     checked: &[u32],
     lost: &[u32],
-) -> Result<(), Differs> {
+) -> Result<(), Differs>
+    ensures { IfOk result (λ _. Answered (λ left rest report. Reported left rest report checked.now lost.now) line.old.rest line.new.rest assessed) }
+{
     let Some(report) = expect_done(line, assessed)? else {
         return Ok(());
     };
@@ -25,7 +32,9 @@ pub fn assess(
     state: State,
     arrays: &Arrays<'_>,
     scratch: &mut [u32],
-) -> Result<(), Differs> {
+) -> Result<(), Differs>
+    ensures { IfOk result (λ _. (checked : List ℕ) × (lost : List ℕ) × (assessed : Result Report Refusal) × Answered (λ left rest report. Reported left rest report checked lost) line.old.rest line.new.rest assessed) }
+{
     let mut checked = [0u32; 1024];
     let mut lost = [0u32; 1024];
     let lent = state.lent;

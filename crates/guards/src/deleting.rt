@@ -1,4 +1,6 @@
 // Lines `guarded`.
+ghost use Rattle.std.specs.Prelude.{◌≡◌};
+
 use super::reports::expect_report;
 use admission::Lists;
 use changes::{asked, expect_emptied};
@@ -16,7 +18,9 @@ fn expect_guarded(
     checked: &[u32],
     lost: &[u32],
     scratch: &[u32],
-) -> Result<(), Differs> {
+) -> Result<(), Differs>
+    ensures { state.new.lent ≡ state.old.lent }
+{
     if let Ok(Guarded::Applied(changed, _)) = guarded {
         state.index = changed.index;
     }
@@ -36,7 +40,9 @@ pub fn delete(
     state: &mut State,
     arrays: &mut Arrays<'_>,
     scratch: &mut [u32],
-) -> Result<(), Differs> {
+) -> Result<(), Differs>
+    ensures { state.new.lent ≡ state.old.lent }
+{
     let mut checked = [0u32; 1024];
     let mut lost = [0u32; 1024];
     let lent = state.lent;

@@ -1,4 +1,6 @@
 // Lines `enable`.
+ghost use Rattle.std.specs.Prelude.{◌≡◌};
+
 use super::statuses::expect_status;
 use guard::Config;
 use guarding::Enabled;
@@ -13,7 +15,9 @@ fn expect_enabled(
     state: &mut State,
     enabled: Result<Enabled, Refusal>,
     pool: &[u32],
-) -> Result<(), Differs> {
+) -> Result<(), Differs>
+    ensures { state.new.lent ≡ state.old.lent }
+{
     if let Ok(enabled) = enabled {
         state.index = enabled.index;
     }
@@ -31,7 +35,9 @@ pub fn enable(
     state: &mut State,
     arrays: &mut Arrays<'_>,
     scratch: &mut [u32],
-) -> Result<(), Differs> {
+) -> Result<(), Differs>
+    ensures { state.new.lent ≡ state.old.lent }
+{
     let config = Config {
         count: line.argument(),
         multiplier: line.argument(),

@@ -1,6 +1,9 @@
 // The lines of the guard's calls, each compared with the stored answer.
 #![tactic(auto)]
 
+ghost use Rattle.std.specs.Prelude.{◌≡◌, IfOk};
+ghost use Rattle.text.specs.Inner.Text.{Ended};
+
 mod assessing;
 mod deleting;
 mod enabling;
@@ -22,7 +25,10 @@ pub fn perform(
     state: &mut State,
     arrays: &mut Arrays<'_>,
     scratch: &mut [u32],
-) -> Result<(), Differs> {
+) -> Result<(), Differs>
+    ensures lent { state.new.lent ≡ state.old.lent }
+    ensures read { IfOk result (λ _. Ended line.new.rest) }
+{
     match what {
         Guarding::Enable => enable(line, state, arrays, scratch)?,
         Guarding::Status => status(line, *state, arrays)?,

@@ -1,4 +1,7 @@
 // The numbers and the lists of a report.
+ghost use Rattle.std.specs.Prelude.{IfOk};
+ghost use Rattle.guards.specs.Inner.Answers.{Reported};
+
 use admission::Report;
 use slots::rows::BLANK;
 use text::{Differs, Numbers};
@@ -9,7 +12,9 @@ pub fn expect_report(
     r: Report,
     checked: &[u32],
     lost: &[u32],
-) -> Result<(), Differs> {
+) -> Result<(), Differs>
+    ensures { IfOk result (λ _. Reported line.old.rest line.new.rest r checked.now lost.now) }
+{
     line.expect_all(&[
         u32::from(r.admitted),
         r.requested,

@@ -1,5 +1,7 @@
 // The status that an answer begins with.
 ghost use Rattle.std.specs.Prelude.{◌≡◌, None, Some, IfOk, MatchResult};
+ghost use Rattle.index.specs.Refusal.{number_of};
+ghost use Rattle.text.specs.Inner.Text.{Reads};
 
 use index::Refusal;
 use text::{Differs, Numbers};
@@ -9,7 +11,9 @@ pub fn expect_done<T: Copy>(
     line: &mut Numbers<'_>,
     answer: Result<T, Refusal>,
 ) -> Result<Option<T>, Differs>
-    ensures { MatchResult answer (λ x. IfOk result (λ given. given ≡ Some x)) (λ _. IfOk result (λ given. given ≡ None)) }
+    ensures { MatchResult answer
+        (λ x. IfOk result (λ given. (given ≡ Some x) × Reads line.old.rest line.new.rest 0))
+        (λ refusal. IfOk result (λ given. (given ≡ None) × Reads line.old.rest line.new.rest (number_of refusal))) }
 {
     match answer {
         Err(r) => {

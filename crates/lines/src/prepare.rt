@@ -1,5 +1,10 @@
 // Lines that prepare calls: what is lent and given, and what is altered by hand.
-ghost use Rattle.std.specs.Prelude.{◌≡◌, ◌≤◌, length, take, min};
+ghost use denote.Ref.{Bor};
+ghost use Rattle.std.specs.Prelude.{slice_set, ◌<◌, List, Option, ℕ, ◌≡◌, ◌+◌, ◌-◌, ◌%◌, ◌≤◌, length, IfOk, Ok};
+ghost use Rattle.text.specs.Inner.Text.{Reads, ReadsAll, Ended};
+ghost use Rattle.lines.specs.Inner.Given.{Given};
+ghost use Rattle.lines.specs.Inner.Lent.{lent_of};
+ghost use Rattle.lines.specs.Inner.Prepared.{Lends, Prepared, Sets, Stored, Stores, altered, alpha_of};
 
 use super::words::Preparing;
 use index::{Guard, Index, Slices};
@@ -55,8 +60,14 @@ pub struct Arrays<'a> {
 }
 
 impl Arrays<'_> {
+    ghost use Rattle.std.specs.Prelude.{◌≡◌};
+    ghost use Rattle.lines.specs.Inner.Lent.{lent_of};
+
     // What is lent of an index that is read.
-    pub fn slices(&self, lent: Lent) -> Slices<'_> {
+    pub fn slices(&self, lent: Lent) -> Slices<'_>
+        ensures graph { (result.vectors.now ≡ lent_of lent.vectors self.now.vectors.now) × (result.targets.now ≡ lent_of lent.targets self.now.targets.now) × (result.edges.now ≡ lent_of lent.edges self.now.edges.now) × (result.versions.now ≡ lent_of lent.versions self.now.versions.now) × (result.marks.now ≡ lent_of lent.marks self.now.marks.now) }
+        ensures beside { (result.pool.now ≡ lent_of lent.pool self.now.pool.now) × (result.numbers.now ≡ lent_of lent.numbers self.now.numbers.now) × (result.summary.now ≡ lent_of lent.summary self.now.summary.now) }
+    {
         Slices {
             vectors: part(self.vectors, lent.vectors),
             targets: part(self.targets, lent.targets),
@@ -72,21 +83,23 @@ impl Arrays<'_> {
 
 // What is lent of an array.
 pub fn part<T>(of: &[T], lent: usize) -> &[T]
-    ensures { (result.now ≡ take (min lent (length of.now)) of.now) × (length result.now ≤ length of.now) }
+    ensures { (result.now ≡ lent_of lent of.now) × (length result.now ≤ length of.now) }
 {
     &of[..lent.min(of.len())]
 }
 
 // The same of one that is written, or goes into a struct with ones that are.
 pub fn part_mut<T>(of: &mut [T], lent: usize) -> &mut [T]
-    ensures { (result.now ≡ take (min lent (length of.old)) of.old) × (length result.now ≤ length of.old) }
+    ensures { (result.now ≡ lent_of lent of.old) × (length result.now ≤ length of.old) }
 {
     let n = lent.min(of.len());
     &mut of[..n]
 }
 
 // Reads lengths. One that asks for too much, or 0 where there is none, stands for those behind it too.
-fn lengths(line: &mut Numbers<'_>, to: &mut [usize; 12]) -> Result<(), Differs> {
+fn lengths(line: &mut Numbers<'_>, to: &mut [usize; 12]) -> Result<(), Differs>
+    ensures { IfOk result (λ _. ReadsAll line.old.rest line.new.rest to.new) }
+{
     for (i, most) in MOST.iter().enumerate() {
         let n = line.number()?;
         if *most < n {
@@ -99,7 +112,9 @@ fn lengths(line: &mut Numbers<'_>, to: &mut [usize; 12]) -> Result<(), Differs> 
 }
 
 // Performs a line `lend`.
-fn lend(line: &mut Numbers<'_>, lent: &mut Lent) -> Result<(), Differs> {
+fn lend(line: &mut Numbers<'_>, lent: &mut Lent) -> Result<(), Differs>
+    ensures { IfOk result (λ _. Lends line.old.rest line.new.rest lent.old lent.new) }
+{
     let mut all = [0usize; 12];
     let read = lengths(line, &mut all);
     let [
@@ -145,10 +160,15 @@ pub fn words<T: TryFrom<u32> + Copy>(
 ) -> Result<(), Differs>
 where
     <T as TryFrom<u32>>::Error: Drop,
+    ensures { IfOk result (λ _. Given (λ number word. T.try_from_gives ((number + 4294967296 - more) % 4294967296) (Ok word)) line.old.rest line.new.rest n to.old to.new) }
 {
     for i in 0..n {
         let word = small(line.number()?.wrapping_sub(more))?;
-        *to.get_mut(i).ok_or(Differs::TooMuch)? = word;
+        // Not by `get_mut`: of a slice's the check knows the length and no element.
+        if to.len() <= i {
+            return Err(Differs::TooMuch);
+        }
+        to[i] = word;
     }
     Ok(())
 }
@@ -162,6 +182,7 @@ fn give<T: TryFrom<u32> + Copy>(
 ) -> Result<(), Differs>
 where
     <T as TryFrom<u32>>::Error: Drop,
+    ensures { IfOk result (λ _. (left : Option (Bor (List ℕ))) × Reads line.old.rest left count.new × Given (λ number word. T.try_from_gives ((number + 4294967296 - more) % 4294967296) (Ok word)) left line.new.rest count.new given.old given.new × Ended line.new.rest) }
 {
     let n = line.argument() as usize;
     *count = n;
@@ -170,7 +191,9 @@ where
 }
 
 // Alpha from its multiple of 2^24. It is any u32: `as f32` takes only what an f32 holds exactly.
-pub fn alpha_of(n: u32) -> f32 {
+pub fn alpha_of(n: u32) -> f32
+    ensures { result ≡ alpha_of n }
+{
     if n == u32::MAX {
         return f32::NAN;
     }
@@ -178,7 +201,9 @@ pub fn alpha_of(n: u32) -> f32 {
 }
 
 // Alters one setting of a guard, or the length of its pool. Its field is a number, as the list writes it.
-fn alter(guard: &mut Guard, field: u32, value: u32) {
+fn alter(guard: &mut Guard, field: u32, value: u32)
+    ensures { guard.new ≡ altered field value guard.old }
+{
     match field {
         7 => guard.config.count = value,
         8 => guard.config.multiplier = value,
@@ -189,7 +214,9 @@ fn alter(guard: &mut Guard, field: u32, value: u32) {
 }
 
 // Performs a line `set`. What alters the guard changes nothing where it is off; a field over 11 alters what 11 does, and the line differs.
-fn set(line: &mut Numbers<'_>, index: &mut Index) -> Result<(), Differs> {
+fn set(line: &mut Numbers<'_>, index: &mut Index) -> Result<(), Differs>
+    ensures { IfOk result (λ _. Sets line.old.rest line.new.rest index.old index.new) }
+{
     let field = line.argument();
     let value = line.argument();
     match field {
@@ -213,22 +240,26 @@ fn set(line: &mut Numbers<'_>, index: &mut Index) -> Result<(), Differs> {
 }
 
 // Writes a value to a place of an array, if it is lent.
-fn put<T: Copy>(to: &mut [T], lent: usize, place: usize, value: T) -> Result<(), Differs> {
-    match part_mut(to, lent).get_mut(place) {
-        None => Err(Differs::TooMuch),
-        Some(at) => {
-            *at = value;
-            Ok(())
-        }
+fn put<T: Copy>(to: &mut [T], lent: usize, place: usize, value: T) -> Result<(), Differs>
+    ensures { IfOk result (λ _. (place < lent) × (to.new ≡ slice_set to.old place value)) }
+{
+    if lent.min(to.len()) <= place {
+        return Err(Differs::TooMuch);
     }
+    to[place] = value;
+    Ok(())
 }
 
-// Performs a line `store`.
-fn store(line: &mut Numbers<'_>, lent: Lent, arrays: &mut Arrays<'_>) -> Result<(), Differs> {
-    let array = line.number()?;
-    let place = line.number()? as usize;
-    let value = line.number()?;
-    line.end()?;
+// Writes a value to a place of the array of this number, if it is lent.
+fn store_to(
+    array: u32,
+    lent: Lent,
+    arrays: &mut Arrays<'_>,
+    place: usize,
+    value: u32,
+) -> Result<(), Differs>
+    ensures { IfOk result (λ _. Stored array place value arrays.old arrays.new) }
+{
     match array {
         0 => put(arrays.marks, lent.marks, place, small(value)?),
         1 => put(arrays.versions, lent.versions, place, small(value)?),
@@ -241,13 +272,26 @@ fn store(line: &mut Numbers<'_>, lent: Lent, arrays: &mut Arrays<'_>) -> Result<
     }
 }
 
+// Performs a line `store`.
+fn store(line: &mut Numbers<'_>, lent: Lent, arrays: &mut Arrays<'_>) -> Result<(), Differs>
+    ensures { IfOk result (λ _. Stores line.old.rest line.new.rest arrays.old arrays.new) }
+{
+    let array = line.number()?;
+    let place = line.number()? as usize;
+    let value = line.number()?;
+    line.end()?;
+    store_to(array, lent, arrays, place, value)
+}
+
 // Performs a line that prepares a call.
 pub fn perform(
     what: Preparing,
     line: &mut Numbers<'_>,
     state: &mut State,
     arrays: &mut Arrays<'_>,
-) -> Result<(), Differs> {
+) -> Result<(), Differs>
+    ensures { IfOk result (λ _. Prepared what line.old.rest line.new.rest state.old state.new arrays.old arrays.new) }
+{
     match what {
         Preparing::Lend => lend(line, &mut state.lent),
         Preparing::Give => give(line, &mut state.lent.given, 0, arrays.given),

@@ -1,4 +1,7 @@
 // The word that a line begins with.
+ghost use Rattle.std.specs.Prelude.{◌≡◌, ◌++◌, IfOk, IsSomeAnd};
+ghost use Rattle.lines.specs.Inner.Words.{word_of};
+
 use text::{Differs, Numbers};
 
 // What prepares calls.
@@ -48,7 +51,9 @@ pub enum Call {
 }
 
 // What a word asks for.
-fn call_of(word: &[u8]) -> Result<Call, Differs> {
+fn call_of(word: &[u8]) -> Result<Call, Differs>
+    ensures { IfOk result (λ call. word.now ≡ word_of call) }
+{
     let call = match word {
         b"lend" => Call::Prepare(Preparing::Lend),
         b"give" => Call::Prepare(Preparing::Give),
@@ -73,7 +78,9 @@ fn call_of(word: &[u8]) -> Result<Call, Differs> {
 }
 
 // What a line asks for, and its numbers.
-pub fn parted(line: &[u8]) -> Result<(Call, Numbers<'_>), Differs> {
+pub fn parted(line: &[u8]) -> Result<(Call, Numbers<'_>), Differs>
+    ensures { IfOk result (λ parts. IsSomeAnd parts.1.rest (λ rest. line.now ≡ word_of parts.0 ++ rest.now)) }
+{
     let end = line.iter().position(|byte| *byte == b' ');
     let (word, numbers) = line.split_at(end.ok_or(Differs::Malformed)?);
     Ok((call_of(word)?, Numbers::of(numbers)))

@@ -1,6 +1,9 @@
 // The lines of calls that leave an index as it is, each compared with the stored answer.
 #![tactic(auto)]
 
+ghost use Rattle.std.specs.Prelude.{IfOk};
+ghost use Rattle.text.specs.Inner.Text.{Ended};
+
 use index::{Index, Refusal, Slices};
 use lines::answers::expect_done;
 use lines::prepare::{Arrays, State, alpha_of, part, part_mut, words};
@@ -165,7 +168,9 @@ pub fn perform(
     state: State,
     arrays: &Arrays<'_>,
     scratch: &mut [u32],
-) -> Result<(), Differs> {
+) -> Result<(), Differs>
+    ensures { IfOk result (λ _. Ended line.new.rest) }
+{
     let slices = arrays.slices(state.lent);
     match what {
         Looking::Read => read(line, state.index, &slices)?,

@@ -1,9 +1,10 @@
 // The numbers of a line of text, read from the left and compared with answers.
 #![tactic(auto)]
 
-ghost use Rattle.std.specs.Prelude.{◌≡◌, ◌≢◌, ◌++◌, [], slice_index, None, MatchResult, IfOk, IfSome, IsSomeAnd};
+ghost use Rattle.std.specs.Prelude.{◌≡◌, ◌≢◌, ◌≤◌, ◌++◌, length, slice_index, take, None, Ok, MatchResult, IfOk, IfSome, IsSomeAnd};
 ghost use Rattle.std.specs.Str.Parse.{IsNumeral, digits_value};
-ghost use Rattle.text.specs.Inner.Text.{Digit, Reads};
+ghost use Rattle.text.specs.declared.Differs.TheVariants.{Malformed};
+ghost use Rattle.text.specs.Inner.Text.{Digit, Reads, ReadsAll, Asks, Ended};
 
 // How a line differs: it is malformed, it asks for more than there is room for, or its answer is another one.
 #[derive(Clone, Copy, PartialEq, Eq, Debug)]
@@ -33,6 +34,7 @@ fn value(digits: &[u8]) -> Option<u32>
 pub fn small<T: TryFrom<u32>>(n: u32) -> Result<T, Differs>
 where
     <T as TryFrom<u32>>::Error: Drop,
+    ensures { MatchResult result (λ word. T.try_from_gives n (Ok word)) (λ difference. difference ≡ Malformed) }
 {
     T::try_from(n).map_err(|_| Differs::Malformed)
 }
@@ -65,7 +67,7 @@ impl<'a> Numbers<'a> {
 
     // The next number as what a call is given: 0 where there is none, and nothing can be read behind it.
     pub fn argument(&mut self) -> u32
-        ensures { IfSome self.new.rest (λ _. Reads self.old.rest self.new.rest result) }
+        ensures { Asks self.old.rest self.new.rest result }
     {
         self.number().unwrap_or(0)
     }
@@ -81,7 +83,9 @@ impl<'a> Numbers<'a> {
     }
 
     // Passes numbers that are to be these answers.
-    pub fn expect_all(&mut self, answers: &[u32]) -> Result<(), Differs> {
+    pub fn expect_all(&mut self, answers: &[u32]) -> Result<(), Differs>
+        ensures { IfOk result (λ _. ReadsAll self.old.rest self.new.rest answers.now) }
+    {
         for answer in answers {
             self.expect(*answer)?;
         }
@@ -89,13 +93,15 @@ impl<'a> Numbers<'a> {
     }
 
     // Passes n numbers, which are to be the first n of these answers.
-    pub fn expect_first(&mut self, n: usize, answers: &[u32]) -> Result<(), Differs> {
+    pub fn expect_first(&mut self, n: usize, answers: &[u32]) -> Result<(), Differs>
+        ensures { IfOk result (λ _. (n ≤ length answers.now) × ReadsAll self.old.rest self.new.rest (take n answers.now)) }
+    {
         self.expect_all(answers.get(..n).ok_or(Differs::Answer)?)
     }
 
     // Whether every number was read.
     pub fn end(&self) -> Result<(), Differs>
-        ensures { IfOk result (λ _. IsSomeAnd self.now.rest (λ rest. rest.now ≡ [])) }
+        ensures { IfOk result (λ _. Ended self.now.rest) }
     {
         if self.rest == Some(b"") {
             return Ok(());

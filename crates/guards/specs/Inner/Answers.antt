@@ -1,0 +1,34 @@
+-- The numbers of a status and of a report.
+use denote.Ref.{Bor}
+use Rattle.std.specs.Prelude.{List, [], ◌∷◌, Option, Result, MatchResult, ℕ, ◌≤◌, length, take, unwrap_or}
+use Rattle.std.specs.Int.{from_bool}
+use Rattle.slots.specs.Store.{blank}
+use Rattle.admission.specs.declared.report.Report.{Report}
+use Rattle.guarding.specs.declared.Status.{Status}
+use Rattle.index.specs.Refusal.{number_of}
+use Rattle.index.specs.declared.Refusal.{Refusal}
+use Rattle.text.specs.Inner.Text.{Reads, ReadsAll}
+
+-- the five numbers of a status
+abbrev pub status_numbers : Status → List ℕ
+status_numbers s = from_bool s.enabled ∷ s.pool ∷ s.live ∷ s.count ∷ s.beam ∷ []
+
+-- the eight numbers of a report, blank for no entry
+abbrev pub report_numbers : Report → List ℕ
+report_numbers r = from_bool r.admitted ∷ r.requested ∷ unwrap_or r.entry blank ∷ r.checked ∷ r.baseline ∷ r.residual ∷ r.lost ∷ r.supplemental ∷ []
+
+-- the numbers of a report were read next of a line, and then the landmarks checked and those lost
+pub record Reported (old new : Option (Bor (List ℕ))) (report : Report) (checked lost : List ℕ) : Type 0 where
+  pub counted : Option (Bor (List ℕ))
+  pub numbers : ReadsAll old counted (report_numbers report)
+  pub listed : Option (Bor (List ℕ))
+  pub with_checked : (report.checked ≤ length checked) × ReadsAll counted listed (take report.checked checked)
+  pub with_lost : (report.lost ≤ length lost) × ReadsAll listed new (take report.lost lost)
+
+-- an answer was read next of a line: the number of its refusal, or 0 and what follows
+abbrev pub Answered : {A : Type 0} → (Option (Bor (List ℕ)) → Option (Bor (List ℕ)) → A → Type 0) → Option (Bor (List ℕ)) → Option (Bor (List ℕ)) → Result A Refusal → Type 0
+Answered follows old new answer = MatchResult answer (λ x. (left : Option (Bor (List ℕ))) × Reads old left 0 × follows left new x) (λ refusal. Reads old new (number_of refusal))
+
+-- so was the answer to `status`
+abbrev pub StatusRead : Option (Bor (List ℕ)) → Option (Bor (List ℕ)) → Type 0
+StatusRead old new = (answer : Result Status Refusal) × Answered (λ left rest s. ReadsAll left rest (status_numbers s)) old new answer

@@ -1,0 +1,5 @@
+-- The words of inner contracts: what a line begins with, and what is lent.
+pub mod Given
+pub mod Lent
+pub mod Prepared
+pub mod Words
