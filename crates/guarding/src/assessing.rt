@@ -11,7 +11,8 @@ ghost use Rattle.index.specs.Refusal.{turned_back};
 ghost use Rattle.guarding.specs.Guarding.{assessing, report_outputs, Assesses};
 ghost use Rattle.guarding.specs.Inner.Testing.{guard_tests, report_tests};
 
-use admission::{Lists, Report, Settings, assess_delete_admission};
+use admission::{Lists, Report, assess_delete_admission};
+use guard::Config;
 use index::refusals::{check_index, scratch_short};
 use index::{Guard, Index, Refusal, Slices};
 use slots::limits;
@@ -66,12 +67,7 @@ pub fn report_by(
 {
     let graph = slices.graph(index);
     let pool = &slices.pool[..guard.pool as usize];
-    let settings = Settings {
-        count: guard.config.count as usize,
-        multiplier: guard.config.multiplier as usize,
-        sample: guard.config.sample as usize,
-        beam: guard.config.beam as usize,
-    };
+    let settings = Config::<usize>::from(guard.config);
     assess_delete_admission(&graph, index.entry, settings, pool, ids, lists, scratch)
 }
 

@@ -27,7 +27,7 @@ abbrev pub report_tests : Index → Bool → ℕ → List Test
 report_tests index over scratch = (7, over) ∷ guard_tests index scratch
 
 -- an index whose guard is on, with a pool of n landmarks
-abbrev pub guarded_index : Index → lent.Config → ℕ → Index
+abbrev pub guarded_index : Index → lent.Config ℕ → ℕ → Index
 guarded_index i c n =
     record {
       dim = i.dim;
