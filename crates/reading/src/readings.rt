@@ -53,11 +53,10 @@ fn answer(index: Index, slices: &Slices<'_>, reading: Reading) -> Value
         Reading::Number(s) => Value::Number(slices.numbers.get(s as usize).copied().unwrap_or(0)),
         // Blank past the last: the definitions answer a target by a number, as all but alpha and a version. With a case of `Value` for it, which holds an `Option`,
         // `Reads` would not say which case is given, since both are that number there.
-        Reading::Target(s, place) => Value::Number(target(
-            &slices.graph(index),
-            s as usize,
-            place,
-        ).unwrap_or(BLANK)),
+        Reading::Target(s, place) => {
+            let found = target(&slices.graph(index), s as usize, place);
+            Value::Number(found.unwrap_or(BLANK))
+        }
     }
 }
 
