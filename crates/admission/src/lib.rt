@@ -9,12 +9,3 @@ mod trials;
 pub use entry::residual_entry;
 pub use pool::{landmark_pool, live_landmarks};
 pub use report::{Lists, Report, assess_delete_admission};
-
-// The settings of a guard as sizes.
-#[derive(Clone, Copy)]
-pub struct Settings {
-    pub count: usize,
-    pub multiplier: usize,
-    pub sample: usize,
-    pub beam: usize,
-}

@@ -6,7 +6,7 @@ ghost use Rattle.landmarks.specs.Inner.Samples.{remains};
 ghost use Rattle.landmarks.specs.Inner.Choices.{Fronted};
 ghost use Rattle.admission.specs.Inner.Pools.{Poolable, Pooled};
 
-use super::Settings;
+use guard::Config;
 use landmarks::{Free, select_landmarks, stays};
 use slots::marks::is_valid;
 use vectors::Space;
@@ -16,7 +16,7 @@ pub fn landmark_pool(
     space: &Space<'_>,
     marks: &[u8],
     entry: u32,
-    settings: Settings,
+    settings: Config<usize>,
     pool: &mut [u32],
     scratch: &mut [u32],
 ) -> usize

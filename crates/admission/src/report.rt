@@ -10,10 +10,10 @@ ghost use Rattle.admission.specs.Inner.Trials.{meets};
 ghost use Rattle.admission.specs.Lent.{SameLists};
 ghost use Rattle.admission.specs.Inner.Reports.{probe_by, Reports, Assessable, Checkable, Checks, Assessed};
 
-use super::Settings;
 use super::entry::residual_entry;
 use super::pool::keep_landmarks;
 use super::trials::{Trial, run_trials};
+use guard::Config;
 use landmarks::{Free, select_landmarks, stays};
 use slots::Graph;
 
@@ -62,7 +62,7 @@ fn is_admitted(baseline: u32, lost: u32) -> bool
 // of `checked`. Returns how many they are, and how many of them are others.
 fn check_landmarks(
     trial: &Trial<'_>,
-    settings: Settings,
+    settings: Config<usize>,
     pool: &[u32],
     ids: &[u32],
     checked: &mut [u32],
@@ -95,7 +95,7 @@ fn check_landmarks(
 // The report of trial walks, but for how many slots the deletion names: 0 of them here.
 fn probe(
     trial: &Trial<'_>,
-    settings: Settings,
+    settings: Config<usize>,
     pool: &[u32],
     ids: &[u32],
     lists: &mut Lists<'_>,
@@ -128,7 +128,7 @@ fn probe(
 pub fn assess_delete_admission(
     graph: &Graph<'_>,
     entry: u32,
-    settings: Settings,
+    settings: Config<usize>,
     pool: &[u32],
     ids: &[u32],
     lists: &mut Lists<'_>,

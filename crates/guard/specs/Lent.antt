@@ -5,7 +5,7 @@ use Rattle.std.proofs.Math.Option as Math
 use Rattle.guard.specs.Guard.{Config, config}
 use Rattle.guard.specs.declared.Config as lent
 
-abbrev pub config_of : lent.Config → Config
+abbrev pub config_of : lent.Config ℕ → Config
 config_of c = config c.count c.multiplier c.sample c.beam
 
 -- an entry, where there is one

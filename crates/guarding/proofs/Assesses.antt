@@ -1,7 +1,7 @@
 -- Assessing a delete: what the code decides and reports is what the definitions say. Assumes nothing.
 use Prim.Native.Nat.{ℕ, min}
-use mathlib.Core.Bool.{Bool, false}
-use mathlib.Core.Path.{◌≡◌, refl, sym, ◌∙◌, subst}
+use mathlib.Core.Bool.{false}
+use mathlib.Core.Path.{refl, sym, ◌∙◌}
 use mathlib.Core.List.{List}
 use borrow.Author.Tests.{ltb-false}
 use lib.Dec.{ltb}
@@ -24,16 +24,13 @@ use Rattle.index.specs.declared.Refusal.{Refusal}
 use Rattle.index.specs.Refusal.{number_of}
 use Rattle.std.specs.Prelude.{Result, Ok, Err}
 use Rattle.guarding.specs.Guarding.{report_outputs, assessed_as, Assesses}
-use Rattle.guarding.specs.Inner.Testing.{Testable, Tested}
 use Rattle.guarding.proofs.Shared.{numbers_are}
-use Rattle.guarding.proofs.Tested.{number_given, none_given}
+use Rattle.guarding.proofs.Tested.{Testable, Tested, number_given, none_given}
 
-module _ (index : Index) (s : Slices) (a : Assess) (checked lost scratch : List ℕ) {wrong : Bool}
-    (w : wrong ≡ ltb (min (length checked) (length lost)) limits.landmarks) where
-  pub assess_testable : Testable wrong (ltb limits.ids (length a.ids)) a.ids checked lost
+module _ (index : Index) (s : Slices) (a : Assess) (checked lost scratch : List ℕ) where
+  pub assess_testable : Testable (ltb (min (length checked) (length lost)) limits.landmarks) (ltb limits.ids (length a.ids)) a.ids checked lost
   unfolding limits
-  assess_testable =
-      record { long = λ e. ltb-false (min (length checked) (length lost)) 64 (sym w ∙ e); few = λ e. ltb-false 256 (length a.ids) e }
+  assess_testable = record { long = λ e. ltb-false (min (length checked) (length lost)) 64 e; few = λ e. ltb-false 256 (length a.ids) e }
 
   abbrev call : Call
   call = record { lent = lent_of s (report_outputs checked lost) scratch; operation = assess a }
@@ -43,10 +40,10 @@ module _ (index : Index) (s : Slices) (a : Assess) (checked lost scratch : List 
   Answered checked' lost' scratch' r =
       Tested index s (ltb (min (length checked) (length lost)) limits.landmarks) (ltb limits.ids (length a.ids)) a.ids checked lost scratch checked' lost' scratch' r
 
-  by_answer : {checked' lost' scratch' : List ℕ} (r : Result Report Refusal) → Answered checked' lost' scratch' r
+  pub assesses : {checked' lost' scratch' : List ℕ} (r : Result Report Refusal) → Answered checked' lost' scratch' r
       → Assesses index s a (report_outputs checked lost) scratch (report_outputs checked' lost') scratch' r
   unfolding tests refusal perform refused_as assessed_as written state_of stored store_ops store_view shown room_of call_of slices_of run_refusal
-  by_answer (Err x) t =
+  assesses (Err x) t =
       let k = t.back x refl in
       record {
         report = no_landmarks false 0;
@@ -57,7 +54,7 @@ module _ (index : Index) (s : Slices) (a : Assess) (checked lost scratch : List 
           keeps = λ m e. k.2;
         };
       }
-  by_answer (Ok v) t =
+  assesses (Ok v) t =
       let g = t.on v refl in
       let through = none_given index s _ _ scratch t.decided refl in
       record {
@@ -69,8 +66,3 @@ module _ (index : Index) (s : Slices) (a : Assess) (checked lost scratch : List 
           keeps = λ m h. let e = sym through ∙ h in cc;
         };
       }
-
-  pub assesses : {checked' lost' scratch' : List ℕ} {r : Result Report Refusal} → Tested index s wrong (ltb limits.ids (length a.ids)) a.ids checked lost scratch checked' lost' scratch' r
-      → Assesses index s a (report_outputs checked lost) scratch (report_outputs checked' lost') scratch' r
-  assesses {checked'} {lost'} {scratch'} {r} t =
-      by_answer r (subst (λ (q : Bool). Tested index s q (ltb limits.ids (length a.ids)) a.ids checked lost scratch checked' lost' scratch' r) w t)

@@ -194,7 +194,7 @@ module _ (index : Index) {s₀ s : Slices} (same : s₀ ≡ s) (c : Config) (scr
           let is : start ≡ k.slot = se ∙ ap (λ x. unwrap_or x index.entry) k.is in
           rw is (k.does, k.inside)
 
-      module _ {t : lent.Config} (m : config_of t ≡ normalized c) where
+      module _ {t : lent.Config ℕ} (m : config_of t ≡ normalized c) where
         count_is : t.count ≡ max 1 c.landmark_count
         unfolding normalized
         count_is = ap (λ x. x.landmark_count) m

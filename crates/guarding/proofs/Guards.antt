@@ -42,23 +42,28 @@ use Rattle.index.specs.Refusal.{number_of}
 use Rattle.std.specs.Prelude.{Result, Ok, Err}
 use Rattle.updating.specs.declared.Changed.{Changed}
 use Rattle.guarding.specs.Guarded.{guarded_outputs, guarded_as, index_kept, Guards}
-use Rattle.guarding.specs.Inner.Testing.{Testable, Tested}
 use Rattle.guarding.proofs.Shared.{numbers_are}
-use Rattle.guarding.proofs.Tested.{number_given, none_given, able, lists_right, own}
+use Rattle.guarding.proofs.Tested.{Testable, Tested, number_given, none_given, able, lists_right, own}
 
 -- ---- a guarded delete of slots
 
-module _ (index : Index) (s : Slices) (ids : List ℕ) (beam degree room : ℕ) (checked lost scratch : List ℕ) {wrong over : Bool}
-    (w : wrong ≡ (ltb room (length ids) || ltb (min (length checked) (length lost)) limits.landmarks)) (o : over ≡ delete_over limits (slot_delete ids beam degree)) where
+module _ (index : Index) (s : Slices) (ids : List ℕ) (beam degree room : ℕ) (checked lost scratch : List ℕ) where
   abbrev a : Delete
   a = slot_delete ids beam degree
 
-  pub guarded_testable : Testable wrong over ids checked lost
+  -- the call's own part of 3 for a list of n records, and 7
+  abbrev wrong : ℕ → Bool
+  wrong n = ltb n (length ids) || ltb (min (length checked) (length lost)) limits.landmarks
+
+  abbrev over : Bool
+  over = delete_over limits a
+
+  pub guarded_testable : Testable (wrong room) over ids checked lost
   unfolding limits
   guarded_testable =
       record {
-        long = λ e. ltb-false (min (length checked) (length lost)) 64 (or_neither (ltb room (length ids)) _ (sym w ∙ e)).1;
-        few = λ e. ltb-false 256 (length ids) (or_neither (ltb 256 beam || ltb 16 degree) _ (sym o ∙ e)).1;
+        long = λ e. ltb-false (min (length checked) (length lost)) 64 (or_neither (ltb room (length ids)) _ e).1;
+        few = λ e. ltb-false 256 (length ids) (or_neither (ltb 256 beam || ltb 16 degree) _ e).1;
       }
 
   abbrev call : List Stats → Call
@@ -68,18 +73,16 @@ module _ (index : Index) (s : Slices) (ids : List ℕ) (beam degree room : ℕ) 
   report = report_of (shown stored (state_of index s)) ids
 
   -- of slices that are read as s₀
-  module _ {s₀ : Slices} (same : s₀ ≡ s) {checked' lost' scratch₁ : List ℕ} {r : Result Report Refusal} (t₀ : Tested index s₀ wrong over ids checked lost scratch checked' lost' scratch₁ r) where
-    t : Tested index s wrong over ids checked lost scratch checked' lost' scratch₁ r
-    t = subst (λ (x : Slices). Tested index x wrong over ids checked lost scratch checked' lost' scratch₁ r) same t₀
+  module _ {s₀ : Slices} (same : s₀ ≡ s) {checked' lost' scratch₁ : List ℕ} {r : Result Report Refusal} (t₀ : Tested index s₀ (wrong room) over ids checked lost scratch checked' lost' scratch₁ r) where
+    t : Tested index s (wrong room) over ids checked lost scratch checked' lost' scratch₁ r
+    t = subst (λ (x : Slices). Tested index x (wrong room) over ids checked lost scratch checked' lost' scratch₁ r) same t₀
 
     -- for a list of that room, by the tests as the definitions have them
     with_list : {q : Result Report Refusal} → r ≡ q → (before : List Stats) → length before ≡ room
-        → Tested index s (ltb (length before) (length ids) || ltb (min (length checked) (length lost)) limits.landmarks) (delete_over limits a) ids checked lost scratch checked' lost' scratch₁ q
+        → Tested index s (wrong (length before)) over ids checked lost scratch checked' lost' scratch₁ q
     with_list e before l =
-        subst (λ (x : Result Report Refusal). Tested index s (ltb (length before) (length ids) || ltb (min (length checked) (length lost)) limits.landmarks) (delete_over limits a) ids checked lost scratch checked' lost' scratch₁ x) e
-        (subst (λ (x : Bool). Tested index s (ltb (length before) (length ids) || ltb (min (length checked) (length lost)) limits.landmarks) x ids checked lost scratch checked' lost' scratch₁ r) o
-        (subst (λ (x : Bool). Tested index s x over ids checked lost scratch checked' lost' scratch₁ r)
-        (w ∙ ap (λ (k : ℕ). ltb k (length ids) || ltb (min (length checked) (length lost)) limits.landmarks) (sym l)) t))
+        subst (λ (x : Result Report Refusal). Tested index s (wrong (length before)) over ids checked lost scratch checked' lost' scratch₁ x) e
+        (subst (λ (n : ℕ). Tested index s (wrong n) over ids checked lost scratch checked' lost' scratch₁ r) (sym l) t)
 
     pub guards_back : {x : Refusal} → r ≡ Err x → Guards index s a room checked lost scratch s checked' lost' scratch₁ (Err x)
     unfolding tests refused_as guarded_as index_kept written state_of stored store_ops store_view shown room_of call_of slices_of slots_of
@@ -114,7 +117,7 @@ module _ (index : Index) (s : Slices) (ids : List ℕ) (beam degree room : ℕ) 
       not_refused before l m h = let g = sym (none_given index s _ _ scratch (with_list e before l).decided refl) ∙ h in let x : ◌≡◌ {A = ℕ} 0 1 = cc in omega arith
 
       pub passes : Passed index s
-      passes = able index s wrong over scratch (subst (λ (x : Result Report Refusal). Tested index s wrong over ids checked lost scratch checked' lost' scratch₁ x) e t).decided refl
+      passes = able index s (wrong room) over scratch (subst (λ (x : Result Report Refusal). Tested index s (wrong room) over ids checked lost scratch checked' lost' scratch₁ x) e t).decided refl
 
       pub guards_deferred : v.admitted ≡ false → Guards index s a room checked lost scratch s checked' lost' scratch₁ (Ok (Deferred v))
       unfolding perform guarded guarded_as index_kept written call_of slices_of run_refusal state_of slots_of
@@ -139,10 +142,10 @@ module _ (index : Index) (s : Slices) (ids : List ℕ) (beam degree room : ℕ) 
           → Deletable (arrays_of index s) index.entry beam degree ids scratch₁
           × (length s.numbers ≡ length s.marks) × (index.live ≤ length s.summary)
       guards_able k =
-          let d = (subst (λ (x : Result Report Refusal). Tested index s wrong over ids checked lost scratch checked' lost' scratch₁ x) e t).decided in
-          let p = own index s wrong over scratch d refl in
+          let d = (subst (λ (x : Result Report Refusal). Tested index s (wrong room) over ids checked lost scratch checked' lost' scratch₁ x) e t).decided in
+          let p = own index s (wrong room) over scratch d refl in
           let f = strike_able passes ids beam degree in
-          (delete_able passes ids beam degree scratch₁ (sym o ∙ p.0) (rw k p.1), f.0, f.1)
+          (delete_able passes ids beam degree scratch₁ p.0 (rw k p.1), f.0, f.1)
 
       -- of the slices that the batch leaves
       module _ (s' : Slices) {scratch' : List ℕ} {entry' n : ℕ} (b : BatchDeleted (arrays_of index s) index.alpha index.entry beam degree ids (arrays_of index s') entry' n scratch')
@@ -152,8 +155,8 @@ module _ (index : Index) (s : Slices) (ids : List ℕ) (beam degree room : ℕ) 
 
         enough : n ≤ room
         enough =
-            let d = (subst (λ (x : Result Report Refusal). Tested index s wrong over ids checked lost scratch checked' lost' scratch₁ x) e t).decided in
-            let q = (or_neither (ltb room (length ids)) _ (sym w ∙ lists_right index s wrong over scratch d refl)).0 in
+            let d = (subst (λ (x : Result Report Refusal). Tested index s (wrong room) over ids checked lost scratch checked' lost' scratch₁ x) e t).decided in
+            let q = (or_neither (ltb room (length ids)) _ (lists_right index s (wrong room) over scratch d refl)).0 in
             omega (arith, b.few, ltb-false room (length ids) q)
 
         inside : length scratch₁ ≡ length scratch → length scratch' ≡ length scratch₁ → stats_at index.capacity + 4 * n ≤ length scratch'

@@ -10,7 +10,7 @@ ghost use Rattle.guarding.specs.Inner.Testing.{enable_tests, guarded_index};
 
 use super::Enabled;
 use super::statuses::status_of;
-use admission::{Settings, landmark_pool, residual_entry};
+use admission::{landmark_pool, residual_entry};
 use guard::Config;
 use index::refusals::{check_index, config_over, scratch_short};
 use index::{EnableSlices, Guard, Index, Refusal, Slices};
@@ -72,12 +72,7 @@ fn choose_pool(
         dim: dim as usize,
         vectors,
     };
-    let settings = Settings {
-        count: config.count as usize,
-        multiplier: config.multiplier as usize,
-        sample: config.sample as usize,
-        beam: config.beam as usize,
-    };
+    let settings = Config::<usize>::from(config);
     landmark_pool(&space, marks, start, settings, pool, scratch)
 }
 

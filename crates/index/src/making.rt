@@ -1,5 +1,5 @@
 // Making an index. Its tests say what is bad, as those of refusals.rt do.
-ghost use Rattle.std.specs.Prelude.{not, ◌&&◌, ◌∷◌, [], ◌≡◌, ◌*◌, ◌≤◌, eqb, ltb, length};
+ghost use Rattle.std.specs.Prelude.{not, ◌&&◌, ◌∷◌, [], ◌≡◌, ◌-◌, ◌*◌, ◌≤◌, ◌++◌, eqb, ltb, length, replicate};
 ghost use Rattle.slots.specs.Inner.Making.{Room, New};
 ghost use Rattle.numbers.specs.Numbers.{taken};
 ghost use Rattle.calls.specs.Refusals.{first_of, names_given, entry_given};
@@ -97,32 +97,27 @@ fn new_index(given: &Making<'_>) -> Index
     }
 }
 
-// Writes the graph of an index that is accepted: the given vectors and rows, and the rest of the first six slices.
+// Marks the first `given` slots live, and the others dead.
+fn mark_given(marks: &mut [u8], given: usize)
+    requires { given ≤ length marks.old }
+    ensures { marks.new ≡ replicate given 1 ++ replicate (length marks.old - given) 0 }
+{
+    marks[..given].fill(1);
+    marks[given..].fill(0);
+}
+
+// Writes the graph of an index that is accepted: the given vectors and rows into the first slots, which are live; zeros and blanks into the others.
 fn write(given: &Making<'_>, slices: &mut NewSlices<'_>)
     requires { Room given.now.dim given.now.capacity given.now.degree given.now.count given.now.bytes.now given.now.rows.now slices.old.vectors.now slices.old.targets.now slices.old.edges.now slices.old.versions.now slices.old.marks.now slices.old.pool.now }
     ensures { New given.now.dim given.now.capacity given.now.degree given.now.count given.now.bytes.now given.now.rows.now slices.new.vectors.now slices.new.targets.now slices.new.edges.now slices.new.versions.now slices.new.marks.now slices.new.pool.now
         × (slices.new.numbers.now ≡ slices.old.numbers.now) × (slices.new.summary.now ≡ slices.old.summary.now) × SameNewSlices slices.old slices.new }
 {
-    let vectors = &mut *slices.vectors;
-    let targets = &mut *slices.targets;
-    let edges = &mut *slices.edges;
-    let versions = &mut *slices.versions;
-    let marks = &mut *slices.marks;
-    let pool = &mut *slices.pool;
-    slots::making::write_new(
-        given.dim as usize,
-        given.capacity as usize,
-        given.degree as usize,
-        given.count as usize,
-        given.bytes,
-        given.rows,
-        vectors,
-        targets,
-        edges,
-        versions,
-        marks,
-        pool,
-    );
+    lay(slices.vectors, given.bytes, 0);
+    lay(slices.targets, given.rows, BLANK);
+    slices.edges.fill(0);
+    slices.versions.fill(0);
+    mark_given(slices.marks, given.count as usize);
+    slices.pool.fill(0);
 }
 
 // Writes the given numbers, zeros behind them, and the summary.

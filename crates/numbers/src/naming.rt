@@ -39,7 +39,8 @@ impl Labels<'_> {
         Some(self.summary[i])
     }
 
-    // Writes the slots that `names` name to the front of `slots`; blank where none carries the number.
+    // Writes the slots that `names` name to the front of `slots`; blank where none carries the number. Numbers, and no `Option`s: `slots` is a list that a delete of
+    // slots is then given, where blank names no slot.
     pub fn slots_of(&self, names: &[u32], slots: &mut [u32])
         requires { length names.now ≤ length slots.old }
         ensures { slots.new ≡ put_front (map (slot_of self.now.numbers.now) names.now) slots.old }

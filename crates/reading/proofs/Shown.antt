@@ -50,14 +50,16 @@ module _ (a : Arrays) (f : RowShape a.degree a.targets a.edges a.versions a.mark
       go (Some t) e k = rw (e, k) (sym (live_from_at a f s place hs (omega arith) {r = ref_at a s place} refl e))
 
   -- the one at a place among them
-  pub nth_given : (r : Option ℕ) (place : ℕ) {t : ℕ} → t ≡ unwrap_or r blank → option_map (λ y. y) r ≡ slice_get (filter_map (ref_at a s) (range_with_len 0 a.degree)) place
-      → t ≡ get_or (filter (is_valid a.marks) (refs_of a s)) place blank
-  nth_given r place e k =
-      e ∙ ap (λ o. unwrap_or o blank) (sym (option_map_id r) ∙ k) ∙ unwrap_or-slice_get (filter_map (ref_at a s) (range_with_len 0 a.degree)) place blank
-      ∙ ap (λ l. get_or l place blank) (given_from a.degree 0 (omega arith) ∙ live_from_whole a s)
+  pub nth_given : (r : Option ℕ) (place : ℕ) → option_map (λ y. y) r ≡ slice_get (filter_map (ref_at a s) (range_with_len 0 a.degree)) place
+      → r ≡ slice_get (filter (is_valid a.marks) (refs_of a s)) place
+  nth_given r place k = sym (option_map_id r) ∙ k ∙ ap (λ l. slice_get l place) (given_from a.degree 0 (omega arith) ∙ live_from_whole a s)
+
+-- as a number, blank past the last
+pub target_number : (l : List ℕ) (place : ℕ) → unwrap_or (slice_get l place) blank ≡ get_or l place blank
+target_number l place = unwrap_or-slice_get l place blank
 
 -- a slot outside has no row
-pub no_row : (a : Arrays) (s place : ℕ) → RowShape a.degree a.targets a.edges a.versions a.marks → length a.marks ≤ s → blank ≡ get_or (filter (is_valid a.marks) (refs_of a s)) place blank
+pub no_row : (a : Arrays) (s place : ℕ) → RowShape a.degree a.targets a.edges a.versions a.marks → length a.marks ≤ s → None ≡ slice_get (filter (is_valid a.marks) (refs_of a s)) place
 unfolding refs_of current
 no_row a s place f h =
     let k : length a.targets ≤ s * a.degree = rw f.targets_long (mul-le-mul_right a.degree h) in

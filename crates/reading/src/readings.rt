@@ -1,7 +1,8 @@
 // Readings of an index.
-ghost use Rattle.std.specs.Prelude.{◌≡◌, get_or, length};
+ghost use Rattle.std.specs.Prelude.{◌≡◌, length};
+ghost use Rattle.std.specs.List.{slice_get};
 ghost use Rattle.lists.specs.Lists.{filter};
-ghost use Rattle.slots.specs.Store.{blank, is_valid, refs_of};
+ghost use Rattle.slots.specs.Store.{is_valid, refs_of};
 ghost use Rattle.vectors.specs.Vector.{Bytes};
 ghost use Rattle.slots.specs.Lent.{graph_of};
 ghost use Rattle.slots.specs.Inner.Rows.{RowShape};
@@ -17,22 +18,21 @@ use slots::marks::{is_valid, live_vector};
 use slots::rows::BLANK;
 use vectors::Space;
 
-// The target with `place` live ones before it in slot `s`'s row; blank past the last: that is document 01's answer, and `Value` has it as a number.
-fn target(graph: &Graph<'_>, s: usize, place: u32) -> u32
-    ensures { result ≡ get_or (filter (is_valid (graph_of graph.now).marks) (refs_of (graph_of graph.now) s)) place blank }
+// The target with `place` live ones before it in slot `s`'s row; none past the last.
+fn target(graph: &Graph<'_>, s: usize, place: u32) -> Option<u32>
+    ensures { result ≡ slice_get (filter (is_valid (graph_of graph.now).marks) (refs_of (graph_of graph.now) s)) place }
 {
     let rows = graph.rows;
     if rows.marks.len() <= s {
-        return BLANK;
+        return None;
     }
     (0..rows.degree)
         .filter_map(|at| rows.live_at(s, at))
         .nth(place as usize)
-        .unwrap_or(BLANK)
 }
 
 // What is read of an index that no test turns back.
-#[tactic(auto, unfolding(crate::specs::Read::reading_of, crate::specs::Read::answer_of, calls::specs::Step::reading, calls::specs::State::stored, slots::specs::Store::store_ops, slots::specs::Store::store_view, index::specs::Index::state_of))]
+#[tactic(auto, using(crate::proofs::Shown::target_number), unfolding(crate::specs::Read::reading_of, crate::specs::Read::answer_of, calls::specs::Step::reading, calls::specs::State::stored, slots::specs::Store::store_ops, slots::specs::Store::store_view, index::specs::Index::state_of))]
 fn answer(index: Index, slices: &Slices<'_>, reading: Reading) -> Value
     requires bytes { Bytes index.dim (length slices.now.marks.now) slices.now.vectors.now }
     requires shape { RowShape index.degree slices.now.targets.now slices.now.edges.now slices.now.versions.now slices.now.marks.now }
@@ -51,8 +51,11 @@ fn answer(index: Index, slices: &Slices<'_>, reading: Reading) -> Value
             slices.versions.get(s as usize).copied().unwrap_or(0),
         ),
         Reading::Number(s) => Value::Number(slices.numbers.get(s as usize).copied().unwrap_or(0)),
+        // Blank past the last: the definitions answer a target by a number, as all but alpha and a version. With a case of `Value` for it, which holds an `Option`,
+        // `Reads` would not say which case is given, since both are that number there.
         Reading::Target(s, place) => {
-            Value::Number(target(&slices.graph(index), s as usize, place))
+            let found = target(&slices.graph(index), s as usize, place);
+            Value::Number(found.unwrap_or(BLANK))
         }
     }
 }
@@ -72,6 +75,7 @@ pub fn read_vector<'a>(index: Index, slices: &Slices<'a>, slot: u32) -> &'a [u8]
     let Ok(()) = check_index(index, slices, false) else {
         return &slices.vectors[..0];
     };
+    // A space of its own: `slices.graph(index)` says what its vectors are, not that they are the lent ones, of which the result is a part.
     let space = Space {
         dim: index.dim as usize,
         vectors: slices.vectors,

@@ -62,7 +62,7 @@ fn check_search(
     Ok(())
 }
 
-// Writes the `n` candidates at the front of the words to the outputs.
+// Writes the `n` candidates at the front of the words to the outputs. By places: after `slots.iter_mut().zip(dists)` the proof knows nothing of what was written.
 fn show(words: &[u32], n: usize, slots: &mut [u32], dists: &mut [f32])
     requires { Fits words.now n slots.old dists.old }
     ensures { Shown words.now n slots.old dists.old slots.new dists.new }

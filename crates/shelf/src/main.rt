@@ -26,8 +26,8 @@ fn print_slot<F: Fn(Reading) -> Option<u32>>(rt: &impl Print, read: &F, slot: u3
     };
     print!(rt; "{slot} {mark} {version}")?;
     for place in 0..2 {
-        let target = read(Reading::Target(slot, place)).unwrap_or(BLANK);
-        if target != BLANK {
+        let target = read(Reading::Target(slot, place)).filter(|t| *t != BLANK);
+        if let Some(target) = target {
             print!(rt; " {target}")?;
         }
     }

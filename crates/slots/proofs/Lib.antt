@@ -6,7 +6,7 @@ pub mod Changes
 pub mod Places
 pub mod Count
 mod Laid
-mod Made
+pub mod Made
 pub mod Agree
 pub mod New
 pub mod Writes

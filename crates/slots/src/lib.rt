@@ -1,9 +1,8 @@
-// Slots of an index in lent slices: their marks and versions, their rows, and what making, insert and delete write.
+// Slots of an index in lent slices: their marks and versions, their rows, and what insert and delete write.
 #![tactic(auto)]
 
 mod graph;
 pub mod limits;
-pub mod making;
 pub mod marks;
 mod ops;
 pub mod parts;

@@ -1,5 +1,5 @@
 -- The own tests of the guard's calls, and what their functions leave. Assumes nothing.
-use Rattle.std.specs.Prelude.{ℕ, Some, Result, Ok, Err, min, ◌≤◌, Bool, false, List, [], ◌∷◌, ◌≡◌, eqb, ltb, length}
+use Rattle.std.specs.Prelude.{ℕ, Some, Bool, List, [], ◌∷◌, ◌≡◌, eqb, ltb}
 use Rattle.slots.specs.Sizes.{Slices, slices, limits}
 use Rattle.slots.specs.Scratch.{size_answer}
 use Rattle.slots.specs.View.{View}
@@ -7,15 +7,9 @@ use Rattle.slots.specs.Store.{is_valid}
 use Rattle.guard.specs.Guard.{Config, pool_of, guard_status}
 use Rattle.guard.specs.Guard as Guards
 use Rattle.guard.specs.declared.Config as lent
-use Rattle.admission.specs.Inner.Reports.{Reports}
-use Rattle.admission.specs.declared.report.Report.{Report}
 use Rattle.calls.specs.Refusals.{Test, config_over, is_off}
-use Rattle.calls.specs.State.{stored, shown}
-use Rattle.calls.specs.Step.{report_of}
 use Rattle.index.specs.declared.Index.{Index}
-use Rattle.index.specs.declared.Refusal.{Refusal}
-use Rattle.index.specs.Index.{guard_of, state_of}
-use Rattle.index.specs.Inner.Deciding.{Decided}
+use Rattle.index.specs.Index.{guard_of}
 use Rattle.guarding.specs.declared.Status.{Status}
 use Rattle.guarding.specs.Guarding.{status_of}
 
@@ -24,23 +18,16 @@ abbrev pub enable_tests : Index → Config → ℕ → List Test
 enable_tests index c scratch =
     (7, config_over limits c) ∷ (8, ltb scratch (size_answer index.capacity)) ∷ (12, eqb index.live 0) ∷ (13, eqb index.live 1) ∷ []
 
+-- 8 and 11
+abbrev pub guard_tests : Index → ℕ → List Test
+guard_tests index scratch = (8, ltb scratch (size_answer index.capacity)) ∷ (11, is_off (guard_of index.guard)) ∷ []
+
 -- 7, given what it finds, 8 and 11
 abbrev pub report_tests : Index → Bool → ℕ → List Test
-report_tests index over scratch = (7, over) ∷ (8, ltb scratch (size_answer index.capacity)) ∷ (11, is_off (guard_of index.guard)) ∷ []
-
--- what a report asks of the tests that its caller makes: its part of 3, and 7
-pub record Testable (wrong over : Bool) (ids checked lost : List ℕ) : Type 0 where
-  pub long : wrong ≡ false → limits.landmarks ≤ min (length checked) (length lost)
-  pub few : over ≡ false → length ids ≤ limits.ids
-
--- a report, or the number of the first test that holds, and then nothing is written
-pub record Tested (index : Index) (s : Slices) (wrong over : Bool) (ids checked lost scratch checked' lost' scratch' : List ℕ) (r : Result Report Refusal) : Type 0 where
-  pub decided : Decided index s wrong (report_tests index over (length scratch)) r
-  pub back : (e : Refusal) → r ≡ Err e → (checked' ≡ checked) × (lost' ≡ lost) × (scratch' ≡ scratch)
-  pub on : (v : Report) → r ≡ Ok v → Reports (report_of (shown stored (state_of index s)) ids) checked checked' lost lost' v
+report_tests index over scratch = (7, over) ∷ guard_tests index scratch
 
 -- an index whose guard is on, with a pool of n landmarks
-abbrev pub guarded_index : Index → lent.Config → ℕ → Index
+abbrev pub guarded_index : Index → lent.Config ℕ → ℕ → Index
 guarded_index i c n =
     record {
       dim = i.dim;

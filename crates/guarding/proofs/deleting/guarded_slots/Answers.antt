@@ -1,62 +1,67 @@
 use mathlib.Core.Path.{refl, ap}
 use borrow.Author.Tests.{not-true, not-false}
 use Rattle.std.proofs.lemmas.Result.{err_from_is_err_and}
-use Rattle.index.specs.Lent.{delete_slices_of}
+use Rattle.index.specs.Lent.{slices_of, delete_slices_of}
+use Rattle.guarding.proofs.Tested.{tested_back, tested_ready, tested_on}
 use Rattle.guarding.proofs.Guards.{guarded_testable, guards_back, guards_able, guards_few, guards_applied, guards_deferred}
 use Rattle.guarding.proofs.deleting.guarded_slots.Goals as goal
 
-pub tested_report-requires : goal.tested_report-requires
-tested_report-requires c =
-    let a = c.args.asked.now in
-    let l = c.args.lists.now in
-    guarded_testable c.args.index (delete_slices_of c.args.slices.now) a.names.now a.repair_beam a.repair_degree c.args.room l.checked.now l.lost.now c.args.scratch.now
-    c.outputs_short-wrong.ensures c.delete_over-over.ensures
-
-pub returns-in_err-report : goal.returns-in_err-report
-returns-in_err-report c =
+pub returns-in_err-guard : goal.returns-in_err-guard
+returns-in_err-guard c =
     let a = c.args.asked.now in
     let l = c.args.lists.now in
     let p = err_from_is_err_and c.from_residual.result c.from_residual.ensures.1 in
     rw (p.1, p.2) (
-      guards_back c.args.index (delete_slices_of c.args.slices.now) a.names.now a.repair_beam a.repair_degree c.args.room l.checked.now l.lost.now c.args.scratch.now
-          c.outputs_short-wrong.ensures c.delete_over-over.ensures c.read.ensures c.tested_report.ensures.0 c.in_err-report.was,
+      guards_back c.args.index (delete_slices_of c.args.slices.now) a.names.now a.repair_beam a.repair_degree c.args.room l.checked.now l.lost.now c.args.scratch.now c.read-lent.ensures
+          (tested_back c.args.index (slices_of c.read-lent.result) _ _ c.args.scratch.now c.check_guarded.ensures.0 a.names.now l.checked.now l.lost.now c.in_err-guard.was) refl,
       record { vectors = refl; targets = refl; edges = refl; versions = refl; marks = refl; pool = refl; numbers = refl; summary = refl },
-      c.tested_report.ensures.1,
+      record { checked = refl; lost = refl },
     )
+
+pub report_by-report-requires : goal.report_by-report-requires
+report_by-report-requires c =
+    let a = c.args.asked.now in
+    let l = c.args.lists.now in
+    tested_ready c.args.index (slices_of c.read-lent.result) _ _ c.args.scratch.now c.check_guarded.ensures c.in_ok-guard.was a.names.now l.checked.now l.lost.now
+    (guarded_testable c.args.index (delete_slices_of c.args.slices.now) a.names.now a.repair_beam a.repair_degree c.args.room l.checked.now l.lost.now c.args.scratch.now)
 
 pub delete_batch-emptied-requires : goal.delete_batch-emptied-requires
 delete_batch-emptied-requires c =
     let a = c.args.asked.now in
     let l = c.args.lists.now in
+    let t = tested_on c.args.index (slices_of c.read-lent.result) _ _ c.args.scratch.now c.check_guarded.ensures c.in_ok-guard.was a.names.now l.checked.now l.lost.now {scratch' = c.report_by-report.new.scratch} c.report_by-report.ensures.0 in
     guards_able c.args.index (delete_slices_of c.args.slices.now) a.names.now a.repair_beam a.repair_degree c.args.room l.checked.now l.lost.now c.args.scratch.now
-    c.outputs_short-wrong.ensures c.delete_over-over.ensures c.read.ensures c.tested_report.ensures.0 c.in_ok-report.was c.tested_report.auto.scratch
+    c.read-lent.ensures t refl c.report_by-report.auto.scratch
 
 pub with_fewer-requires : goal.with_fewer-requires
 with_fewer-requires c =
     let a = c.args.asked.now in
     let l = c.args.lists.now in
     let e = c.delete_batch-emptied.ensures in
+    let t = tested_on c.args.index (slices_of c.read-lent.result) _ _ c.args.scratch.now c.check_guarded.ensures c.in_ok-guard.was a.names.now l.checked.now l.lost.now {scratch' = c.report_by-report.new.scratch} c.report_by-report.ensures.0 in
     guards_few c.args.index (delete_slices_of c.args.slices.now) a.names.now a.repair_beam a.repair_degree c.args.room l.checked.now l.lost.now c.args.scratch.now
-    c.outputs_short-wrong.ensures c.delete_over-over.ensures c.read.ensures c.tested_report.ensures.0 c.in_ok-report.was (delete_slices_of c.delete_batch-emptied.new.slices) e.0 e.1
+    c.read-lent.ensures t refl (delete_slices_of c.delete_batch-emptied.new.slices) e.0 e.1
 
 pub returns-then-not-report : goal.returns-then-not-report
 returns-then-not-report c =
     let a = c.args.asked.now in
-    let l = c.args.lists.now in (
+    let l = c.args.lists.now in
+    let t = tested_on c.args.index (slices_of c.read-lent.result) _ _ c.args.scratch.now c.check_guarded.ensures c.in_ok-guard.was a.names.now l.checked.now l.lost.now {scratch' = c.report_by-report.new.scratch} c.report_by-report.ensures.0 in (
       guards_deferred c.args.index (delete_slices_of c.args.slices.now) a.names.now a.repair_beam a.repair_degree c.args.room l.checked.now l.lost.now c.args.scratch.now
-          c.outputs_short-wrong.ensures c.delete_over-over.ensures c.read.ensures c.tested_report.ensures.0 c.in_ok-report.was (not-true _ c.if-not-report.true),
+          c.read-lent.ensures t refl (not-true _ c.if-not-report.true),
       record { vectors = refl; targets = refl; edges = refl; versions = refl; marks = refl; pool = refl; numbers = refl; summary = refl },
-      c.tested_report.ensures.1,
+      c.report_by-report.ensures.1,
     )
 
 pub returns : goal.returns
 returns c =
     let a = c.args.asked.now in
     let l = c.args.lists.now in
-    let e = c.delete_batch-emptied.ensures in (
+    let e = c.delete_batch-emptied.ensures in
+    let t = tested_on c.args.index (slices_of c.read-lent.result) _ _ c.args.scratch.now c.check_guarded.ensures c.in_ok-guard.was a.names.now l.checked.now l.lost.now {scratch' = c.report_by-report.new.scratch} c.report_by-report.ensures.0 in (
       guards_applied c.args.index (delete_slices_of c.args.slices.now) a.names.now a.repair_beam a.repair_degree c.args.room l.checked.now l.lost.now c.args.scratch.now
-          c.outputs_short-wrong.ensures c.delete_over-over.ensures c.read.ensures c.tested_report.ensures.0 c.in_ok-report.was (delete_slices_of c.delete_batch-emptied.new.slices) e.0 e.1
-          (ap (λ x. x.now) e.2.pool) c.tested_report.auto.scratch c.delete_batch-emptied.auto.scratch (not-false _ c.if-not-report.false) c.with_fewer.ensures,
+          c.read-lent.ensures t refl (delete_slices_of c.delete_batch-emptied.new.slices) e.0 e.1
+          (ap (λ x. x.now) e.2.pool) c.report_by-report.auto.scratch c.delete_batch-emptied.auto.scratch (not-false _ c.if-not-report.false) c.with_fewer.ensures,
       e.2,
-      c.tested_report.ensures.1,
+      c.report_by-report.ensures.1,
     )

@@ -14,5 +14,5 @@ returns-then-rows-s c = no_row (graph_of c.args.graph.now) c.args.s c.args.place
 pub returns : goal.returns
 returns c =
     let a : Arrays = graph_of c.args.graph.now in
-    nth_given a c.args.graph.now.shape c.args.s c.if-rows-s.false c.nth.result c.args.place c.unwrap_or.ensures (nth_from_yields_List c.nth.result _ c.args.place c.nth.ensures.ran
+    nth_given a c.args.graph.now.shape c.args.s c.if-rows-s.false c.nth.result c.args.place (nth_from_yields_List c.nth.result _ c.args.place c.nth.ensures.ran
     (YieldsList-from_filter_map _ (ref_at a c.args.s) (YieldsList-from_range 0 a.degree a.degree c.filter_map.ensures.source (omega arith)) c.filter_map.ensures.closure (λ x r q k. search rules)))

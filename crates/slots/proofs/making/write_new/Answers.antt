@@ -1,5 +1,0 @@
-use Rattle.slots.proofs.Made.{new_by}
-use Rattle.slots.proofs.making.write_new.Goals as goal
-
-pub returns : goal.returns
-returns c = new_by c.requires c.lay.ensures c.lay-2.ensures (c.fill.ensures.after (λ y e. e)) (c.fill-2.ensures.after (λ y e. e)) c.mark_given.ensures (c.fill-3.ensures.after (λ y e. e))
