@@ -2,7 +2,8 @@
 ghost use Rattle.std.specs.Prelude.{List, ℕ, Result, IfOk};
 ghost use Rattle.index.specs.declared.Refusal.{Refusal};
 ghost use Rattle.admission.specs.declared.report.Report.{Report};
-ghost use Rattle.guards.specs.Inner.Answers.{Answered, Reported};
+ghost use Rattle.lines.specs.Inner.Answers.{Answered};
+ghost use Rattle.guards.specs.Inner.Answers.{Reported};
 
 use super::reports::expect_report;
 use admission::{Lists, Report};
