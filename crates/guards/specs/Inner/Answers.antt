@@ -1,12 +1,10 @@
 -- The numbers of a status and of a report.
 use denote.Ref.{Bor}
-use Rattle.std.specs.Prelude.{List, [], ◌∷◌, Option, Result, ℕ, ◌≤◌, length, take, unwrap_or}
+use Rattle.std.specs.Prelude.{List, [], ◌∷◌, Option, ℕ, ◌≤◌, length, take, unwrap_or}
 use Rattle.std.specs.Int.{from_bool}
 use Rattle.slots.specs.Store.{blank}
 use Rattle.admission.specs.declared.report.Report.{Report}
 use Rattle.guarding.specs.declared.Status.{Status}
-use Rattle.index.specs.declared.Refusal.{Refusal}
-use Rattle.lines.specs.Inner.Answers.{Answered}
 use Rattle.text.specs.Inner.Text.{ReadsAll}
 
 -- the five numbers of a status
@@ -24,7 +22,3 @@ pub record Reported (old new : Option (Bor (List ℕ))) (report : Report) (check
   pub listed : Option (Bor (List ℕ))
   pub with_checked : (report.checked ≤ length checked) × ReadsAll counted listed (take report.checked checked)
   pub with_lost : (report.lost ≤ length lost) × ReadsAll listed new (take report.lost lost)
-
--- the answer to `status` was read next of a line
-abbrev pub StatusRead : Option (Bor (List ℕ)) → Option (Bor (List ℕ)) → Type 0
-StatusRead old new = (answer : Result Status Refusal) × Answered (λ left rest s. ReadsAll left rest (status_numbers s)) old new answer
