@@ -1,2 +1,3 @@
--- The words of inner contracts: what a delete is given and leaves, as a line has it.
+-- The words of inner contracts: what a call is given and leaves, as a line has it.
+pub mod Calls
 pub mod Deletes

@@ -1,6 +1,8 @@
 // Lines `delete`.
 ghost use Rattle.std.specs.Prelude.{◌≡◌, IfOk};
 ghost use Rattle.text.specs.Inner.Text.{Reads};
+ghost use Rattle.lines.specs.Inner.Answers.{Answered, index_left};
+ghost use Rattle.changes.specs.Inner.Calls.{Deletes};
 ghost use Rattle.changes.specs.Inner.Deletes.{number_of, Asked, Emptied};
 
 use deletion::stats_place;
@@ -57,7 +59,9 @@ fn expect_deleted(
     deleted: Result<Changed, Refusal>,
     scratch: &[u32],
 ) -> Result<(), Differs>
-    ensures { state.new.lent ≡ state.old.lent }
+    ensures lent { state.new.lent ≡ state.old.lent }
+    ensures index { state.new.index ≡ index_left (λ changed. changed.index) deleted state.old.index }
+    ensures read { IfOk result (λ _. Answered (λ from to changed. Emptied from to changed.count changed.index.capacity scratch.now) line.old.rest line.new.rest deleted) }
 {
     if let Ok(changed) = deleted {
         state.index = changed.index;
@@ -75,7 +79,8 @@ pub fn delete(
     arrays: &mut Arrays<'_>,
     scratch: &mut [u32],
 ) -> Result<(), Differs>
-    ensures { state.new.lent ≡ state.old.lent }
+    ensures lent { state.new.lent ≡ state.old.lent }
+    ensures read { IfOk result (λ _. Deletes line.old.rest line.new.rest state.old.index state.new.index) }
 {
     let lent = state.lent;
     let asked = asked(line, part_mut(arrays.rows, lent.rows))?;

@@ -1,5 +1,7 @@
 // Lines `insert`.
-ghost use Rattle.std.specs.Prelude.{◌≡◌};
+ghost use Rattle.std.specs.Prelude.{◌≡◌, IfOk};
+ghost use Rattle.lines.specs.Inner.Answers.{Answered, index_left};
+ghost use Rattle.changes.specs.Inner.Calls.{Filled, Inserts};
 
 use index::{InsertSlices, Refusal};
 use lines::answers::expect_done;
@@ -14,7 +16,9 @@ fn expect_inserted(
     inserted: Result<Changed, Refusal>,
     slots: &[u32],
 ) -> Result<(), Differs>
-    ensures { state.new.lent ≡ state.old.lent }
+    ensures lent { state.new.lent ≡ state.old.lent }
+    ensures index { state.new.index ≡ index_left (λ changed. changed.index) inserted state.old.index }
+    ensures read { IfOk result (λ _. Answered (λ from to changed. Filled from to changed.count slots.now) line.old.rest line.new.rest inserted) }
 {
     if let Ok(changed) = inserted {
         state.index = changed.index;
@@ -33,7 +37,8 @@ pub fn insert(
     arrays: &mut Arrays<'_>,
     scratch: &mut [u32],
 ) -> Result<(), Differs>
-    ensures { state.new.lent ≡ state.old.lent }
+    ensures lent { state.new.lent ≡ state.old.lent }
+    ensures read { IfOk result (λ _. Inserts line.old.rest line.new.rest state.old.index state.new.index) }
 {
     let mut slots = [0u32; 1024];
     let lent = state.lent;

@@ -2,7 +2,7 @@
 #![tactic(auto)]
 
 ghost use Rattle.std.specs.Prelude.{◌≡◌, IfOk};
-ghost use Rattle.text.specs.Inner.Text.{Ended};
+ghost use Rattle.changes.specs.Inner.Calls.{Changes};
 
 mod deleting;
 mod inserting;
@@ -25,7 +25,7 @@ pub fn perform(
     scratch: &mut [u32],
 ) -> Result<(), Differs>
     ensures lent { state.new.lent ≡ state.old.lent }
-    ensures read { IfOk result (λ _. Ended line.new.rest) }
+    ensures read { IfOk result (λ _. Changes what line.old.rest line.new.rest state.old.index state.new.index) }
 {
     match what {
         Changing::Make => make(line, state, arrays)?,

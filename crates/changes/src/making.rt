@@ -1,18 +1,38 @@
 // Lines `make`.
-ghost use Rattle.std.specs.Prelude.{◌≡◌};
+ghost use Rattle.std.specs.Prelude.{◌≡◌, IfOk};
+ghost use Rattle.lines.specs.Inner.Answers.{Answered, index_left};
+ghost use Rattle.changes.specs.Inner.Calls.{Makes};
 
-use index::{Making, NewSlices};
+use index::{Index, Making, NewSlices, Refusal};
 use lines::answers::expect_done;
 use lines::prepare::{Arrays, State, alpha_of, part_mut};
 use text::{Differs, Numbers};
 
-// Performs a line `make`, which leaves the new index, or the former one where it is refused.
+// Passes the answer to making, which leaves the new index, or the former one where it is refused.
+fn expect_created(
+    line: &mut Numbers<'_>,
+    state: &mut State,
+    created: Result<Index, Refusal>,
+) -> Result<(), Differs>
+    ensures lent { state.new.lent ≡ state.old.lent }
+    ensures index { state.new.index ≡ index_left (λ index. index) created state.old.index }
+    ensures read { IfOk result (λ _. Answered (λ from to index. from ≡ to) line.old.rest line.new.rest created) }
+{
+    if let Ok(index) = created {
+        state.index = index;
+    }
+    expect_done(line, created)?;
+    Ok(())
+}
+
+// Performs a line `make`.
 pub fn make(
     line: &mut Numbers<'_>,
     state: &mut State,
     arrays: &mut Arrays<'_>,
 ) -> Result<(), Differs>
-    ensures { state.new.lent ≡ state.old.lent }
+    ensures lent { state.new.lent ≡ state.old.lent }
+    ensures read { IfOk result (λ _. Makes line.old.rest line.new.rest state.old.index state.new.index) }
 {
     let lent = state.lent;
     let given = Making {
@@ -37,9 +57,5 @@ pub fn make(
         summary: part_mut(arrays.summary, lent.summary),
     };
     let created = index::create(&given, &mut slices);
-    if let Ok(index) = created {
-        state.index = index;
-    }
-    expect_done(line, created)?;
-    Ok(())
+    expect_created(line, state, created)
 }

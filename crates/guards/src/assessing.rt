@@ -1,8 +1,8 @@
 // Lines `assess`.
-ghost use Rattle.std.specs.Prelude.{List, ℕ, Result, IfOk};
-ghost use Rattle.index.specs.declared.Refusal.{Refusal};
-ghost use Rattle.admission.specs.declared.report.Report.{Report};
-ghost use Rattle.guards.specs.Inner.Answers.{Answered, Reported};
+ghost use Rattle.std.specs.Prelude.{IfOk};
+ghost use Rattle.lines.specs.Inner.Answers.{Answered};
+ghost use Rattle.guards.specs.Inner.Answers.{Reported};
+ghost use Rattle.guards.specs.Inner.Calls.{Assessed};
 
 use super::reports::expect_report;
 use admission::{Lists, Report};
@@ -33,7 +33,7 @@ pub fn assess(
     arrays: &Arrays<'_>,
     scratch: &mut [u32],
 ) -> Result<(), Differs>
-    ensures { IfOk result (λ _. (checked : List ℕ) × (lost : List ℕ) × (assessed : Result Report Refusal) × Answered (λ left rest report. Reported left rest report checked lost) line.old.rest line.new.rest assessed) }
+    ensures { IfOk result (λ _. Assessed line.old.rest line.new.rest) }
 {
     let mut checked = [0u32; 1024];
     let mut lost = [0u32; 1024];

@@ -1,5 +1,7 @@
 // Lines `guarded`.
-ghost use Rattle.std.specs.Prelude.{◌≡◌};
+ghost use Rattle.std.specs.Prelude.{◌≡◌, IfOk};
+ghost use Rattle.lines.specs.Inner.Answers.{Answered, index_left};
+ghost use Rattle.guards.specs.Inner.Calls.{GuardedDeletes, GuardedRead, index_guarded};
 
 use super::reports::expect_report;
 use admission::Lists;
@@ -19,7 +21,9 @@ fn expect_guarded(
     lost: &[u32],
     scratch: &[u32],
 ) -> Result<(), Differs>
-    ensures { state.new.lent ≡ state.old.lent }
+    ensures lent { state.new.lent ≡ state.old.lent }
+    ensures index { state.new.index ≡ index_left (index_guarded state.old.index) guarded state.old.index }
+    ensures read { IfOk result (λ _. Answered (GuardedRead checked.now lost.now scratch.now) line.old.rest line.new.rest guarded) }
 {
     if let Ok(Guarded::Applied(changed, _)) = guarded {
         state.index = changed.index;
@@ -41,7 +45,8 @@ pub fn delete(
     arrays: &mut Arrays<'_>,
     scratch: &mut [u32],
 ) -> Result<(), Differs>
-    ensures { state.new.lent ≡ state.old.lent }
+    ensures lent { state.new.lent ≡ state.old.lent }
+    ensures read { IfOk result (λ _. GuardedDeletes line.old.rest line.new.rest state.old.index state.new.index) }
 {
     let mut checked = [0u32; 1024];
     let mut lost = [0u32; 1024];

@@ -1,5 +1,7 @@
 // Lines `enable`.
-ghost use Rattle.std.specs.Prelude.{◌≡◌};
+ghost use Rattle.std.specs.Prelude.{◌≡◌, IfOk};
+ghost use Rattle.lines.specs.Inner.Answers.{Answered, index_left};
+ghost use Rattle.guards.specs.Inner.Calls.{Enables, Pooled};
 
 use super::statuses::expect_status;
 use guard::Config;
@@ -16,7 +18,9 @@ fn expect_enabled(
     enabled: Result<Enabled, Refusal>,
     pool: &[u32],
 ) -> Result<(), Differs>
-    ensures { state.new.lent ≡ state.old.lent }
+    ensures lent { state.new.lent ≡ state.old.lent }
+    ensures index { state.new.index ≡ index_left (λ enabled. enabled.index) enabled state.old.index }
+    ensures read { IfOk result (λ _. Answered (λ from to enabled. Pooled from to enabled.status pool.now) line.old.rest line.new.rest enabled) }
 {
     if let Ok(enabled) = enabled {
         state.index = enabled.index;
@@ -36,7 +40,8 @@ pub fn enable(
     arrays: &mut Arrays<'_>,
     scratch: &mut [u32],
 ) -> Result<(), Differs>
-    ensures { state.new.lent ≡ state.old.lent }
+    ensures lent { state.new.lent ≡ state.old.lent }
+    ensures read { IfOk result (λ _. Enables line.old.rest line.new.rest state.old.index state.new.index) }
 {
     let config = Config {
         count: line.argument(),

@@ -2,7 +2,7 @@
 #![tactic(auto)]
 
 ghost use Rattle.std.specs.Prelude.{◌≡◌, IfOk};
-ghost use Rattle.text.specs.Inner.Text.{Ended};
+ghost use Rattle.guards.specs.Inner.Calls.{Guards};
 
 mod assessing;
 mod deleting;
@@ -27,7 +27,7 @@ pub fn perform(
     scratch: &mut [u32],
 ) -> Result<(), Differs>
     ensures lent { state.new.lent ≡ state.old.lent }
-    ensures read { IfOk result (λ _. Ended line.new.rest) }
+    ensures read { IfOk result (λ _. Guards what line.old.rest line.new.rest state.old.index state.new.index) }
 {
     match what {
         Guarding::Enable => enable(line, state, arrays, scratch)?,

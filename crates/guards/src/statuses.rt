@@ -1,7 +1,8 @@
 // Lines `status`, and the numbers of a status.
 ghost use Rattle.std.specs.Prelude.{IfOk};
 ghost use Rattle.text.specs.Inner.Text.{ReadsAll};
-ghost use Rattle.guards.specs.Inner.Answers.{StatusRead, status_numbers};
+ghost use Rattle.guards.specs.Inner.Answers.{status_numbers};
+ghost use Rattle.guards.specs.Inner.Calls.{StatusRead};
 
 use guarding::Status;
 use lines::answers::expect_done;

@@ -1,13 +1,11 @@
 -- The numbers of a status and of a report.
 use denote.Ref.{Bor}
-use Rattle.std.specs.Prelude.{List, [], ◌∷◌, Option, Result, MatchResult, ℕ, ◌≤◌, length, take, unwrap_or}
+use Rattle.std.specs.Prelude.{List, [], ◌∷◌, Option, ℕ, ◌≤◌, length, take, unwrap_or}
 use Rattle.std.specs.Int.{from_bool}
 use Rattle.slots.specs.Store.{blank}
 use Rattle.admission.specs.declared.report.Report.{Report}
 use Rattle.guarding.specs.declared.Status.{Status}
-use Rattle.index.specs.Refusal.{number_of}
-use Rattle.index.specs.declared.Refusal.{Refusal}
-use Rattle.text.specs.Inner.Text.{Reads, ReadsAll}
+use Rattle.text.specs.Inner.Text.{ReadsAll}
 
 -- the five numbers of a status
 abbrev pub status_numbers : Status → List ℕ
@@ -24,11 +22,3 @@ pub record Reported (old new : Option (Bor (List ℕ))) (report : Report) (check
   pub listed : Option (Bor (List ℕ))
   pub with_checked : (report.checked ≤ length checked) × ReadsAll counted listed (take report.checked checked)
   pub with_lost : (report.lost ≤ length lost) × ReadsAll listed new (take report.lost lost)
-
--- an answer was read next of a line: the number of its refusal, or 0 and what follows
-abbrev pub Answered : {A : Type 0} → (Option (Bor (List ℕ)) → Option (Bor (List ℕ)) → A → Type 0) → Option (Bor (List ℕ)) → Option (Bor (List ℕ)) → Result A Refusal → Type 0
-Answered follows old new answer = MatchResult answer (λ x. (left : Option (Bor (List ℕ))) × Reads old left 0 × follows left new x) (λ refusal. Reads old new (number_of refusal))
-
--- so was the answer to `status`
-abbrev pub StatusRead : Option (Bor (List ℕ)) → Option (Bor (List ℕ)) → Type 0
-StatusRead old new = (answer : Result Status Refusal) × Answered (λ left rest s. ReadsAll left rest (status_numbers s)) old new answer
