@@ -136,8 +136,6 @@ pub fn create(given: &Making<'_>, slices: &mut NewSlices<'_>) -> Result<Index, R
     let checked = check_making(given, slices.read().lengths());
     checked?;
     write(given, slices);
-    let numbers = &mut *slices.numbers;
-    let summary = &mut *slices.summary;
-    write_labels(given.numbers, numbers, summary);
+    write_labels(given.numbers, slices.numbers, slices.summary);
     Ok(new_index(given))
 }
