@@ -3,7 +3,7 @@ use lib.ListN.{length}
 use native.Mathlib.Omega.{arith}
 use Rattle.candidates.proofs.Words.{cands_each}
 use Rattle.walk.specs.Inner.Scratch.{mark_word}
-use Rattle.walk.proofs.Entering.{scan_more, scan_all}
+use Rattle.walk.proofs.Entering.{scan_more}
 use Rattle.walk.proofs.words.List.unexpanded.Goals as goal
 
 pub mark-requires : goal.mark-requires
@@ -11,6 +11,3 @@ mark-requires c = omega (arith, c.id_at.ensures, cands_each (λ x. mark_word x.i
 
 pub loop-i-preserved : goal.loop-i-preserved
 loop-i-preserved c = scan_more _ _ c.id_at.ensures c.mark.ensures c.if-mark-ne-EXPANDED.false c.loop-i.invariant
-
-pub returns : goal.returns
-returns c = (λ q. scan_all (omega (arith, c.loop-i.auto.i-end c.requires.passed, c.loop-i-test.false)) c.loop-i.invariant, λ i q. cc)
