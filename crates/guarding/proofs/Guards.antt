@@ -8,6 +8,7 @@ use native.Mathlib.Omega.{arith}
 use borrow.Author.Tests.{ltb-false}
 use lib.Dec.{ltb}
 use lib.ListN.{length, replicate, length-replicate}
+use Rattle.std.proofs.lemmas.Bool.{or_parts}
 use Rattle.lists.specs.Lists.{range, put_front}
 use Rattle.slots.specs.Sizes.{Slices, limits, alpha_ok}
 use Rattle.slots.specs.Store.{Store, store_view, store_ops}
@@ -26,7 +27,7 @@ use Rattle.calls.specs.Refusals.{Test, first_of, is_off, scratch_short, lists_sh
 use Rattle.calls.specs.State.{State, stored, shown, with_graph}
 use Rattle.calls.specs.Step.{slots_of, named, deletion, refusal, perform, guarded, report_of, step}
 use Rattle.calls.specs.Runs.{lent_of, slices_of, call_of, run_refusal}
-use Rattle.calls.proofs.Tests.{first_none, or_neither, index_finds}
+use Rattle.calls.proofs.Tests.{first_none, index_finds}
 use Rattle.calls.proofs.Labelled.{same_guarded, same_guarded_refusal}
 use Rattle.index.specs.Index.{state_of, arrays_of}
 use Rattle.index.specs.Inner.Deciding.{Passed}
@@ -57,8 +58,8 @@ module _ (index : Index) (s : Slices) (ids : List ℕ) (beam degree room : ℕ) 
   unfolding limits
   guarded_testable =
       record {
-        long = λ e. ltb-false (min (length checked) (length lost)) 64 (or_neither (ltb room (length ids)) _ (sym w ∙ e)).1;
-        few = λ e. ltb-false 256 (length ids) (or_neither (ltb 256 beam || ltb 16 degree) _ (sym o ∙ e)).1;
+        long = λ e. ltb-false (min (length checked) (length lost)) 64 (or_parts (ltb room (length ids)) _ (sym w ∙ e)).1;
+        few = λ e. ltb-false 256 (length ids) (or_parts (ltb 256 beam || ltb 16 degree) _ (sym o ∙ e)).1;
       }
 
   abbrev call : List Stats → Call
@@ -153,7 +154,7 @@ module _ (index : Index) (s : Slices) (ids : List ℕ) (beam degree room : ℕ) 
         enough : n ≤ room
         enough =
             let d = (subst (λ (x : Result Report Refusal). Tested index s wrong over ids checked lost scratch checked' lost' scratch₁ x) e t).decided in
-            let q = (or_neither (ltb room (length ids)) _ (sym w ∙ lists_right index s wrong over scratch d refl)).0 in
+            let q = (or_parts (ltb room (length ids)) _ (sym w ∙ lists_right index s wrong over scratch d refl)).0 in
             omega (arith, b.few, ltb-false room (length ids) q)
 
         inside : length scratch₁ ≡ length scratch → length scratch' ≡ length scratch₁ → stats_at index.capacity + 4 * n ≤ length scratch'

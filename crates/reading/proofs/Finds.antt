@@ -10,6 +10,7 @@ use lib.Dec.{eqb, ltb}
 use lib.Ieee.{Float}
 use lib.ListN.{length, take, drop, set, length-set, length-map}
 use lib.Seq.{take_all, take_at}
+use Rattle.std.proofs.lemmas.Bool.{or_parts}
 use Rattle.lists.specs.Lists.{put_front}
 use Rattle.lists.proofs.All.{all_take}
 use Rattle.lists.proofs.Front.{front_map}
@@ -40,7 +41,7 @@ use Rattle.reading.specs.Inner.Finding.{search_tests, Fits, Shown}
 use Rattle.reading.specs.Search.{search_outputs, searching_of, found_of, found_as, Searches}
 use Rattle.reading.specs.declared.searching.Searching.{Searching}
 use Rattle.reading.specs.declared.searching.Found.{Found}
-use Rattle.calls.proofs.Tests.{first_none, or_neither}
+use Rattle.calls.proofs.Tests.{first_none}
 use Rattle.index.proofs.Decide.{decided_after, turned_back, let_through, own_none, not_wrong, passed, passed_marks, step_back, step_on}
 
 -- ---- rows 7 and 8
@@ -130,10 +131,10 @@ module _ {index : Index} {s : Slices} (a : Searching) (f : Found) (scratch : Lis
 
     beam_most : a.beam ≤ 1024
     unfolding limits
-    beam_most = ltb-false 1024 a.beam (or_neither (ltb 1024 a.beam) _ own.0).0
+    beam_most = ltb-false 1024 a.beam (or_parts (ltb 1024 a.beam) _ own.0).0
 
     room : a.k ≤ min (min (length f.slots.now) (length f.dists.now)) (length f.numbers.now)
-    room = ltb-false (min (min (length f.slots.now) (length f.dists.now)) (length f.numbers.now)) a.k (or_neither (ltb limits.beam a.beam) _ own.0).1
+    room = ltb-false (min (min (length f.slots.now) (length f.dists.now)) (length f.numbers.now)) a.k (or_parts (ltb limits.beam a.beam) _ own.0).1
 
     words : marks_at + length s.marks ≤ length scratch
     unfolding size_answer

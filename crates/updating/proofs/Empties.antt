@@ -9,6 +9,7 @@ use borrow.Author.Tests.{ltb-false}
 use lib.Dec.{ltb}
 use lib.Ieee.{Float}
 use lib.ListN.{length}
+use Rattle.std.proofs.lemmas.Bool.{or_parts}
 use Rattle.lists.specs.Lists.{filter, range}
 use Rattle.lists.proofs.Filter.{filter_length}
 use Rattle.lists.proofs.Ranges.{length_range}
@@ -30,7 +31,7 @@ use Rattle.calls.specs.Outputs.{room_of, written}
 use Rattle.calls.specs.State.{State, stored, shown, with_graph}
 use Rattle.calls.specs.Step.{slots_of, deletion, refusal, perform}
 use Rattle.calls.specs.Runs.{lent_of, slices_of, call_of, run_refusal}
-use Rattle.calls.proofs.Tests.{first_none, or_neither}
+use Rattle.calls.proofs.Tests.{first_none}
 use Rattle.index.specs.declared.Index.{Index}
 use Rattle.index.specs.Index.{guard_of, state_of, arrays_of}
 use Rattle.index.specs.Inner.Deciding.{Decided, Passed}
@@ -66,8 +67,8 @@ module _ {index : Index} {s : Slices} (able : Passed index s) (ids : List ℕ) (
   unfolding limits
   delete_able scratch over short =
       let m = passed_marks able in
-      let o = or_neither (ltb 256 beam || ltb 16 degree) (ltb 256 (length ids)) over in
-      let p = or_neither (ltb 256 beam) (ltb 16 degree) o.0 in
+      let o = or_parts (ltb 256 beam || ltb 16 degree) (ltb 256 (length ids)) over in
+      let p = or_parts (ltb 256 beam) (ltb 16 degree) o.0 in
       record {
         together = record { bytes = passed_bytes able; rows = passed_rows able; degree_most = able.degree_high };
         entry_in = rw m able.entry_inside;

@@ -9,6 +9,7 @@ use borrow.Author.Tests.{lt-ltb, le-ltb, ltb-false, eq-eqb, ne_eqb, eqb-true, no
 use lib.Dec.{eqb, ltb}
 use lib.ListN.{length, take, drop, length-map}
 use lib.Seq.{length-take-le, take-append-le, take-length}
+use Rattle.std.proofs.lemmas.Bool.{or_parts}
 use Rattle.lists.specs.Lists.{filter, range, elem, put_front}
 use Rattle.lists.proofs.Filtered.{count_both}
 use Rattle.lists.proofs.Ranges.{length_range}
@@ -31,7 +32,7 @@ use Rattle.calls.specs.Outputs.{Outputs, room_of, written}
 use Rattle.calls.specs.State.{State, stored, shown, with_graph}
 use Rattle.calls.specs.Step.{vectors_of, refusal, perform}
 use Rattle.calls.specs.Runs.{lent_of, slices_of, call_of, run_refusal}
-use Rattle.calls.proofs.Tests.{first_none, or_neither}
+use Rattle.calls.proofs.Tests.{first_none}
 use Rattle.calls.proofs.Count.{Insertable as InsertFinds, insert_finds}
 use Rattle.calls.proofs.Labelled.{inserting_now, filled_now}
 use Rattle.index.specs.declared.Index.{Index}
@@ -109,7 +110,7 @@ module _ (index : Index) (s : Slices) (a : Insert) (slots scratch : ℕ) {n : �
                 arith,
                 ltb-false (index.capacity - index.live) n (sym e₁₀ ∙ f₁₀),
                 holds.capacity_high,
-                eqb-true (length a.numbers) n (not-false (eqb (length a.numbers) n) (or_neither (ltb slots n) (not (eqb (length a.numbers) n)) (sym w ∙ not_wrong index s d z)).1),
+                eqb-true (length a.numbers) n (not-false (eqb (length a.numbers) n) (or_parts (ltb slots n) (not (eqb (length a.numbers) n)) (sym w ∙ not_wrong index s d z)).1),
               ),
             )
 
@@ -200,7 +201,7 @@ module _ (index : Index) {s₀ s : Slices} (same : s₀ ≡ s) (a : Insert) (slo
           dim_least = p.dim_low;
           entry_in = rw m p.entry_inside;
           beam_most = beam_most;
-          room_in = ltb-false (length slots) count (or_neither (ltb (length slots) count) (not (eqb (length a.numbers) count)) (not_wrong index s d z)).0;
+          room_in = ltb-false (length slots) count (or_parts (ltb (length slots) count) (not (eqb (length a.numbers) count)) (not_wrong index s d z)).0;
           free_in = rw m enough_free;
           enough = rw m (omega (arith, insert_enough index.capacity index.degree p.degree_high, ltb-false (length scratch) (size_answer index.capacity) own.1));
         }

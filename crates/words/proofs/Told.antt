@@ -217,10 +217,3 @@ module _ {words : List ℕ} {s : Slices} {slot : ℕ} {p : List ℕ} where
           let v = cond (is_valid s.marks slot) (take (index_of words).dim l) [] in
           let a : vector p ≡ vector v = ap (λ x. x.1) (r.meets.does ∙ step_on on asked e) in
           part_some (index_of words).dim l (is_valid s.marks slot) (let y : p ≡ v = cc in y)
-
--- ---- search
-
-pub searches_words : {words : List ℕ} {s : Slices} {a : Search} {outputs : Outputs} {scratch : List ℕ} {outputs' : Outputs} {scratch' : List ℕ} {before after status : ℕ} {i : Index} {r : Result ℕ Refusal}
-    → i ≡ index_of words → Searches i s a outputs scratch outputs' scratch' r → (status, after) ≡ put r before → SearchesWords words s a outputs scratch outputs' scratch' before after status
-searches_words {s = s} {a} {outputs} {scratch} {outputs'} {scratch'} {r = r} e c p =
-    record { answer = r; does = subst (λ i. Searches i s a outputs scratch outputs' scratch' r) e c; told = p }

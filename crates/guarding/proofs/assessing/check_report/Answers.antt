@@ -1,9 +1,9 @@
-use Rattle.std.proofs.lemmas.Result.{err_from_is_err_and}
+use Rattle.index.proofs.Decide.{handed_on}
 use Rattle.guarding.proofs.Tested.{turns_before, turns_over, turns_short, turns_last}
 use Rattle.guarding.proofs.assessing.check_report.Goals as goal
 
 pub returns-in_err-check_index : goal.returns-in_err-check_index
-returns-in_err-check_index c = let p = err_from_is_err_and c.from_residual.result c.from_residual.ensures.1 in rw (p.1, p.2) ((turns_before c.args.over c.args.scratch c.check_index.ensures c.in_err-check_index.was, tt))
+returns-in_err-check_index c = rw (handed_on c.from_residual.result c.from_residual.ensures.1) ((turns_before c.args.over c.args.scratch c.check_index.ensures c.in_err-check_index.was, tt))
 
 pub returns-then-over : goal.returns-then-over
 returns-then-over c = (turns_over c.args.over c.args.scratch c.check_index.ensures c.in_ok-check_index.was c.if-over.true, tt)

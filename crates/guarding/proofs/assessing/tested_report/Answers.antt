@@ -5,15 +5,6 @@ use Rattle.index.specs.Lent.{slices_of}
 use Rattle.guarding.proofs.Tested.{tested_back, tested_ready, tested_on}
 use Rattle.guarding.proofs.assessing.tested_report.Goals as goal
 
-pub returns-in_err-guard : goal.returns-in_err-guard
-returns-in_err-guard c =
-    let l = c.args.lists.now in
-    let p = err_from_is_err_and c.from_residual.result c.from_residual.ensures.1 in
-    rw (p.1, p.2) (
-      tested_back c.args.index (slices_of c.args.slices.now) c.args.wrong c.args.over c.args.scratch.now c.check_report.ensures.0 c.args.ids.now l.checked.now l.lost.now c.in_err-guard.was,
-      record { checked = refl; lost = refl },
-    )
-
 pub report_by-requires : goal.report_by-requires
 report_by-requires c =
     let l = c.args.lists.now in

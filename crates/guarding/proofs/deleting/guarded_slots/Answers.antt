@@ -1,23 +1,15 @@
 use mathlib.Core.Path.{refl, ap}
 use borrow.Author.Tests.{not-true, not-false}
-use Rattle.std.proofs.lemmas.Result.{err_from_is_err_and}
+use Rattle.index.proofs.Decide.{handed_on}
 use Rattle.index.specs.Lent.{delete_slices_of}
 use Rattle.guarding.proofs.Guards.{guarded_testable, guards_back, guards_able, guards_few, guards_applied, guards_deferred}
 use Rattle.guarding.proofs.deleting.guarded_slots.Goals as goal
-
-pub tested_report-requires : goal.tested_report-requires
-tested_report-requires c =
-    let a = c.args.asked.now in
-    let l = c.args.lists.now in
-    guarded_testable c.args.index (delete_slices_of c.args.slices.now) a.names.now a.repair_beam a.repair_degree c.args.room l.checked.now l.lost.now c.args.scratch.now
-    c.outputs_short-wrong.ensures c.delete_over-over.ensures
 
 pub returns-in_err-report : goal.returns-in_err-report
 returns-in_err-report c =
     let a = c.args.asked.now in
     let l = c.args.lists.now in
-    let p = err_from_is_err_and c.from_residual.result c.from_residual.ensures.1 in
-    rw (p.1, p.2) (
+    rw (handed_on c.from_residual.result c.from_residual.ensures.1) (
       guards_back c.args.index (delete_slices_of c.args.slices.now) a.names.now a.repair_beam a.repair_degree c.args.room l.checked.now l.lost.now c.args.scratch.now
           c.outputs_short-wrong.ensures c.delete_over-over.ensures c.read.ensures c.tested_report.ensures.0 c.in_err-report.was,
       record { vectors = refl; targets = refl; edges = refl; versions = refl; marks = refl; pool = refl; numbers = refl; summary = refl },

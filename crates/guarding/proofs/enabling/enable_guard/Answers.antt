@@ -1,14 +1,13 @@
 use mathlib.Core.Path.{refl}
 use native.Mathlib.Omega.{arith}
-use Rattle.std.proofs.lemmas.Result.{err_from_is_err_and}
+use Rattle.index.proofs.Decide.{handed_on}
 use Rattle.guard.specs.Lent.{config_of}
 use Rattle.guarding.proofs.Enables.{enables_back, marks_few, pool_ready, status_ready, enables_on}
 use Rattle.guarding.proofs.enabling.enable_guard.Goals as goal
 
 pub returns-in_err-check_enable : goal.returns-in_err-check_enable
 returns-in_err-check_enable c =
-    let p = err_from_is_err_and c.from_residual.result c.from_residual.ensures.1 in
-    rw (p.1, p.2) (
+    rw (handed_on c.from_residual.result c.from_residual.ensures.1) (
       enables_back c.args.index c.read.ensures (config_of c.args.config) c.args.scratch.now c.check_enable.ensures c.in_err-check_enable.was,
       record { vectors = refl; targets = refl; edges = refl; versions = refl; marks = refl; pool = refl; numbers = refl; summary = refl },
     )
@@ -18,9 +17,6 @@ residual_entry-requires c = marks_few c.args.index c.read.ensures (config_of c.a
 
 pub choose_pool-n-requires : goal.choose_pool-n-requires
 choose_pool-n-requires c = pool_ready c.args.index c.read.ensures (config_of c.args.config) c.args.scratch.now c.check_enable.ensures c.in_ok-check_enable.was c.residual_entry.ensures c.unwrap_or-start.ensures c.normalized-config.ensures
-
-pub overflow_cast-n : goal.overflow_cast-n
-overflow_cast-n c = omega (arith, c.choose_pool-n.ensures.few)
 
 pub status_of-status-requires : goal.status_of-status-requires
 status_of-status-requires c =

@@ -1,5 +1,5 @@
 use mathlib.Core.Path.{refl, ap}
-use Rattle.std.proofs.lemmas.Result.{err_from_is_err_and}
+use Rattle.index.proofs.Decide.{handed_on}
 use Rattle.index.specs.Lent.{delete_slices_of}
 use Rattle.updating.proofs.Empties.{deletes_back, deletes_able, deletes_few, deletes_on}
 use Rattle.updating.proofs.deleting.delete_slots.Goals as goal
@@ -7,8 +7,7 @@ use Rattle.updating.proofs.deleting.delete_slots.Goals as goal
 pub returns-in_err-check_delete : goal.returns-in_err-check_delete
 returns-in_err-check_delete c =
     let a = c.args.asked.now in
-    let p = err_from_is_err_and c.from_residual.result c.from_residual.ensures.1 in
-    rw (p.1, p.2) (
+    rw (handed_on c.from_residual.result c.from_residual.ensures.1) (
       deletes_back c.args.index c.read.ensures a.names.now a.repair_beam a.repair_degree c.args.room c.args.scratch.now c.check_delete.ensures c.in_err-check_delete.was,
       record { vectors = refl; targets = refl; edges = refl; versions = refl; marks = refl; pool = refl; numbers = refl; summary = refl },
     )

@@ -1,10 +1,10 @@
-use Rattle.std.proofs.lemmas.Result.{err_from_is_err_and}
+use Rattle.index.proofs.Decide.{handed_on}
 use Rattle.updating.specs.Insert.{inserting_of}
 use Rattle.updating.proofs.Fills.{turns_before, turns_live, turns_listed, turns_over, turns_short, turns_left, turns_few, turns_taken, turns_none}
 use Rattle.updating.proofs.inserting.check_insert.Goals as goal
 
 pub returns-in_err-check_index : goal.returns-in_err-check_index
-returns-in_err-check_index c = let p = err_from_is_err_and c.from_residual.result c.from_residual.ensures.1 in rw (p.1, p.2) (turns_before _ _ (inserting_of c.args.asked.now) c.args.slots c.args.scratch c.whole-n.ensures c.room_or_numbers_wrong-wrong.ensures c.check_index.ensures c.in_err-check_index.was)
+returns-in_err-check_index c = rw (handed_on c.from_residual.result c.from_residual.ensures.1) (turns_before _ _ (inserting_of c.args.asked.now) c.args.slots c.args.scratch c.whole-n.ensures c.room_or_numbers_wrong-wrong.ensures c.check_index.ensures c.in_err-check_index.was)
 
 pub returns-then-asked-gt-BEAM : goal.returns-then-asked-gt-BEAM
 returns-then-asked-gt-BEAM c = turns_over _ _ (inserting_of c.args.asked.now) c.args.slots c.args.scratch c.whole-n.ensures c.room_or_numbers_wrong-wrong.ensures c.check_index.ensures c.in_ok-check_index.was c.if-asked-gt-BEAM.true

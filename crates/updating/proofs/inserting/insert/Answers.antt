@@ -1,6 +1,6 @@
 use mathlib.Core.Path.{refl, ap}
 use native.Mathlib.Omega.{arith}
-use Rattle.std.proofs.lemmas.Result.{err_from_is_err_and}
+use Rattle.index.proofs.Decide.{handed_on}
 use Rattle.index.specs.Lent.{insert_slices_of}
 use Rattle.updating.specs.Insert.{inserting_of}
 use Rattle.updating.proofs.Fills.{inserts_back, insert_able, more_fits, insert_labelable, inserts_on}
@@ -8,8 +8,7 @@ use Rattle.updating.proofs.inserting.insert.Goals as goal
 
 pub returns-in_err-check_insert : goal.returns-in_err-check_insert
 returns-in_err-check_insert c =
-    let p = err_from_is_err_and c.from_residual.result c.from_residual.ensures.1 in
-    rw (p.1, p.2) (
+    rw (handed_on c.from_residual.result c.from_residual.ensures.1) (
       inserts_back c.args.index c.read.ensures (inserting_of c.args.asked.now) c.args.slots.now c.args.scratch.now c.check_insert.ensures c.in_err-check_insert.was,
       record { vectors = refl; targets = refl; edges = refl; versions = refl; marks = refl; pool = refl; numbers = refl; summary = refl },
     )
