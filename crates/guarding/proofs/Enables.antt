@@ -169,15 +169,15 @@ module _ (index : Index) {s₀ s : Slices} (same : s₀ ≡ s) (c : Config) (scr
   pub enables_back : {x : Refusal} → r ≡ Err x → Enables index s c scratch s scratch (Err x)
   unfolding refused_as enabled_as enabled_index written state_of call_of slices_of
   enables_back {x} n =
-      record { meets = record { does = sym (step_back before call (number_of x) (same_tests ∙ turned_back index s d n)); writes = refl; keeps = λ m e. refl } }
+      record { meets = record { does = sym (step_back before call (number_of x) (same_tests ∙ turned_back d n)); writes = refl; keeps = λ m e. refl } }
 
   module _ {u : A} (z : r ≡ Ok u) where
     abbrev able : Passed index s
-    able = passed index s d z
+    able = passed d z
 
     own : (over ≡ false) × (short ≡ false) × (eqb index.live 0 ≡ false)
     own =
-        let e = first_none 7 over ((8, short) ∷ (12, eqb index.live 0) ∷ (13, eqb index.live 1) ∷ []) (own_none index s d z) in
+        let e = first_none 7 over ((8, short) ∷ (12, eqb index.live 0) ∷ (13, eqb index.live 1) ∷ []) (own_none d z) in
         let f = first_none 8 short ((12, eqb index.live 0) ∷ (13, eqb index.live 1) ∷ []) e.1 in
         (e.0, f.0, (first_none 12 (eqb index.live 0) ((13, eqb index.live 1) ∷ []) f.1).0)
 
@@ -262,14 +262,14 @@ module _ (index : Index) {s₀ s : Slices} (same : s₀ ≡ s) (c : Config) (scr
 
               not_refused : (k : ℕ) → refusal stored before call ≡ some k → ⊥
               unfolding refusal
-              not_refused k h = let j = sym (same_tests ∙ let_through index s d z) ∙ h in let x : ◌≡◌ {A = ℕ} 0 1 = cc in omega arith
+              not_refused k h = let j = sym (same_tests ∙ let_through d z) ∙ h in let x : ◌≡◌ {A = ℕ} 0 1 = cc in omega arith
 
               pub enables_on : {scratch' : List ℕ} → Enables index s c scratch (with_pool s pool') scratch' (Ok (record { index = i; status = now }))
               unfolding enabled_as enabled_index written state_of call_of slices_of run_refusal
               enables_on =
                   record {
                     meets = record {
-                      does = performed ∙ sym (step_on before call (same_tests ∙ let_through index s d z));
+                      does = performed ∙ sym (step_on before call (same_tests ∙ let_through d z));
                       writes = refl;
                       keeps = λ k h. absurd (not_refused k h);
                     };

@@ -308,7 +308,7 @@ pub passed_none : (index : Index) (s : Slices) (wrong : Bool) (rest : List Test)
 unfolding index_tests shown stored store_ops store_view state_of
 passed_none index s wrong rest h = four_passed index s wrong (none_of _ _ _ _ rest (sym h)).0
 
-module _ (index : Index) (s : Slices) {wrong : Bool} {rest : List Test} {A : Type 0} {r : Result A Refusal} (d : Decided index s wrong rest r) where
+module _ {index : Index} {s : Slices} {wrong : Bool} {rest : List Test} {A : Type 0} {r : Result A Refusal} (d : Decided index s wrong rest r) where
   -- the number of an error is the number given
   pub turned_back : {e : Refusal} → r ≡ Err e → first_of (index_tests limits (lengths_of s) (shown stored (state_of index s)) wrong rest) ≡ some (number_of e)
   turned_back z = sym d.does ∙ ap back z

@@ -112,12 +112,12 @@ module _ {index : Index} {s : Slices} (a : Searching) (f : Found) (scratch : Lis
         nearest = [];
         numbers = [];
         counts = λ m o. cc;
-        meets = record { does = sym (step_back (state_of index s) call (row_of e) (turned_back index s d z)); writes = refl; keeps = λ m e. refl };
+        meets = record { does = sym (step_back (state_of index s) call (row_of e) (turned_back d z)); writes = refl; keeps = λ m e. refl };
       }
 
   module _ {v : A} (z : r ≡ Ok v) where
     abbrev able : Passed index s
-    able = passed index s d z
+    able = passed d z
 
     abbrev over : Bool
     over = ltb limits.beam a.beam || ltb (min (min (length f.slots.now) (length f.dists.now)) (length f.numbers.now)) a.k
@@ -127,7 +127,7 @@ module _ {index : Index} {s : Slices} (a : Searching) (f : Found) (scratch : Lis
 
     -- what the search's own tests leave
     own : (over ≡ false) × (small ≡ false)
-    own = let e = first_none 7 over ((8, small) ∷ []) (own_none index s d z) in (e.0, (first_none 8 small [] e.1).0)
+    own = let e = first_none 7 over ((8, small) ∷ []) (own_none d z) in (e.0, (first_none 8 small [] e.1).0)
 
     beam_most : a.beam ≤ 1024
     unfolding limits
@@ -145,7 +145,7 @@ module _ {index : Index} {s : Slices} (a : Searching) (f : Found) (scratch : Lis
       pub search_ready : Ready g a.query.now index.entry a.beam scratch
       search_ready =
           rw same (record {
-            query_long = eqb-true (length a.query.now) index.dim (not-false _ (not_wrong index s d z));
+            query_long = eqb-true (length a.query.now) index.dim (not-false _ (not_wrong d z));
             start_inside = rw (passed_marks able) able.entry_inside;
             beam_most = beam_most;
             room = words;
@@ -189,7 +189,7 @@ module _ {index : Index} {s : Slices} (a : Searching) (f : Found) (scratch : Lis
 
         not_refused : (m : ℕ) → refusal stored (state_of index s) call ≡ some m → ⊥
         unfolding refusal tests state_of stored store_ops store_view shown room_of
-        not_refused m h = let g = sym (let_through index s d z) ∙ h in cc
+        not_refused m h = let g = sym (let_through d z) ∙ h in cc
 
         module _ {slots' : List ℕ} {dists' : List Float} {numbers' : List ℕ} (h : Shown scratch' n f.slots.now f.dists.now slots' dists')
             (copied : numbers' ≡ put_front (map (number_of s.numbers) (take n slots')) f.numbers.now) where
@@ -214,7 +214,7 @@ module _ {index : Index} {s : Slices} (a : Searching) (f : Found) (scratch : Lis
                 numbers = figures;
                 counts = λ m o. let q : n ≡ m = cc in sym q ∙ sym (cands_length scratch' 0 n);
                 meets = record {
-                  does = ap (λ cs. (state_of index s, found cs (map (number_of s.numbers) (ids cs)))) nearest_found ∙ sym (step_on (state_of index s) call (let_through index s d z));
+                  does = ap (λ cs. (state_of index s, found cs (map (number_of s.numbers) (ids cs)))) nearest_found ∙ sym (step_on (state_of index s) call (let_through d z));
                   writes = λ i. search_outputs (h.slots_written i) (h.dists_written i) (figures_written i);
                   keeps = λ m o. absurd (not_refused m o);
                 };

@@ -177,17 +177,17 @@ module _ (index : Index) {s₀ s : Slices} (same : s₀ ≡ s) (ids : List ℕ) 
         stats = [];
         words = λ c e. cc;
         fits = λ c e. cc;
-        meets = λ before e. record { does = sym (step_back (state_of index s) (call before) (number_of x) (turned_back index s (with_list before e) n)); writes = refl; keeps = λ m e. refl };
+        meets = λ before e. record { does = sym (step_back (state_of index s) (call before) (number_of x) (turned_back (with_list before e) n)); writes = refl; keeps = λ m e. refl };
       }
 
   module _ {u : A} (z : r ≡ Ok u) where
     pub able : Passed index s
-    able = passed index s d z
+    able = passed d z
 
     own : (delete_over limits (slot_delete ids beam degree) ≡ false) × (ltb (length scratch) (size_answer index.capacity) ≡ false)
     own =
         let short = ltb (length scratch) (size_answer index.capacity) in
-        let e = first_none 7 (delete_over limits (slot_delete ids beam degree)) ((8, short) ∷ []) (own_none index s d z) in
+        let e = first_none 7 (delete_over limits (slot_delete ids beam degree)) ((8, short) ∷ []) (own_none d z) in
         (e.0, (first_none 8 short [] e.1).0)
 
     pub deletes_able : Deletable (arrays_of index s) index.entry beam degree ids scratch
@@ -196,7 +196,7 @@ module _ (index : Index) {s₀ s : Slices} (same : s₀ ≡ s) (ids : List ℕ) 
 
     not_refused : (before : List Stats) → length before ≡ room → (m : ℕ) → refusal stored (state_of index s) (call before) ≡ some m → ⊥
     unfolding refusal tests state_of stored store_ops store_view shown room_of
-    not_refused before e m h = let g = sym (let_through index s (with_list before e) z) ∙ h in let x : ◌≡◌ {A = ℕ} 0 1 = cc in omega arith
+    not_refused before e m h = let g = sym (let_through (with_list before e) z) ∙ h in let x : ◌≡◌ {A = ℕ} 0 1 = cc in omega arith
 
     module _ (s' : Slices) {scratch' : List ℕ} {entry' n : ℕ}
         (b : BatchDeleted (arrays_of index s) index.alpha index.entry beam degree ids (arrays_of index s') entry' n scratch')
@@ -212,9 +212,9 @@ module _ (index : Index) {s₀ s : Slices} (same : s₀ ≡ s) (ids : List ℕ) 
           record {
             stats = map (stats_of scratch' (stats_at index.capacity)) (range 0 n);
             words = λ k g. ap (λ (x : ℕ). map (stats_of scratch' (stats_at index.capacity)) (range 0 x)) (counted k g);
-            fits = λ k g. omega (arith, counted k g, b.few, ltb-false room (length ids) (not_wrong index s d z));
+            fits = λ k g. omega (arith, counted k g, b.few, ltb-false room (length ids) (not_wrong d z));
             meets = λ before l. record {
-              does = ap (λ (v : State Store × List Stats). (v.0, deleted v.1)) w ∙ sym (step_on (state_of index s) (call before) (let_through index s (with_list before l) z));
+              does = ap (λ (v : State Store × List Stats). (v.0, deleted v.1)) w ∙ sym (step_on (state_of index s) (call before) (let_through (with_list before l) z));
               writes = refl;
               keeps = λ m g. absurd (not_refused before l m g);
             };

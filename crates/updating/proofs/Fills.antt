@@ -65,7 +65,7 @@ module _ (index : Index) (s : Slices) (a : Insert) (slots scratch : ℕ) {n : �
 
   module _ {u : A} (z : r ≡ Ok u) where
     holds : Passed index s
-    holds = passed index s d z
+    holds = passed d z
 
     -- the live slots are counted, so the others are free
     free_is : index.live + length (filter (λ t. not (is_valid s.marks t)) (range 0 index.capacity)) ≡ index.capacity
@@ -110,7 +110,7 @@ module _ (index : Index) (s : Slices) (a : Insert) (slots scratch : ℕ) {n : �
                 arith,
                 ltb-false (index.capacity - index.live) n (sym e₁₀ ∙ f₁₀),
                 holds.capacity_high,
-                eqb-true (length a.numbers) n (not-false (eqb (length a.numbers) n) (or_parts (ltb slots n) (not (eqb (length a.numbers) n)) (sym w ∙ not_wrong index s d z)).1),
+                eqb-true (length a.numbers) n (not-false (eqb (length a.numbers) n) (or_parts (ltb slots n) (not (eqb (length a.numbers) n)) (sym w ∙ not_wrong d z)).1),
               ),
             )
 
@@ -163,24 +163,24 @@ module _ (index : Index) {s₀ s : Slices} (same : s₀ ≡ s) (a : Insert) (slo
       record {
         filled = [];
         counts = λ c h. cc;
-        meets = record { does = sym (step_back (state_of index s) call (number_of x) (turned_back index s d n)); writes = refl; keeps = λ m e. refl };
+        meets = record { does = sym (step_back (state_of index s) call (number_of x) (turned_back d n)); writes = refl; keeps = λ m e. refl };
       }
 
   module _ {u : A} (z : r ≡ Ok u) where
     abbrev able : Passed index s
-    able = passed index s d z
+    able = passed d z
 
     -- none of the call's tests holds
     let_on : first_of (tests limits call.lent (shown stored (state_of index s)) (insert a)) ≡ none
     unfolding tests state_of stored store_ops store_view shown room_of
-    let_on = let_through index s d z
+    let_on = let_through d z
 
     pub finds : InsertFinds call.lent (shown stored (state_of index s)) a
     finds = insert_finds call.lent (shown stored (state_of index s)) a let_on
 
     own : (over ≡ false) × (small ≡ false)
     own =
-        let e = first_none 7 over ((8, small) ∷ (9, odd) ∷ (10, full) ∷ (15, taken s.numbers a.numbers) ∷ []) (own_none index s d z) in
+        let e = first_none 7 over ((8, small) ∷ (9, odd) ∷ (10, full) ∷ (15, taken s.numbers a.numbers) ∷ []) (own_none d z) in
         (e.0, (first_none 8 small ((9, odd) ∷ (10, full) ∷ (15, taken s.numbers a.numbers) ∷ []) e.1).0)
 
     beam_most : a.beam ≤ 1024
@@ -201,7 +201,7 @@ module _ (index : Index) {s₀ s : Slices} (same : s₀ ≡ s) (a : Insert) (slo
           dim_least = p.dim_low;
           entry_in = rw m p.entry_inside;
           beam_most = beam_most;
-          room_in = ltb-false (length slots) count (or_parts (ltb (length slots) count) (not (eqb (length a.numbers) count)) (not_wrong index s d z)).0;
+          room_in = ltb-false (length slots) count (or_parts (ltb (length slots) count) (not (eqb (length a.numbers) count)) (not_wrong d z)).0;
           free_in = rw m enough_free;
           enough = rw m (omega (arith, insert_enough index.capacity index.degree p.degree_high, ltb-false (length scratch) (size_answer index.capacity) own.1));
         }

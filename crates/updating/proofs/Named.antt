@@ -74,14 +74,14 @@ module _ (naming : Naming) (index : Index) (s : Slices) (names : List ℕ) (beam
       where
         go : (q : Result A Refusal) → Decided index s false [] q → false ≡ is_ok q → Passes → names ≡ named on asked
         go (Ok u) k e n = cc
-        go (Err x) k e n = let z = sym (turned_back index s k refl) ∙ n in cc
+        go (Err x) k e n = let z = sym (turned_back k refl) ∙ n in cc
 
     -- the numbers of one that is not can be looked up
     pub by_slots_listed : true ≡ is_ok r → Listed s.numbers s.summary index.live
     by_slots_listed f = go r d f
       where
         go : (q : Result A Refusal) → Decided index s false [] q → true ≡ is_ok q → Listed s.numbers s.summary index.live
-        go (Ok u) k e = passed_listed (passed index s k refl)
+        go (Ok u) k e = passed_listed (passed k refl)
         go (Err x) k e = cc
 
   -- by those that carry the numbers

@@ -8,7 +8,7 @@ pub returns-in_default : goal.returns-in_default
 returns-in_default c = vector_back c.check_index.ensures c.in_default.is refl
 
 pub live_vector-requires : goal.live_vector-requires
-live_vector-requires c = passed_bytes (passed c.args.index (slices_of c.args.slices.now) c.check_index.ensures c.in-Ok.is)
+live_vector-requires c = passed_bytes (passed c.check_index.ensures c.in-Ok.is)
 
 pub returns : goal.returns
 returns c = vector_on c.check_index.ensures c.in-Ok.is refl c.live_vector.ensures

@@ -9,10 +9,10 @@ returns-in_err-check_search c =
     rw (handed_on c.from_residual.result c.from_residual.ensures.1) (searches_back c.args.asked.now c.args.found.now c.args.scratch.now c.check_search.ensures c.in_err-check_search.was, record { slots = refl; dists = refl; numbers = refl })
 
 pub graph-graph-requires-clause-bytes : goal.graph-graph-requires-clause-bytes
-graph-graph-requires-clause-bytes c = passed_bytes (passed c.args.index (slices_of c.args.slices.now) c.check_search.ensures c.in_ok-check_search.was)
+graph-graph-requires-clause-bytes c = passed_bytes (passed c.check_search.ensures c.in_ok-check_search.was)
 
 pub graph-graph-requires-clause-shape : goal.graph-graph-requires-clause-shape
-graph-graph-requires-clause-shape c = passed_rows (passed c.args.index (slices_of c.args.slices.now) c.check_search.ensures c.in_ok-check_search.was)
+graph-graph-requires-clause-shape c = passed_rows (passed c.check_search.ensures c.in_ok-check_search.was)
 
 pub search_pool-pool-requires : goal.search_pool-pool-requires
 search_pool-pool-requires c = search_ready c.args.asked.now c.args.found.now c.args.scratch.now c.check_search.ensures c.in_ok-check_search.was c.graph-graph.ensures
