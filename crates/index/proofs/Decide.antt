@@ -5,7 +5,7 @@ use mathlib.Core.Path.{◌≡◌, refl, sym, ap, ◌∙◌}
 use mathlib.Core.List.{List, [], ◌∷◌}
 use mathlib.Core.Option.{Option, none, some}
 use native.Mathlib.Omega.{arith}
-use borrow.Author.Tests.{leb-true, ltb-true, ltb-false, eqb-true, not-true, not-false, lt-leb, le-leb}
+use borrow.Author.Tests.{leb-true, ltb-true, eqb-true, not-true, not-false}
 use lib.Ieee.{Float}
 use lib.ListN.{length}
 use lib.Dec.{eqb, ltb, leb}

@@ -1,4 +1,4 @@
-use Rattle.index.proofs.Makes.{labels_apart, labels_long, labels_new}
+use Rattle.index.proofs.Makes.{labels_apart, labels_long}
 use Rattle.index.proofs.making.write_labels.Goals as goal
 
 pub summarize-requires : goal.summarize-requires

@@ -1,4 +1,3 @@
-use Rattle.index.specs.Lent.{slices_of}
 use Rattle.index.proofs.Decide.{passed, passed_bytes, passed_rows, handed_on}
 use Rattle.reading.proofs.Shown.{reads_back, reads_on}
 use Rattle.reading.proofs.readings.read.Goals as goal

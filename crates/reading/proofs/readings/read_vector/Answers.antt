@@ -1,5 +1,4 @@
 use mathlib.Core.Path.{refl}
-use Rattle.index.specs.Lent.{slices_of}
 use Rattle.index.proofs.Decide.{passed, passed_bytes}
 use Rattle.reading.proofs.Shown.{vector_back, vector_on}
 use Rattle.reading.proofs.readings.read_vector.Goals as goal

@@ -1,5 +1,4 @@
 use mathlib.Core.Path.{sym, ◌∙◌}
-use Rattle.numbers.proofs.Listing.{listed_front}
 use Rattle.numbers.proofs.Taken.{taken_split}
 use Rattle.updating.proofs.inserting.taken.Goals as goal
 
