@@ -52,20 +52,25 @@ ok_is e = cc
 
 -- ---- rows 7 to 10, and 15
 
-module _ (index : Index) (s : Slices) (a : Insert) (slots scratch : ℕ) {n : ℕ} {wrong : Bool} {A : Type 0} {r : Result A Refusal}
-    (e : n ≡ length a.bytes / index.dim) (w : wrong ≡ (ltb slots n || not (eqb (length a.numbers) n))) (d : Decided index s wrong [] r) where
+-- an insert whose index was looked at
+pub record Asked (index : Index) (s : Slices) (a : Insert) (slots n : ℕ) (wrong : Bool) {A : Type 0} (r : Result A Refusal) : Type 0 where
+  pub count : n ≡ length a.bytes / index.dim
+  pub room : wrong ≡ (ltb slots n || not (eqb (length a.numbers) n))
+  pub decided : Decided index s wrong [] r
+
+module _ {index : Index} {s : Slices} {a : Insert} {slots : ℕ} (scratch : ℕ) {n : ℕ} {wrong : Bool} {A : Type 0} {r : Result A Refusal} (k : Asked index s a slots n wrong r) where
   abbrev Turns : Result A Refusal → Type 0
-  Turns k = Decided index s (insert_wrong index a slots) (insert_tests index s a scratch) k
+  Turns x = Decided index s (insert_wrong index a slots) (insert_tests index s a scratch) x
 
   right : Decided index s (insert_wrong index a slots) [] r
-  right = subst (λ (q : Bool). Decided index s q [] r) (w ∙ ap (λ (x : ℕ). ltb slots x || not (eqb (length a.numbers) x)) e) d
+  right = subst (λ (q : Bool). Decided index s q [] r) (k.room ∙ ap (λ (x : ℕ). ltb slots x || not (eqb (length a.numbers) x)) k.count) k.decided
 
   pub turns_before : {x : Refusal} → r ≡ Err x → Turns (Err x)
   turns_before z = decided_before right _ z
 
   module _ {u : A} (z : r ≡ Ok u) where
     holds : Passed index s
-    holds = passed d z
+    holds = passed k.decided z
 
     -- the live slots are counted, so the others are free
     free_is : index.live + length (filter (λ t. not (is_valid s.marks t)) (range 0 index.capacity)) ≡ index.capacity
@@ -88,14 +93,14 @@ module _ (index : Index) (s : Slices) (a : Insert) (slots scratch : ℕ) {n : �
         unfolding limits
         turns_left t =
             decided_after right _ _ z
-            (rw (le-ltb 1024 a.beam b, sym e₈ ∙ f₈, ne_eqb (length a.bytes) (length a.bytes / index.dim * index.dim) (λ x. t (x ∙ ap (λ m. m * index.dim) (sym e)))))
+            (rw (le-ltb 1024 a.beam b, sym e₈ ∙ f₈, ne_eqb (length a.bytes) (length a.bytes / index.dim * index.dim) (λ x. t (x ∙ ap (λ m. m * index.dim) (sym k.count)))))
 
         module _ (f₉ : length a.bytes ≡ n * index.dim) {q₁₀ : Bool} (e₁₀ : q₁₀ ≡ ltb (index.capacity - index.live) n) where
           whole_is : eqb (length a.bytes) (length a.bytes / index.dim * index.dim) ≡ true
-          whole_is = eq-eqb (length a.bytes) (length a.bytes / index.dim * index.dim) (f₉ ∙ ap (λ m. m * index.dim) e)
+          whole_is = eq-eqb (length a.bytes) (length a.bytes / index.dim * index.dim) (f₉ ∙ ap (λ m. m * index.dim) k.count)
 
           few : q₁₀ ≡ ltb (length (filter (λ t. not (is_valid s.marks t)) (range 0 index.capacity))) (length a.bytes / index.dim)
-          few = e₁₀ ∙ ap₂ ltb (omega (arith, free_is)) e
+          few = e₁₀ ∙ ap₂ ltb (omega (arith, free_is)) k.count
 
           pub turns_few : q₁₀ ≡ true → Turns (Err Refused.Full)
           unfolding limits
@@ -110,7 +115,7 @@ module _ (index : Index) (s : Slices) (a : Insert) (slots scratch : ℕ) {n : �
                 arith,
                 ltb-false (index.capacity - index.live) n (sym e₁₀ ∙ f₁₀),
                 holds.capacity_high,
-                eqb-true (length a.numbers) n (not-false (eqb (length a.numbers) n) (or_parts (ltb slots n) (not (eqb (length a.numbers) n)) (sym w ∙ not_wrong d z)).1),
+                eqb-true (length a.numbers) n (not-false (eqb (length a.numbers) n) (or_parts (ltb slots n) (not (eqb (length a.numbers) n)) (sym k.room ∙ not_wrong k.decided z)).1),
               ),
             )
 
