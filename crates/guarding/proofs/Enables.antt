@@ -138,11 +138,14 @@ fault_free c {n} o h =
 
 -- ---- enabling
 
--- of slices that are read as s₀
-module _ (index : Index) {s₀ s : Slices} (same : s₀ ≡ s) (c : Config) (scratch : List ℕ) {A : Type 0} {r : Result A Refusal}
-    (d₀ : Decided index s₀ false (enable_tests index c (length scratch)) r) where
+-- an enabling that was checked, with its slices read as s₀
+pub record EnableChecked (index : Index) (s₀ s : Slices) (c : Config) (scratch : List ℕ) {A : Type 0} (r : Result A Refusal) : Type 0 where
+  pub read : s₀ ≡ s
+  pub decided : Decided index s₀ false (enable_tests index c (length scratch)) r
+
+module _ {index : Index} {s₀ s : Slices} {c : Config} {scratch : List ℕ} {A : Type 0} {r : Result A Refusal} (checked : EnableChecked index s₀ s c scratch r) where
   d : Decided index s false (enable_tests index c (length scratch)) r
-  d = subst (λ (x : Slices). Decided index x false (enable_tests index c (length scratch)) r) same d₀
+  d = subst (λ (x : Slices). Decided index x false (enable_tests index c (length scratch)) r) checked.read checked.decided
 
   abbrev before : State Store
   before = state_of index s

@@ -154,14 +154,17 @@ module _ {index : Index} {s : Slices} (able : Passed index s) (ids : List ℕ) (
 
 -- ---- a delete of slots
 
--- of slices that are read as s₀
-module _ (index : Index) {s₀ s : Slices} (same : s₀ ≡ s) (ids : List ℕ) (beam degree room : ℕ) (scratch : List ℕ) {A : Type 0} {r : Result A Refusal}
-    (d₀ : Decided index s₀ (ltb room (length ids)) (delete_tests index (slot_delete ids beam degree) (length scratch)) r) where
+-- a delete of slots that was checked, with its slices read as s₀
+pub record DeleteChecked (index : Index) (s₀ s : Slices) (ids : List ℕ) (beam degree room : ℕ) (scratch : List ℕ) {A : Type 0} (r : Result A Refusal) : Type 0 where
+  pub read : s₀ ≡ s
+  pub decided : Decided index s₀ (ltb room (length ids)) (delete_tests index (slot_delete ids beam degree) (length scratch)) r
+
+module _ {index : Index} {s₀ s : Slices} {ids : List ℕ} {beam degree room : ℕ} {scratch : List ℕ} {A : Type 0} {r : Result A Refusal} (checked : DeleteChecked index s₀ s ids beam degree room scratch r) where
   abbrev Tests : Slices → ℕ → Type 0
   Tests s room = Decided index s (ltb room (length ids)) (delete_tests index (slot_delete ids beam degree) (length scratch)) r
 
   d : Tests s room
-  d = subst (λ (x : Slices). Tests x room) same d₀
+  d = subst (λ (x : Slices). Tests x room) checked.read checked.decided
 
   abbrev call : List Stats → Call
   call before = record { lent = lent_of s (stats_outputs before) scratch; operation = delete (slot_delete ids beam degree) }

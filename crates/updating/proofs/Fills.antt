@@ -138,11 +138,14 @@ module _ {numbers summary : List ℕ} {live : ℕ} {slots given : List ℕ} (k :
 
 -- ---- an insert
 
--- of slices that are read as s₀
-module _ (index : Index) {s₀ s : Slices} (same : s₀ ≡ s) (a : Insert) (slots scratch : List ℕ) {A : Type 0} {r : Result A Refusal}
-    (d₀ : Decided index s₀ (insert_wrong index a (length slots)) (insert_tests index s₀ a (length scratch)) r) where
+-- an insert that was checked, with its slices read as s₀
+pub record InsertChecked (index : Index) (s₀ s : Slices) (a : Insert) (slots scratch : List ℕ) {A : Type 0} (r : Result A Refusal) : Type 0 where
+  pub read : s₀ ≡ s
+  pub decided : Decided index s₀ (insert_wrong index a (length slots)) (insert_tests index s₀ a (length scratch)) r
+
+module _ {index : Index} {s₀ s : Slices} {a : Insert} {slots scratch : List ℕ} {A : Type 0} {r : Result A Refusal} (checked : InsertChecked index s₀ s a slots scratch r) where
   d : Decided index s (insert_wrong index a (length slots)) (insert_tests index s a (length scratch)) r
-  d = subst (λ (x : Slices). Decided index x (insert_wrong index a (length slots)) (insert_tests index x a (length scratch)) r) same d₀
+  d = subst (λ (x : Slices). Decided index x (insert_wrong index a (length slots)) (insert_tests index x a (length scratch)) r) checked.read checked.decided
 
   abbrev call : Call
   call = record { lent = lent_of s (insert_outputs slots) scratch; operation = insert a }
