@@ -1,8 +1,7 @@
-use mathlib.Core.Path.{refl}
 use Rattle.std.specs.Prelude.{◌≡◌, Some}
-use Rattle.std.proofs.lemmas.Result.{err_from_is_err_and, IfOk-at_ok}
+use Rattle.std.proofs.lemmas.Result.{IfOk-at_ok}
 use Rattle.index.specs.Lent.{slices_of}
-use Rattle.guarding.proofs.Tested.{tested_back, tested_ready, tested_on}
+use Rattle.guarding.proofs.Tested.{tested_ready, tested_on}
 use Rattle.guarding.proofs.assessing.tested_report.Goals as goal
 
 pub report_by-requires : goal.report_by-requires

@@ -1,5 +1,4 @@
 use mathlib.Core.Path.{refl}
-use native.Mathlib.Omega.{arith}
 use Rattle.index.specs.Lent.{slices_of, enable_slices_of}
 use Rattle.index.proofs.Decide.{handed_on}
 use Rattle.guard.specs.Lent.{config_of}
