@@ -1,5 +1,7 @@
 -- What is written of a value that was read, and where the stats of a delete stand. Assumes nothing.
 use Rattle.std.specs.Prelude.{ℕ, ◌+◌, ◌*◌, ◌≤◌, Bool, true, false, List, ◌≡◌, Float, length, Result, Ok, Err}
+use Rattle.std.specs.Float.{binary32}
+use Rattle.std.specs.Float.Ieee.{of_bits}
 use Rattle.slots.specs.Sizes.{Slices}
 use Rattle.deletion.specs.Batch.{stats_at}
 use Rattle.calls.specs.Calls.{Delete}
