@@ -13,9 +13,6 @@ pub record Pasting (l : List ℕ) (at : ℕ) (xs : List ℕ) (j : ℕ) (l' : Lis
   pub list : l' ≡ paste l at xs j
   pub size : length l' ≡ length l
 
-pub pasting_none : (l : List ℕ) (at : ℕ) (xs : List ℕ) → Pasting l at xs 0 l
-pasting_none l at xs = record { list = paste-zero l at xs; size = refl }
-
 pub pasting_more : {l : List ℕ} {at : ℕ} {xs : List ℕ} {j : ℕ} {l' : List ℕ} {v : ℕ} → at + j < length l → j < length xs → v ≡ get_or xs j 0
     → Pasting l at xs j l' → Pasting l at xs (j + 1) (set l' (at + j) v)
 pasting_more {l} {at} {xs} {j} {l'} {v} h k e p =

@@ -36,16 +36,6 @@ fits_numbers marks numbers l = fits_from marks numbers 0 (length marks) (omega a
 pub record Fitting (marks numbers : List ℕ) (bad : Bool) (ms ns : List ℕ) : Type 0 where
   pub rest : not bad && all_fit ms ns ≡ all_fit marks numbers
 
-pub fitting_more : {marks numbers ms ns : List ℕ} {bad : Bool} (ms' ns' : List ℕ) (m n : ℕ) → Fitting marks numbers bad ms ns → ms ≡ m ∷ ms' → ns ≡ n ∷ ns' → Fitting marks numbers (bad || not (beq (eqb m 0) (eqb n 0))) ms' ns'
-fitting_more {marks} {numbers} {bad = bad} ms' ns' m n k f g = record { rest = go bad (eqb m 0) (eqb n 0) (rw (f, g) at k.rest) }
-  where
-    go : (b x y : Bool) → not b && (cond (not x) (not y) y && all_fit ms' ns') ≡ all_fit marks numbers → not (b || not (beq x y)) && all_fit ms' ns' ≡ all_fit marks numbers
-    go true x y e = e
-    go false true true e = e
-    go false true false e = e
-    go false false true e = e
-    go false false false e = e
-
 fit_empty : (ms ns : List ℕ) → (ms ≡ []) ⊎ (ns ≡ []) → all_fit ms ns ≡ true
 fit_empty ms ns (inl e) = rw e
 fit_empty [] ns (inr e) = refl

@@ -92,6 +92,3 @@ ends_full {beam} w {n} {i} {a} {b} h k p q =
 pub scan_more : (w : List ℕ) (i : ℕ) {s m : ℕ} → s ≡ (cand w (0 + 2 * i)).id → m ≡ mark w s → m ≡ 2 → All (λ c. mark w c.id ≡ 2) (cands w 0 i)
     → All (λ c. mark w c.id ≡ 2) (cands w 0 (i + 1))
 scan_more w i e p h f = rw (cands_snoc w 0 i) (all_append _ (cands w 0 i) _ f (rw e at (sym p ∙ h), tt))
-
-pub scan_all : {w : List ℕ} {n i : ℕ} → n ≡ i → All (λ c. mark w c.id ≡ 2) (cands w 0 i) → Unexpanded w n n
-scan_all e f = rw e (record { within = omega arith; done = f; stops = λ l. absurd (omega arith) })
