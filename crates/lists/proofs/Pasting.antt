@@ -1,11 +1,11 @@
 -- Loops that write a list over a part of a list, one element a turn. Assumes nothing.
 use Prim.Native.Nat.{ℕ, ◌+◌, ◌*◌, ◌<◌}
-use mathlib.Core.Path.{◌≡◌, refl, sym, ◌∙◌}
+use mathlib.Core.Path.{◌≡◌, sym, ◌∙◌}
 use mathlib.Core.List.{List, append_assoc}
 use native.Mathlib.Numerals.{add-one}
 use native.Mathlib.Omega.{arith}
 use lib.ListN.{length, get_or, set, length-set}
-use lib.Seq.{paste, paste-zero, paste-suc, take_all}
+use lib.Seq.{paste, paste-suc, take_all}
 use Rattle.lists.specs.Lists.{put_part}
 
 -- l' is l with the first j elements of xs written from index at on

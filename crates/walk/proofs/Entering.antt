@@ -15,7 +15,7 @@ use Rattle.candidates.specs.Inner.Words.{pair, cand, cands, Inserted, Small}
 use Rattle.candidates.proofs.Words.{cands_length, cands_take, cands_snoc, cands_init, cands_last, outside_none, outside_wide}
 use Rattle.walk.specs.Walk.{worst, enter, ends}
 use Rattle.slots.specs.Scratch.{marks_at}
-use Rattle.walk.specs.Inner.Scratch.{mark, Listed, Entered, Unexpanded}
+use Rattle.walk.specs.Inner.Scratch.{mark, Listed, Entered}
 
 pub worst_at : (w : List ℕ) (n : ℕ) → 0 < n → worst (cands w 0 n) ≡ (cand w (0 + 2 * (n - 1))).dist
 worst_at w n h = ap (λ (c : Candidate). c.dist) (cands_last w 0 n h (pair 0 0))
