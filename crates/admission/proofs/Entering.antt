@@ -11,8 +11,8 @@ use native.Mathlib.Numerals.{add-one}
 use native.Mathlib.Omega.{arith}
 use borrow.Author.Tests.{not-true}
 use lib.ListN.{length}
+use Rattle.std.proofs.lemmas.Bool.{and_parts}
 use Rattle.lists.specs.Lists.{filter, elem, range}
-use Rattle.lists.proofs.Bools.{and_both}
 use Rattle.lists.proofs.Ranges.{range_cons, range_none}
 use Rattle.slots.specs.View.{live_slots, emptied}
 use Rattle.slots.specs.Store.{Store, is_valid, store_view}
@@ -93,13 +93,13 @@ module _ (marks ids : List ℕ) (entry : ℕ) {u : Bool} (v : u ≡ remains mark
 -- ---- a slot that stays
 module _ (marks out : List ℕ) (s : ℕ) (e : remains marks out s ≡ true) where
   pub remains_live : is_valid marks s ≡ true
-  remains_live = (and_both (is_valid marks s) (not (elem s out)) e).0
+  remains_live = (and_parts (is_valid marks s) (not (elem s out)) e).0
 
   pub remains_inside : s < length marks
   remains_inside = live_inside marks s remains_live
 
   pub remains_out : elem s out ≡ false
-  remains_out = not-true (elem s out) (and_both (is_valid marks s) (not (elem s out)) e).1
+  remains_out = not-true (elem s out) (and_parts (is_valid marks s) (not (elem s out)) e).1
 
 -- ---- what enabling finds: a slot inside
 pub record Found (b : Store) (marks : List ℕ) (r : Option ℕ) : Type 0 where

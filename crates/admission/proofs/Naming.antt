@@ -1,6 +1,6 @@
 -- How many slots the live ones of some ids are: each is counted where it stands first. Assumes nothing.
 use Prim.Native.Nat.{ℕ, ◌+◌, ◌≤◌, ◌<◌}
-use mathlib.Core.Bool.{Bool, true, false, not, ◌&&◌, ◌||◌, cond}
+use mathlib.Core.Bool.{Bool, true, false, not, ◌&&◌, ◌||◌, cond, or-false}
 use mathlib.Core.Path.{◌≡◌, refl, ap, ◌∙◌}
 use mathlib.Core.List.{List, [], ◌∷◌, ◌++◌, map, map-id, append-nil}
 use native.Mathlib.Numerals.{add-one}
@@ -16,7 +16,7 @@ use Rattle.lists.proofs.Filter.{filter_every}
 use Rattle.lists.proofs.Filtered.{filter_snoc}
 use Rattle.lists.proofs.Firsts.{filter_same, fresh, fresh_first, fresh_again}
 use Rattle.lists.proofs.Members.{elem_filter}
-use Rattle.lists.proofs.Unique.{elem_snoc, or-false}
+use Rattle.lists.proofs.Unique.{elem_snoc}
 use Rattle.admission.proofs.Pooling.{one_of, one_few}
 
 -- ---- of the ids before place i, those with p are c different ones

@@ -5,11 +5,11 @@ use mathlib.Core.Path.{◌≡◌, refl, ap, sym, ◌∙◌}
 use mathlib.Core.List.{List, [], ◌∷◌, ◌++◌, append_assoc, append-nil}
 use native.Mathlib.Omega.{arith}
 use native.Mathlib.Nat.{mul-le-mul, mul-suc}
-use native.Mathlib.Numerals.{add-one}
 use lib.ListN.{length, take, drop, get_or, set, length-append, length-set, drop_of_length-le}
-use lib.Seq.{drop-cons, take-nil}
+use lib.Seq.{take-nil}
 use Rattle.std.specs.Prelude.{fold, count_by}
 use Rattle.std.specs.Int.{from_bool}
+use Rattle.std.proofs.lemmas.List.{drop_more}
 use Rattle.lists.specs.Lists.{filter, put_front}
 use Rattle.lists.proofs.Filtered.{count_cons}
 use Rattle.lists.proofs.Front.{front_snoc}
@@ -78,9 +78,6 @@ pub record Counting (p : ℕ → Bool) (l : List ℕ) (c i : ℕ) : Type 0 where
   pub few : c ≤ i
   pub goes : c + length (filter p (drop i l)) ≡ length (filter p l)
 
-pub counting_none : (p : ℕ → Bool) (l : List ℕ) → Counting p l 0 0
-counting_none p l = record { few = omega arith; goes = omega arith }
-
 -- one more where a test holds
 pub one_of : (t : Bool) → from_bool t ≡ cond t 1 0
 one_of true = refl
@@ -90,13 +87,10 @@ pub one_few : (t : Bool) {c i : ℕ} → c ≤ i → c + from_bool t ≤ i + 1
 one_few true h = omega arith
 one_few false h = omega arith
 
-pub next_one : (l : List ℕ) (i : ℕ) → i < length l → drop i l ≡ get_or l i 0 ∷ drop (i + 1) l
-next_one l i h = rw (add-one, drop-cons l i 0 h)
-
 module _ {p : ℕ → Bool} {l : List ℕ} {c i : ℕ} (f : Counting p l c i) where
   pub counting_next : {t : Bool} {k : ℕ} → i < length l → t ≡ p (get_or l i 0) → k ≡ from_bool t → Counting p l (c + k) (i + 1)
   counting_next {t} {k} h e g =
-      let a : length (filter p (drop i l)) ≡ from_bool t + length (filter p (drop (i + 1) l)) = rw (next_one l i h, one_of t, e) (count_cons p (get_or l i 0) (drop (i + 1) l)) in
+      let a : length (filter p (drop i l)) ≡ from_bool t + length (filter p (drop (i + 1) l)) = rw (drop_more l i 0 h, one_of t, e) (count_cons p (get_or l i 0) (drop (i + 1) l)) in
       rw g (record { few = one_few t f.few; goes = omega (arith, f.goes, a) })
 
   pub counting_done : length l ≤ i → c ≡ length (filter p l)
@@ -130,7 +124,7 @@ module _ {p : ℕ → Bool} {pool : List ℕ} {count : ℕ} {l₀ l : List ℕ} 
   keeping_take room k some v g =
       let id = get_or pool i 0 in
       let z : count - m ≡ suc (count - (m + 1)) = omega (arith, f.most, some) in
-      let o : f.taken ++ (id ∷ take (count - (m + 1)) (filter p (drop (i + 1) pool))) ≡ take count (filter p pool) = rw (next_one pool i k, sym v ∙ g, z) at f.goes in
+      let o : f.taken ++ (id ∷ take (count - (m + 1)) (filter p (drop (i + 1) pool))) ≡ take count (filter p pool) = rw (drop_more pool i 0 k, sym v ∙ g, z) at f.goes in
       let j : length f.taken < length l₀ = omega (arith, f.many, f.most, some) in
       record {
         most = omega (arith, f.most, some);
@@ -142,7 +136,7 @@ module _ {p : ℕ → Bool} {pool : List ℕ} {count : ℕ} {l₀ l : List ℕ} 
       }
 
   pub keeping_skip : {t : Bool} → i < length pool → t ≡ p (get_or pool i 0) → t ≡ false → Keeping p pool count l₀ l m (i + 1)
-  keeping_skip k v g = record { most = f.most; taken = f.taken; many = f.many; list = f.list; goes = rw (next_one pool i k, sym v ∙ g) at f.goes; size = f.size }
+  keeping_skip k v g = record { most = f.most; taken = f.taken; many = f.many; list = f.list; goes = rw (drop_more pool i 0 k, sym v ∙ g) at f.goes; size = f.size }
 
   done : f.taken ≡ take count (filter p pool) → Fronted (take count (filter p pool)) l₀ l m
   done e = rw (← e) (record { list = f.list; count = f.many })

@@ -5,6 +5,7 @@ use mathlib.Core.Path.{◌≡◌, refl, ap, ◌∙◌}
 use mathlib.Core.List.{List, [], ◌∷◌, ◌++◌, append_assoc, append-nil}
 use native.Mathlib.Omega.{arith}
 use lib.ListN.{length, drop, get_or, set, length-append, length-set, drop_of_length-le}
+use Rattle.std.proofs.lemmas.List.{drop_more}
 use Rattle.lists.specs.Lists.{filter, elem, part, put_front}
 use Rattle.lists.proofs.Front.{front_snoc}
 use Rattle.lists.proofs.Parts.{fits_in}
@@ -15,7 +16,7 @@ use Rattle.candidates.specs.Inner.Words.{cands}
 use Rattle.slots.specs.Store.{Arrays}
 use Rattle.walk.specs.Inner.Scratch.{near_but, Ready, Found}
 use Rattle.admission.specs.Inner.Trials.{meets, lost_of, Walks, Tried}
-use Rattle.admission.proofs.Pooling.{Counting, counting_done, next_one}
+use Rattle.admission.proofs.Pooling.{Counting, counting_done}
 
 -- ---- one trial walk
 module _ {a : Arrays} (y : Bytes a.dim (length a.marks) a.vectors) {entry beam : ℕ} {w : List ℕ} (f : Walks a entry beam w) {landmark : ℕ} (h : landmark < length a.marks) where
@@ -39,9 +40,6 @@ module _ {a : Arrays} (y : Bytes a.dim (length a.marks) a.vectors) {entry beam :
   pub walks_few : {query w' : List ℕ} {near : Arrays → ℕ → List ℕ} {n : ℕ} → Found a query near entry beam w w' n → 0 + 2 * n ≤ length w'
   walks_few k = omega (arith, k.few, k.size, f.beam_most, f.room)
 
-pub walks_again : {a : Arrays} {entry beam : ℕ} {w w' : List ℕ} → Walks a entry beam w → length w' ≡ length w → Walks a entry beam w'
-walks_again f e = record { entry_inside = f.entry_inside; beam_most = f.beam_most; room = omega (arith, f.room, e) }
-
 -- ---- both for each landmark
 lost_cons : (before after : ℕ → Bool) (y : ℕ) (ys : List ℕ)
     → lost_of before after (y ∷ ys) ≡ cond (before y && not (after y)) (y ∷ lost_of before after ys) (lost_of before after ys)
@@ -60,12 +58,9 @@ pub record Losing (before after : ℕ → Bool) (l : List ℕ) (lost₀ lost : L
   pub goes : taken ++ lost_of before after (drop i l) ≡ lost_of before after l
   pub size : length lost ≡ length lost₀
 
-pub losing_none : (before after : ℕ → Bool) (l : List ℕ) (lost : List ℕ) → Losing before after l lost lost 0 0
-losing_none before after l lost = record { few = omega arith; taken = []; many = refl; list = refl; goes = refl; size = refl }
-
 module _ {before after : ℕ → Bool} {l : List ℕ} {lost₀ lost : List ℕ} {k i : ℕ} (f : Losing before after l lost₀ lost k i) where
   goes_on : i < length l → f.taken ++ cond (before (get_or l i 0) && not (after (get_or l i 0))) (get_or l i 0 ∷ lost_of before after (drop (i + 1) l)) (lost_of before after (drop (i + 1) l)) ≡ lost_of before after l
-  goes_on j = rw (next_one l i j, lost_cons before after (get_or l i 0) (drop (i + 1) l)) at f.goes
+  goes_on j = rw (drop_more l i 0 j, lost_cons before after (get_or l i 0) (drop (i + 1) l)) at f.goes
 
   pub losing_take : length l ≤ length lost₀ → i < length l → {x y : Bool} → x ≡ before (get_or l i 0) → y ≡ after (get_or l i 0) → x ≡ true → y ≡ false
       → Losing before after l lost₀ (set lost k (get_or l i 0)) (k + 1) (i + 1)

@@ -8,6 +8,7 @@ use native.Mathlib.Omega.{arith}
 use borrow.Author.Tests.{le-ltb, ltb-true, ltb-false, eqb-true, not-false}
 use lib.Dec.{eqb, ltb}
 use lib.ListN.{length, length-map}
+use Rattle.std.proofs.lemmas.Bool.{or_parts}
 use Rattle.lists.specs.Lists.{filter, range}
 use Rattle.lists.proofs.Ranges.{length_range}
 use Rattle.slots.specs.Sizes.{Lengths, limits}
@@ -25,7 +26,7 @@ use Rattle.calls.specs.Refusals.{Test, first_of, making_tests, scratch_short, te
 use Rattle.calls.specs.State.{State, Kind, stored, plain, view_of, shown, made, with_graph, with_guard}
 use Rattle.calls.specs.Step.{vectors_of, report_of, named, deletion, guarded, perform, refusal, settle, step}
 use Rattle.calls.specs.Count.{Tally, tally_performed, tally_settled, tally_after, Counted, LiveCount}
-use Rattle.calls.proofs.Tests.{first_none, or_neither, accepted, Finds, index_finds}
+use Rattle.calls.proofs.Tests.{first_none, accepted, Finds, index_finds}
 
 -- ---- the live slots of a new index are those given
 
@@ -86,7 +87,7 @@ insert_finds lent w a r =
     record {
       finds = record { sized = f.sized; grown = f.grown; long = f.long; not_wrong = f.not_wrong; live = f.live; labels = f.labels; own = refl };
       room = ltb-false (length (free_slots v)) count t₁₅.0;
-      as_many = eqb-true (length a.numbers) count (not-false many (or_neither (ltb lent.room.slots count) (not many) f.not_wrong).1);
+      as_many = eqb-true (length a.numbers) count (not-false many (or_parts (ltb lent.room.slots count) (not many) f.not_wrong).1);
       fresh = (first_none 15 held [] t₁₅.1).0;
     }
 

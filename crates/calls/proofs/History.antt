@@ -10,6 +10,7 @@ use borrow.Author.Tests.{ltb-false}
 use lib.ListN.{length, take, drop, get_or, replicate, length-drop, length-append, length-replicate}
 use lib.Seq.{length-take-le, take-append-le}
 use lib.Dec.{eqb, ltb}
+use Rattle.std.proofs.lemmas.Bool.{or_parts}
 use Rattle.lists.specs.Lists.{filter, range, part, times, least_of}
 use Rattle.lists.proofs.Parts.{before_next}
 use Rattle.lists.proofs.Counts.{times_append}
@@ -37,7 +38,7 @@ use Rattle.calls.specs.Refusals.{Test, first_of, making_tests, config_over, new_
 use Rattle.calls.specs.State.{State, Kind, stored, plain, shown, made, with_graph, with_guard}
 use Rattle.calls.specs.Step.{vectors_of, report_of, slots_of, named, reading, deletion, guarded, perform, refusal, settle, step}
 use Rattle.calls.specs.History.{hide, look, seen, compared, log_performed, log_settled, Few, log_after, Within, trace, History}
-use Rattle.calls.proofs.Tests.{first_none, or_neither, accepted, numbers_given, index_finds}
+use Rattle.calls.proofs.Tests.{first_none, accepted, numbers_given, index_finds}
 
 -- ---- the two states agree
 
@@ -83,9 +84,9 @@ product_small c m h k =
 pool_fits : (v : View) (c : Config) → config_over limits c ≡ false → length (new_pool v c) ≤ limits.pool
 unfolding new_pool landmark_pool normalized select_landmarks limits
 pool_fits v c e =
-    let o₁ = or_neither (ltb 64 c.landmark_count || ltb 16 c.multiplier || ltb 65536 c.sample_size) (ltb 1024 c.beam) e in
-    let o₂ = or_neither (ltb 64 c.landmark_count || ltb 16 c.multiplier) (ltb 65536 c.sample_size) o₁.0 in
-    let o₃ = or_neither (ltb 64 c.landmark_count) (ltb 16 c.multiplier) o₂.0 in
+    let o₁ = or_parts (ltb 64 c.landmark_count || ltb 16 c.multiplier || ltb 65536 c.sample_size) (ltb 1024 c.beam) e in
+    let o₂ = or_parts (ltb 64 c.landmark_count || ltb 16 c.multiplier) (ltb 65536 c.sample_size) o₁.0 in
+    let o₃ = or_parts (ltb 64 c.landmark_count) (ltb 16 c.multiplier) o₂.0 in
     le_trans (farthest_few v [] _ _ _)
     (product_small c.landmark_count c.multiplier (ltb-false 64 c.landmark_count o₃.0) (ltb-false 16 c.multiplier o₃.1))
 

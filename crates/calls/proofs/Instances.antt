@@ -8,7 +8,7 @@ use borrow.Author.Tests.{leb-true, ltb-true, eq-eqb}
 use lib.ListN.{length, take, drop, replicate, length-take}
 use lib.Seq.{take_all, take-nil}
 use lib.Dec.{eqb, ltb, leb}
-use Rattle.lists.proofs.Bools.{and_both}
+use Rattle.std.proofs.lemmas.Bool.{and_parts}
 use Rattle.lists.specs.Lists.{All, filter, elem, foldl}
 use Rattle.lists.proofs.All.{by_cases, all_of, all_map, all_append, all_take, all_drop, all_filter, filter_test, foldl_keeps}
 use Rattle.vectors.specs.Distance.{distance}
@@ -161,10 +161,10 @@ module _ (v : View) (fit : Fit v) where
 within_limits : (z : Sizes) → sizes_ok limits z ≡ true → (z.dim ≤ limits.dim) × (1 ≤ z.degree)
 unfolding sizes_ok
 within_limits z e =
-    let a = and_both (within 1 limits.dim z.dim && within 1 limits.capacity z.capacity) (within 1 limits.degree z.degree) e in
-    let b = and_both (within 1 limits.dim z.dim) (within 1 limits.capacity z.capacity) a.0 in (
-      leb-true z.dim limits.dim (and_both (leb 1 z.dim) (leb z.dim limits.dim) b.0).1,
-      leb-true 1 z.degree (and_both (leb 1 z.degree) (leb z.degree limits.degree) a.1).0,
+    let a = and_parts (within 1 limits.dim z.dim && within 1 limits.capacity z.capacity) (within 1 limits.degree z.degree) e in
+    let b = and_parts (within 1 limits.dim z.dim) (within 1 limits.capacity z.capacity) a.0 in (
+      leb-true z.dim limits.dim (and_parts (leb 1 z.dim) (leb z.dim limits.dim) b.0).1,
+      leb-true 1 z.degree (and_parts (leb 1 z.degree) (leb z.degree limits.degree) a.1).0,
     )
 
 -- two vectors of bytes of which one is no longer than the largest dim

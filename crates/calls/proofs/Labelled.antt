@@ -10,11 +10,12 @@ use native.Mathlib.Decide.{dec_lt}
 use lib.Dec.{eqb}
 use lib.ListN.{length, take, drop, get_or, set, length-map, length-set}
 use lib.Seq.{length-take-le, get_or-set_same}
+use Rattle.std.proofs.lemmas.Bool.{or_parts}
 use Rattle.lists.specs.Lists.{All, Pairwise, filter, range, elem}
 use Rattle.lists.proofs.Ranges.{length_range, filtered_below}
 use Rattle.lists.proofs.Filtered.{elem_filtered}
 use Rattle.lists.proofs.All.{all_map, all_take, filter_test}
-use Rattle.lists.proofs.Unique.{Unique, or_false_r}
+use Rattle.lists.proofs.Unique.{Unique}
 use Rattle.slots.specs.Sizes.{Sizes, Lengths, lengths_of, exact, limits}
 use Rattle.slots.specs.View.{View, free_slots}
 use Rattle.slots.specs.Store.{Store, blank, store_view, store_ops}
@@ -60,7 +61,7 @@ once s (suc k) [] u e = refl
 once s (suc k) (x ∷ xs) u e = go (eqb s x) refl e (once s k xs u.1)
   where
     go : (q : Bool) → eqb s x ≡ q → (q || elem s (take k xs)) ≡ true → (elem s (take k xs) ≡ true → elem s (drop k xs) ≡ false) → elem s (drop k xs) ≡ false
-    go true f h rest = or_false_r (elem s (take k xs)) (elem s (drop k xs)) (sym (elem_split s k xs) ∙ subst (λ y. elem y xs ≡ false) (sym (eqb-true s x f)) u.0)
+    go true f h rest = (or_parts (elem s (take k xs)) (elem s (drop k xs)) (sym (elem_split s k xs) ∙ subst (λ y. elem y xs ≡ false) (sym (eqb-true s x f)) u.0)).1
     go false f h rest = rest h
 
 module _ (live live' : ℕ → Bool) (n k : ℕ) (e : filter (λ s. not (live' s)) (range 0 n) ≡ drop k (filter (λ s. not (live s)) (range 0 n))) where

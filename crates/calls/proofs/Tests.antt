@@ -8,7 +8,7 @@ use native.Mathlib.Omega.{arith}
 use borrow.Author.Tests.{leb-true, ltb-true, ltb-false, eqb-true, not-false}
 use lib.ListN.{length}
 use lib.Dec.{eqb, ltb, leb}
-use Rattle.lists.proofs.Bools.{and_both}
+use Rattle.std.proofs.lemmas.Bool.{and_parts, or_parts}
 use Rattle.slots.specs.Sizes.{Sizes, Lengths, exact, limits, within, sizes_ok, alpha_ok, lengths_ok}
 use Rattle.slots.proofs.New.{Accepted}
 use Rattle.slots.specs.View.{View, live_slots}
@@ -20,10 +20,6 @@ use Rattle.calls.specs.Refusals.{Test, first_of, or_zero, names_given, entry_giv
 pub first_none : (n : ℕ) (q : Bool) (ts : List Test) → first_of ((n, q) ∷ ts) ≡ none → (q ≡ false) × (first_of ts ≡ none)
 first_none n true ts e = absurd (let z : ◌≡◌ {A = ℕ} 0 1 = cc in omega arith)
 first_none n false ts e = (refl, e)
-
-pub or_neither : (p q : Bool) → (p || q) ≡ false → (p ≡ false) × (q ≡ false)
-or_neither true q e = absurd (let z : ◌≡◌ {A = ℕ} 0 1 = cc in omega arith)
-or_neither false q e = (refl, e)
 
 -- ---- lengths
 
@@ -39,13 +35,13 @@ passed_lengths z n e =
     let q = eqb n.pool limits.pool in
     let f = eqb n.numbers z.capacity in
     let y = eqb n.summary z.capacity in
-    let b₁ = and_both (v && t && g && r && m && q && f) y e in
-    let b₂ = and_both (v && t && g && r && m && q) f b₁.0 in
-    let a₁ = and_both (v && t && g && r && m) q b₂.0 in
-    let a₂ = and_both (v && t && g && r) m a₁.0 in
-    let a₃ = and_both (v && t && g) r a₂.0 in
-    let a₄ = and_both (v && t) g a₃.0 in
-    let a₅ = and_both v t a₄.0 in
+    let b₁ = and_parts (v && t && g && r && m && q && f) y e in
+    let b₂ = and_parts (v && t && g && r && m && q) f b₁.0 in
+    let a₁ = and_parts (v && t && g && r && m) q b₂.0 in
+    let a₂ = and_parts (v && t && g && r) m a₁.0 in
+    let a₃ = and_parts (v && t && g) r a₂.0 in
+    let a₄ = and_parts (v && t) g a₃.0 in
+    let a₅ = and_parts v t a₄.0 in
     λ i. record {
       vectors = eqb-true n.vectors (z.capacity * z.dim) a₅.0 i;
       targets = eqb-true n.targets (z.capacity * z.degree) a₅.1 i;
@@ -62,9 +58,9 @@ passed_lengths z n e =
 pub capacity_within : (z : Sizes) → sizes_ok limits z ≡ true → (1 ≤ z.capacity) × (z.capacity ≤ limits.capacity)
 unfolding sizes_ok
 capacity_within z e =
-    let p = and_both (within 1 limits.dim z.dim && within 1 limits.capacity z.capacity) (within 1 limits.degree z.degree) e in
-    let q = and_both (within 1 limits.dim z.dim) (within 1 limits.capacity z.capacity) p.0 in
-    let b = and_both (leb 1 z.capacity) (leb z.capacity limits.capacity) q.1 in
+    let p = and_parts (within 1 limits.dim z.dim && within 1 limits.capacity z.capacity) (within 1 limits.degree z.degree) e in
+    let q = and_parts (within 1 limits.dim z.dim) (within 1 limits.capacity z.capacity) p.0 in
+    let b = and_parts (leb 1 z.capacity) (leb z.capacity limits.capacity) q.1 in
     (leb-true 1 z.capacity b.0, leb-true z.capacity limits.capacity b.1)
 
 entry_below : (given capacity entry : ℕ) → given ≤ capacity → 1 ≤ capacity → entry_given given entry ≡ true → entry < capacity
@@ -72,7 +68,7 @@ entry_below given capacity entry h k t = go (ltb entry given) refl t
   where
     go : (q : Bool) → ltb entry given ≡ q → (q || eqb given 0 && eqb entry 0) ≡ true → entry < capacity
     go true r t = omega (arith, ltb-true entry given r)
-    go false r t = omega (arith, eqb-true entry 0 (and_both (eqb given 0) (eqb entry 0) t).1)
+    go false r t = omega (arith, eqb-true entry 0 (and_parts (eqb given 0) (eqb entry 0) t).1)
 
 -- none of making's tests holds
 record Six (q₁ q₂ q₃ q₄ q₅ q₆ : Bool) : Type 0 where
@@ -123,9 +119,9 @@ module _ (lent : Lengths) (m : Making) where
 
   right : or_zero (first_of (making_tests limits lent m)) ≡ 0 → Right
   right e =
-      let a₁ = and_both (lent_right && vectors_right && rows_right) numbers_right (not-false (lent_right && vectors_right && rows_right && numbers_right) (six e).three) in
-      let a₂ = and_both (lent_right && vectors_right) rows_right a₁.0 in
-      let a₃ = and_both lent_right vectors_right a₂.0 in
+      let a₁ = and_parts (lent_right && vectors_right && rows_right) numbers_right (not-false (lent_right && vectors_right && rows_right && numbers_right) (six e).three) in
+      let a₂ = and_parts (lent_right && vectors_right) rows_right a₁.0 in
+      let a₃ = and_parts lent_right vectors_right a₂.0 in
       record { slices = a₃.0; vectors = a₃.1; rows = a₂.1; numbers = a₁.1 }
 
   -- a 0 says that none holds
@@ -145,7 +141,7 @@ module _ (lent : Lengths) (m : Making) where
   given_named h =
       let named = names_given m.count m.rows in
       let entered = entry_given m.count m.entry in
-      and_both named entered (not-false (named && entered) (six (ap or_zero h)).five)
+      and_parts named entered (not-false (named && entered) (six (ap or_zero h)).five)
 
   pub accepted : first_of (making_tests limits lent m) ≡ none → Accepted m.sizes m.count m.bytes m.rows m.entry
   accepted h =
@@ -190,9 +186,9 @@ index_finds slices w wrong rest r =
     let t₃ = first_none 2 (not (alpha_ok v.sizes.alpha)) three t₂.1 in
     let t₆ = first_none 3 bad₃ six t₃.1 in
     let t₇ = first_none 6 bad₆ rest t₆.1 in
-    let long = or_neither (not (lengths_ok limits v.sizes slices)) wrong t₆.0 in
-    let o = or_neither (not e || not i || guard_fault limits w.guard) (not labels) t₇.0 in
-    let live = (or_neither (not e) (not i) (or_neither (not e || not i) (guard_fault limits w.guard) o.0).0).0 in
+    let long = or_parts (not (lengths_ok limits v.sizes slices)) wrong t₆.0 in
+    let o = or_parts (not e || not i || guard_fault limits w.guard) (not labels) t₇.0 in
+    let live = (or_parts (not e) (not i) (or_parts (not e || not i) (guard_fault limits w.guard) o.0).0).0 in
     record {
       sized = not-false (sizes_ok limits v.sizes) t₂.0;
       grown = not-false (alpha_ok v.sizes.alpha) t₃.0;

@@ -1,6 +1,6 @@
 -- The slots of a list of candidates, copied one word each. Assumes nothing.
 use Prim.Native.Nat.{ℕ, ◌+◌, ◌-◌, ◌*◌, ◌≤◌, ◌<◌}
-use mathlib.Core.Path.{◌≡◌, refl, ◌∙◌}
+use mathlib.Core.Path.{◌≡◌, ◌∙◌}
 use mathlib.Core.Logic.{⊎_elim}
 use mathlib.Core.List.{List, [], ◌∷◌, ◌++◌, append_assoc, append-nil}
 use native.Mathlib.Numerals.{add-one}
@@ -9,7 +9,7 @@ use lib.ListN.{length, get_or, take, drop, set, length-set, length-drop}
 use lib.Seq.{take-suc-set, drop-set-add, get_or-set_other}
 use Rattle.candidates.specs.Candidates.{ids}
 use Rattle.candidates.specs.Inner.Words.{cands, Outside, Clear, Copied}
-use Rattle.candidates.proofs.Words.{cands_none, cands_cons, cands_agree, outside_none, outside_set}
+use Rattle.candidates.proofs.Words.{cands_none, cands_cons, cands_agree, outside_set}
 
 -- ---- k of n slots are copied
 pub record Copying (w₀ : List ℕ) (a n to : ℕ) (w : List ℕ) (k : ℕ) : Type 0 where
@@ -17,12 +17,6 @@ pub record Copying (w₀ : List ℕ) (a n to : ℕ) (w : List ℕ) (k : ℕ) : T
   pub goes : take k (drop to w) ++ ids (cands w (a + 2 * k) (n - k)) ≡ ids (cands w₀ a n)
   pub size : length w ≡ length w₀
   pub same : Outside to n w₀ w
-
-pub copying_none : (w : List ℕ) (a n to : ℕ) → Copying w a n to w 0
-copying_none w a n to =
-    let e : a + 2 * 0 ≡ a = omega arith in
-    let g : n - 0 ≡ n = omega arith in
-    record { bound = omega arith; goes = rw (e, g); size = refl; same = outside_none to n w }
 
 one_more : (w : List ℕ) (to k x : ℕ) → to + k < length w → take (k + 1) (drop to (set w (to + k) x)) ≡ take k (drop to w) ++ (x ∷ [])
 one_more w to k x h = rw (drop-set-add to w k x, add-one k) (take-suc-set (drop to w) k x (rw (length-drop to w) (omega arith)))

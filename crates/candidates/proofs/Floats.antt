@@ -2,7 +2,7 @@
 -- exactly where the first is the larger or the second is zero. Assumes nothing.
 use mathlib.Core.Path.{◌≡◌, refl, sym, ap, ◌∙◌, subst}
 use mathlib.Core.Logic.{◌⊎◌, inl, inr}
-use mathlib.Core.Bool.{Bool, true, false, ◌&&◌, ◌||◌, true≢false}
+use mathlib.Core.Bool.{Bool, true, false, ◌&&◌, ◌||◌, true≢false, and-true}
 use Prim.Native.Nat.{ℕ, zero, suc, ◌*◌, ◌≤◌, ◌<◌}
 use native.Mathlib.Nat.{lt_of_le_of_lt, le_of_eq, mul-one, mul_comm, mul_assoc, mul_left_comm, zero-lt-suc, mul-pos, lt_of_not-le, not-le_of_lt, le_antisymm, le_of_lt, eq-or-lt_of_le}
 use native.Mathlib.Omega.{arith}
@@ -53,10 +53,6 @@ same_test true true f g = refl
 same_test true false f g = absurd (f tt)
 same_test false true f g = absurd (g tt)
 same_test false false f g = refl
-
-and-true : (p : Bool) → (p && true) ≡ p
-and-true true = refl
-and-true false = refl
 
 or_eq : (a b : ℕ) → (ltb a b || (eqb a b && true)) ≡ leb a b
 or_eq a b =
@@ -152,9 +148,6 @@ cross : (X Y a b p q : ℕ) → X * 1 ≡ a * p → Y * 1 ≡ b * q → X * q * 
 cross X Y a b p q h k =
     ap (λ (z : ℕ). z * q * b) (sym (mul-one X) ∙ h) ∙ (simp (mul_assoc, mul_comm, mul_left_comm)) ∙ ap (λ (z : ℕ). a * (z * p)) (sym (sym (mul-one Y) ∙ k))
 
-not_zero : (n : ℕ) → 0 < n → n ≡ 0 → ⊥
-not_zero n h e = omega arith
-
 div_of_values : (f : Format) (x y : Float) (a b : ℕ) → 0 < b → HasValue x false a 1 → HasValue y false b 1 → div f x y ≡ round f false a b
 unfolding div
 div_of_values f lib.Ieee.nan y a b B p q = elim p [ ]
@@ -165,7 +158,7 @@ div_of_values f (fin true m e) y a b B p q = absurd (true≢false p.0)
 div_of_values f (fin false m e) (fin true n k) a b B p q = absurd (true≢false q.0)
 div_of_values f (fin false m e) (fin false n k) a b B p q =
     let N : 0 < n * up k = subst (λ (z : ℕ). 0 < z) (sym (sym (mul-one (n * up k)) ∙ q.1)) (mul-pos B (down_pos k)) in
-    rw (ne_eqb n 0 (not_zero n (first_pos n (up k) N)))
+    rw (ne_eqb n 0 (λ i. omega (arith, first_pos n (up k) N)))
     (round_same f false (m * up e * down k) (n * up k * down e) a b (mul-pos N (down_pos e)) B (cross (m * up e) (n * up k) a b (down e) (down k) p.1 q.1))
 
 pub quotient_whole : (a b : ℕ) → a ≤ 16777216 → suc b ≤ 16777216 → quotient a (suc b) ≡ round binary32 false a (suc b)

@@ -1,12 +1,12 @@
 -- Lists of candidates in words: their parts, what a written candidate does to them, and what stays where nothing is written. Assumes nothing.
 use Prim.Native.Nat.{ℕ, zero, suc, ◌+◌, ◌-◌, ◌*◌, ◌≤◌, ◌<◌}
-use mathlib.Core.Path.{◌≡◌, refl, ap, sym, ◌∙◌, subst}
+use mathlib.Core.Path.{◌≡◌, refl, ap, ◌∙◌, subst}
 use mathlib.Core.List.{List, [], ◌∷◌, ◌++◌}
 use native.Mathlib.Omega.{arith}
 use lib.ListN.{length, take, drop, get_or, set, length-set}
 use lib.Seq.{get_or-set_same, get_or-set_other, take_at, drop_at}
 use Rattle.lists.specs.Lists.{All, init, last}
-use Rattle.lists.proofs.Places.{init_snoc, last_snoc, all_at, at_all}
+use Rattle.lists.proofs.Places.{init_snoc, last_snoc, all_at}
 use Rattle.candidates.specs.Candidates.{Candidate}
 use Rattle.candidates.specs.Inner.Words.{pair, cand, cands, put, Outside}
 
@@ -80,9 +80,6 @@ cands_at w a (suc n) (suc k) h =
 -- what holds of all, and of each
 pub cands_each : (P : Candidate → Type 0) (w : List ℕ) (a n : ℕ) → All P (cands w a n) → (k : ℕ) → k < n → P (cand w (a + 2 * k))
 cands_each P w a n h k l = subst P (cands_at w a n k l) (all_at (pair 0 0) P (cands w a n) h k (omega (arith, cands_length w a n)))
-
-pub cands_all : (P : Candidate → Type 0) (w : List ℕ) (a n : ℕ) → ((k : ℕ) → k < n → P (cand w (a + 2 * k))) → All P (cands w a n)
-cands_all P w a n h = at_all (pair 0 0) P (cands w a n) (λ k l. let m : k < n = omega (arith, cands_length w a n) in subst P (sym (cands_at w a n k m)) (h k m))
 
 -- ---- two lists of words
 -- the same words at a and at b hold the same candidates

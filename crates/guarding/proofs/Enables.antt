@@ -9,6 +9,7 @@ use borrow.Author.Tests.{le-ltb, ltb-true, ltb-false, eq-eqb, ne_eqb, eqb-true, 
 use lib.Dec.{eqb, ltb}
 use lib.ListN.{length, take, drop}
 use lib.Seq.{take-append_seam}
+use Rattle.std.proofs.lemmas.Bool.{or_parts}
 use Rattle.lists.specs.Lists.{put_front}
 use Rattle.slots.specs.Sizes.{Slices, Lengths, lengths_of, limits, sizes_ok, alpha_ok, lengths_ok}
 use Rattle.slots.specs.Scratch.{size_answer}
@@ -26,7 +27,7 @@ use Rattle.calls.specs.Refusals.{Test, first_of, guard_fault, config_over, new_p
 use Rattle.calls.specs.State.{State, stored, shown, with_guard}
 use Rattle.calls.specs.Step.{refusal, perform}
 use Rattle.calls.specs.Runs.{lent_of, slices_of, call_of, run_refusal}
-use Rattle.calls.proofs.Tests.{first_none, or_neither}
+use Rattle.calls.proofs.Tests.{first_none}
 use Rattle.calls.proofs.Enabling.{one_live}
 use Rattle.index.specs.Index.{guard_of, state_of}
 use Rattle.numbers.specs.Numbers.{labels_ok}
@@ -96,8 +97,8 @@ own_tests slices w wrong xs ys h =
     behind 2 q₂ ((3, q₃) ∷ (6, q₆) ∷ xs) ((3, q₃) ∷ (6, q₆) ∷ ys) (λ j.
     behind 3 q₃ ((6, q₆) ∷ xs) ((6, q₆) ∷ ys) (λ k.
     behind 6 q₆ xs ys (λ f.
-    let g = (or_neither (not counted || not inside || guard_fault limits w.guard) (not labels) f).0 in
-    let o = or_neither (not counted) (not inside) (or_neither (not counted || not inside) (guard_fault limits w.guard) g).0 in
+    let g = (or_parts (not counted || not inside || guard_fault limits w.guard) (not labels) f).0 in
+    let o = or_parts (not counted) (not inside) (or_parts (not counted || not inside) (guard_fault limits w.guard) g).0 in
     h (eqb-true w.live (length (live_slots v)) (not-false counted o.0)) (ltb-true v.entry v.sizes.capacity (not-false inside o.1))))))
 
 own_same : (v : View) (c : Config) (live : ℕ) (a b : Bool) → live ≡ length (live_slots v) → v.entry < v.sizes.capacity
@@ -120,9 +121,9 @@ fault_free c {n} o h =
     let o₂ = ltb 16 c.multiplier in
     let o₃ = ltb 65536 c.sample_size in
     let o₄ = ltb 1024 c.beam in
-    let p = or_neither (o₁ || o₂ || o₃) o₄ o in
-    let q = or_neither (o₁ || o₂) o₃ p.0 in
-    let t = or_neither o₁ o₂ q.0 in
+    let p = or_parts (o₁ || o₂ || o₃) o₄ o in
+    let q = or_parts (o₁ || o₂) o₃ p.0 in
+    let t = or_parts o₁ o₂ q.0 in
     rw (
       ne_eqb (max 1 c.landmark_count) 0 (λ i. omega (arith, i)),
       ne_eqb (max 1 c.multiplier) 0 (λ i. omega (arith, i)),
@@ -137,11 +138,14 @@ fault_free c {n} o h =
 
 -- ---- enabling
 
--- of slices that are read as s₀
-module _ (index : Index) {s₀ s : Slices} (same : s₀ ≡ s) (c : Config) (scratch : List ℕ) {A : Type 0} {r : Result A Refusal}
-    (d₀ : Decided index s₀ false (enable_tests index c (length scratch)) r) where
+-- an enabling that was checked, with its slices read as s₀
+pub record EnableChecked (index : Index) (s₀ s : Slices) (c : Config) (scratch : List ℕ) {A : Type 0} (r : Result A Refusal) : Type 0 where
+  pub read : s₀ ≡ s
+  pub decided : Decided index s₀ false (enable_tests index c (length scratch)) r
+
+module _ {index : Index} {s₀ s : Slices} {c : Config} {scratch : List ℕ} {A : Type 0} {r : Result A Refusal} (checked : EnableChecked index s₀ s c scratch r) where
   d : Decided index s false (enable_tests index c (length scratch)) r
-  d = subst (λ (x : Slices). Decided index x false (enable_tests index c (length scratch)) r) same d₀
+  d = subst (λ (x : Slices). Decided index x false (enable_tests index c (length scratch)) r) checked.read checked.decided
 
   abbrev before : State Store
   before = state_of index s
@@ -168,15 +172,15 @@ module _ (index : Index) {s₀ s : Slices} (same : s₀ ≡ s) (c : Config) (scr
   pub enables_back : {x : Refusal} → r ≡ Err x → Enables index s c scratch s scratch (Err x)
   unfolding refused_as enabled_as enabled_index written state_of call_of slices_of
   enables_back {x} n =
-      record { meets = record { does = sym (step_back before call (number_of x) (same_tests ∙ turned_back index s d n)); writes = refl; keeps = λ m e. refl } }
+      record { meets = record { does = sym (step_back before call (number_of x) (same_tests ∙ turned_back d n)); writes = refl; keeps = λ m e. refl } }
 
   module _ {u : A} (z : r ≡ Ok u) where
     abbrev able : Passed index s
-    able = passed index s d z
+    able = passed d z
 
     own : (over ≡ false) × (short ≡ false) × (eqb index.live 0 ≡ false)
     own =
-        let e = first_none 7 over ((8, short) ∷ (12, eqb index.live 0) ∷ (13, eqb index.live 1) ∷ []) (own_none index s d z) in
+        let e = first_none 7 over ((8, short) ∷ (12, eqb index.live 0) ∷ (13, eqb index.live 1) ∷ []) (own_none d z) in
         let f = first_none 8 short ((12, eqb index.live 0) ∷ (13, eqb index.live 1) ∷ []) e.1 in
         (e.0, f.0, (first_none 12 (eqb index.live 0) ((13, eqb index.live 1) ∷ []) f.1).0)
 
@@ -212,8 +216,8 @@ module _ (index : Index) {s₀ s : Slices} (same : s₀ ≡ s) (c : Config) (scr
         pool_ready =
             let o₁ = ltb 64 c.landmark_count in
             let o₂ = ltb 16 c.multiplier in
-            let p = or_neither (o₁ || o₂ || ltb 65536 c.sample_size) (ltb 1024 c.beam) own.0 in
-            let q = or_neither o₁ o₂ (or_neither (o₁ || o₂) (ltb 65536 c.sample_size) p.0).0 in
+            let p = or_parts (o₁ || o₂ || ltb 65536 c.sample_size) (ltb 1024 c.beam) own.0 in
+            let q = or_parts o₁ o₂ (or_parts (o₁ || o₂) (ltb 65536 c.sample_size) p.0).0 in
             record {
               bytes = passed_bytes able;
               few = marks_few;
@@ -261,14 +265,14 @@ module _ (index : Index) {s₀ s : Slices} (same : s₀ ≡ s) (c : Config) (scr
 
               not_refused : (k : ℕ) → refusal stored before call ≡ some k → ⊥
               unfolding refusal
-              not_refused k h = let j = sym (same_tests ∙ let_through index s d z) ∙ h in let x : ◌≡◌ {A = ℕ} 0 1 = cc in omega arith
+              not_refused k h = let j = sym (same_tests ∙ let_through d z) ∙ h in let x : ◌≡◌ {A = ℕ} 0 1 = cc in omega arith
 
               pub enables_on : {scratch' : List ℕ} → Enables index s c scratch (with_pool s pool') scratch' (Ok (record { index = i; status = now }))
               unfolding enabled_as enabled_index written state_of call_of slices_of run_refusal
               enables_on =
                   record {
                     meets = record {
-                      does = performed ∙ sym (step_on before call (same_tests ∙ let_through index s d z));
+                      does = performed ∙ sym (step_on before call (same_tests ∙ let_through d z));
                       writes = refl;
                       keeps = λ k h. absurd (not_refused k h);
                     };

@@ -26,7 +26,8 @@ use Rattle.calls.specs.Refusals.{Test, first_of, is_off, scratch_short, lists_sh
 use Rattle.calls.specs.State.{State, stored, shown, with_graph}
 use Rattle.calls.specs.Step.{slots_of, named, deletion, refusal, perform, guarded, report_of, step}
 use Rattle.calls.specs.Runs.{lent_of, slices_of, call_of, run_refusal}
-use Rattle.calls.proofs.Tests.{first_none, or_neither, index_finds}
+use Rattle.std.proofs.lemmas.Bool.{or_parts}
+use Rattle.calls.proofs.Tests.{first_none, index_finds}
 use Rattle.calls.proofs.Labelled.{same_guarded, same_guarded_refusal}
 use Rattle.index.specs.Index.{state_of, arrays_of}
 use Rattle.index.specs.Inner.Deciding.{Passed}
@@ -62,8 +63,8 @@ module _ (index : Index) (s : Slices) (ids : List ℕ) (beam degree room : ℕ) 
   unfolding limits
   guarded_testable =
       record {
-        long = λ e. ltb-false (min (length checked) (length lost)) 64 (or_neither (ltb room (length ids)) _ e).1;
-        few = λ e. ltb-false 256 (length ids) (or_neither (ltb 256 beam || ltb 16 degree) _ e).1;
+        long = λ e. ltb-false (min (length checked) (length lost)) 64 (or_parts (ltb room (length ids)) _ e).1;
+        few = λ e. ltb-false 256 (length ids) (or_parts (ltb 256 beam || ltb 16 degree) _ e).1;
       }
 
   abbrev call : List Stats → Call
@@ -156,7 +157,7 @@ module _ (index : Index) (s : Slices) (ids : List ℕ) (beam degree room : ℕ) 
         enough : n ≤ room
         enough =
             let d = (subst (λ (x : Result Report Refusal). Tested index s (wrong room) over ids checked lost scratch checked' lost' scratch₁ x) e t).decided in
-            let q = (or_neither (ltb room (length ids)) _ (lists_right index s (wrong room) over scratch d refl)).0 in
+            let q = (or_parts (ltb room (length ids)) _ (lists_right index s (wrong room) over scratch d refl)).0 in
             omega (arith, b.few, ltb-false room (length ids) q)
 
         inside : length scratch₁ ≡ length scratch → length scratch' ≡ length scratch₁ → stats_at index.capacity + 4 * n ≤ length scratch'

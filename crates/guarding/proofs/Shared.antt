@@ -7,6 +7,7 @@ use native.Mathlib.Omega.{arith}
 use borrow.Author.Tests.{ltb-false, eqb-false}
 use lib.Dec.{eqb, ltb}
 use lib.ListN.{length, take}
+use Rattle.std.proofs.lemmas.Bool.{or_parts}
 use Rattle.slots.specs.Sizes.{Slices, limits}
 use Rattle.slots.specs.Scratch.{size_answer}
 use Rattle.slots.specs.Store.{store_ops}
@@ -20,7 +21,6 @@ use Rattle.admission.proofs.Pooling.{share_enough}
 use Rattle.calls.specs.Refusals.{guard_fault}
 use Rattle.calls.specs.State.{stored, shown}
 use Rattle.calls.specs.Step.{report_by, report_of}
-use Rattle.calls.proofs.Tests.{or_neither}
 use Rattle.index.specs.declared.Index.{Index}
 use Rattle.index.specs.declared.Guard.{Guard}
 use Rattle.std.specs.Prelude.{Option, Some}
@@ -49,14 +49,14 @@ sound g e =
     let o₂ = ltb 16 s.multiplier in
     let o₃ = ltb 65536 s.sample in
     let o₄ = ltb 1024 s.beam in
-    let a = or_neither (z₁ || z₂ || z₃ || z₄ || (o₁ || o₂ || o₃ || o₄)) (ltb 1024 g.pool) e in
-    let b = or_neither (z₁ || z₂ || z₃ || z₄) (o₁ || o₂ || o₃ || o₄) a.0 in
-    let zs = or_neither (z₁ || z₂ || z₃) z₄ b.0 in
-    let z = or_neither (z₁ || z₂) z₃ zs.0 in
-    let os = or_neither (o₁ || o₂ || o₃) o₄ b.1 in
-    let o = or_neither (o₁ || o₂) o₃ os.0 in
+    let a = or_parts (z₁ || z₂ || z₃ || z₄ || (o₁ || o₂ || o₃ || o₄)) (ltb 1024 g.pool) e in
+    let b = or_parts (z₁ || z₂ || z₃ || z₄) (o₁ || o₂ || o₃ || o₄) a.0 in
+    let zs = or_parts (z₁ || z₂ || z₃) z₄ b.0 in
+    let z = or_parts (z₁ || z₂) z₃ zs.0 in
+    let os = or_parts (o₁ || o₂ || o₃) o₄ b.1 in
+    let o = or_parts (o₁ || o₂) o₃ os.0 in
     record {
-      count_most = ltb-false 64 s.count (or_neither o₁ o₂ o.0).0;
+      count_most = ltb-false 64 s.count (or_parts o₁ o₂ o.0).0;
       sample_some = omega (arith, eqb-false s.sample 0 z.1);
       beam_most = ltb-false 1024 s.beam os.1;
       pool_most = ltb-false 1024 g.pool a.1;

@@ -61,18 +61,18 @@ module _ (index : Index) (s : Slices) {A : Type 0} {r : Result A Refusal} (d : D
   pub stands_back : {x : Refusal} → r ≡ Err x → Stands index s (Err x)
   unfolding tests refused_as standing_as written state_of call_of slices_of
   stands_back {x} n =
-      record { meets = record { does = sym (step_back now call (number_of x) (turned_back index s d n)); writes = refl; keeps = λ m e. refl } }
+      record { meets = record { does = sym (step_back now call (number_of x) (turned_back d n)); writes = refl; keeps = λ m e. refl } }
 
   module _ {u : A} (z : r ≡ Ok u) where
     pub stands_ready : (guard_fault limits (guard_of index.guard) ≡ false) × (length s.pool ≡ limits.pool)
-    stands_ready = let p = passed index s d z in (p.guard_right, p.pool_long)
+    stands_ready = let p = passed d z in (p.guard_right, p.pool_long)
 
     pub stands_on : {t : Status} → Stood (guard_of index.guard) s.marks s.pool t → Stands index s (Ok t)
     unfolding tests perform standing_as written stored store_ops store_view shown state_of call_of slices_of
     stands_on {t} f =
         record {
           meets = record {
-            does = ap (λ x. (now, standing x)) (f.does (store_view now.graph) refl) ∙ sym (step_on now call (let_through index s d z));
+            does = ap (λ x. (now, standing x)) (f.does (store_view now.graph) refl) ∙ sym (step_on now call (let_through d z));
             writes = refl;
             keeps = λ m e. refl;
           };

@@ -87,7 +87,7 @@ module _ (index : Index) (s : Slices) (wrong over : Bool) (scratch : List ℕ) {
   idle = is_off (guard_of index.guard)
 
   pub number_given : {x : Refusal} → r ≡ Err x → first_of (index_tests limits (lengths_of s) (shown stored (state_of index s)) wrong (report_tests index over (length scratch))) ≡ some (number_of x)
-  number_given n = turned_back index s d n
+  number_given n = turned_back d n
 
   pub tested_back : (ids checked lost : List ℕ) {x : Refusal} → r ≡ Err x → Tested index s wrong over ids checked lost scratch checked lost scratch (Err x)
   tested_back ids checked lost n =
@@ -95,18 +95,18 @@ module _ (index : Index) (s : Slices) (wrong over : Bool) (scratch : List ℕ) {
 
   module _ {u : A} (z : r ≡ Ok u) where
     pub able : Passed index s
-    able = passed index s d z
+    able = passed d z
 
     pub none_given : first_of (index_tests limits (lengths_of s) (shown stored (state_of index s)) wrong (report_tests index over (length scratch))) ≡ none
-    none_given = let_through index s d z
+    none_given = let_through d z
 
     pub lists_right : wrong ≡ false
-    lists_right = not_wrong index s d z
+    lists_right = not_wrong d z
 
     -- what the call's own tests leave
     pub own : (over ≡ false) × (short ≡ false)
     own =
-        let e = first_none 7 over ((8, short) ∷ (11, idle) ∷ []) (own_none index s d z) in
+        let e = first_none 7 over ((8, short) ∷ (11, idle) ∷ []) (own_none d z) in
         (e.0, (first_none 8 short ((11, idle) ∷ []) e.1).0)
 
 -- ---- the report, by the guard that the tests give

@@ -1,15 +1,17 @@
 -- The tests that calls share: what the code finds is what the table says, and what follows. Assumes nothing.
 use Prim.Native.Nat.{ℕ, ◌≤◌, ◌<◌}
-use mathlib.Core.Bool.{Bool, true, false, not, ◌&&◌, ◌||◌}
+use mathlib.Core.Bool.{Bool, true, false, not, ◌&&◌, ◌||◌, and_assoc}
 use mathlib.Core.Path.{◌≡◌, refl, sym, ap, ◌∙◌}
 use mathlib.Core.List.{List, [], ◌∷◌}
 use mathlib.Core.Option.{Option, none, some}
 use native.Mathlib.Omega.{arith}
-use borrow.Author.Tests.{leb-true, ltb-true, ltb-false, eqb-true, not-true, not-false, lt-leb, le-leb}
+use borrow.Author.Tests.{leb-true, ltb-true, eqb-true, not-true, not-false}
 use lib.Ieee.{Float}
 use lib.ListN.{length}
 use lib.Dec.{eqb, ltb, leb}
-use Rattle.lists.proofs.Bools.{and_both}
+use Rattle.std.proofs.lemmas.Bool.{and_parts, or_parts}
+use Rattle.std.proofs.lemmas.Bool.Decides.{nat_tests}
+use Rattle.std.proofs.lemmas.Result.{err_from_is_err_and}
 use Rattle.vectors.specs.Distance.{f32}
 use Rattle.lists.specs.Lists.{filter, range}
 use Rattle.lists.proofs.Filter.{filter_length}
@@ -26,7 +28,7 @@ use Rattle.numbers.specs.Inner.Listed.{Listed}
 use Rattle.numbers.proofs.Exact.{labelled_exact}
 use Rattle.numbers.proofs.Listing.{labelled_listed}
 use Rattle.index.specs.declared.Index.{Index}
-use Rattle.std.specs.Prelude.{Result, Ok, Err}
+use Rattle.std.specs.Prelude.{Result, Ok, Err, IsErrAnd}
 use Rattle.index.specs.declared.Refusal.{Refusal}
 use Rattle.index.specs.declared.Refusal.TheVariants as Refused
 use Rattle.index.specs.Refusal.{number_of, turned_back as back}
@@ -36,16 +38,16 @@ use Rattle.calls.specs.State.{State, stored, shown}
 use Rattle.calls.specs.Step.{perform, refusal, settle, step}
 use Rattle.index.specs.Index.{words_for, sizes, sizes_of, guard_of, state_of}
 use Rattle.index.specs.Inner.Deciding.{index_fault, Decided, Passed}
-use Rattle.calls.proofs.Tests.{or_neither, passed_lengths}
+use Rattle.calls.proofs.Tests.{passed_lengths}
+
+-- an error that `?` hands on
+pub handed_on : {A E : Type 0} (r : Result A E) {x : E} → IsErrAnd r (λ y. y ≡ x) → r ≡ Err x
+handed_on r h = let p = err_from_is_err_and r h in rw (p.1, p.2)
 
 -- ---- numbers
 
 pub ltb_leb : (a b : ℕ) → ltb a b ≡ not (leb b a)
-ltb_leb a b = go (ltb a b) refl
-  where
-    go : (q : Bool) → ltb a b ≡ q → ltb a b ≡ not (leb b a)
-    go true e = e ∙ sym (ap not (lt-leb b a (ltb-true a b e)))
-    go false e = e ∙ sym (ap not (le-leb b a (ltb-false a b e)))
+ltb_leb a b = grind (arith, nat_tests)
 
 -- ---- sizes
 
@@ -58,13 +60,13 @@ pub record Ranges (z : Sizes) : Type 0 where
   pub degree_high : z.degree ≤ 64
 
 between : (high n : ℕ) → within 1 high n ≡ true → (1 ≤ n) × (n ≤ high)
-between high n e = let b = and_both (leb 1 n) (leb n high) e in (leb-true 1 n b.0, leb-true n high b.1)
+between high n e = let b = and_parts (leb 1 n) (leb n high) e in (leb-true 1 n b.0, leb-true n high b.1)
 
 pub ranges : (z : Sizes) → sizes_ok limits z ≡ true → Ranges z
 unfolding sizes_ok limits
 ranges z e =
-    let p = and_both (within 1 256 z.dim && within 1 65536 z.capacity) (within 1 64 z.degree) e in
-    let q = and_both (within 1 256 z.dim) (within 1 65536 z.capacity) p.0 in
+    let p = and_parts (within 1 256 z.dim && within 1 65536 z.capacity) (within 1 64 z.degree) e in
+    let q = and_parts (within 1 256 z.dim) (within 1 65536 z.capacity) p.0 in
     let d = between 256 z.dim q.0 in
     let c = between 65536 z.capacity q.1 in
     let g = between 64 z.degree p.1 in
@@ -92,13 +94,7 @@ module _ (dim capacity degree : ℕ) {r : Bool} (e : (alpha : Float) → r ≡ n
 
 -- eight tests, however they are joined
 joined : (a b c d e f g h : Bool) → a && (b && (c && (d && (e && (f && (g && h)))))) ≡ a && b && c && d && e && f && g && h
-joined false b c d e f g h = refl
-joined true false c d e f g h = refl
-joined true true false d e f g h = refl
-joined true true true false e f g h = refl
-joined true true true true false f g h = refl
-joined true true true true true false g h = refl
-joined true true true true true true g h = refl
+joined a b c d e f g h = simp and_assoc
 
 -- lengths that are compared with the only ones that pass
 pub lengths_compared : (z : Sizes) (n m : Lengths) → m ≡ exact limits z
@@ -255,13 +251,13 @@ four_passed index s wrong f =
     let m = sizes_of index in
     let sized = not-false (sizes_ok limits m) f.one in
     let b = ranges m sized in
-    let l = passed_lengths m (lengths_of s) (not-false (lengths_ok limits m (lengths_of s)) (or_neither (bad₃ index (lengths_of s)) wrong f.three).0) in
+    let l = passed_lengths m (lengths_of s) (not-false (lengths_ok limits m (lengths_of s)) (or_parts (bad₃ index (lengths_of s)) wrong f.three).0) in
     let e = eqb index.live (length (filter (is_valid s.marks) (range 0 index.capacity))) in
     let i = ltb index.entry index.capacity in
     let ok = labels_ok (is_valid s.marks) index.capacity index.live s.numbers s.summary in
-    let six = or_neither (not e || not i || guard_fault limits (guard_of index.guard)) (not ok) f.six in
-    let o = or_neither (not e || not i) (guard_fault limits (guard_of index.guard)) six.0 in
-    let p = or_neither (not e) (not i) o.0 in
+    let six = or_parts (not e || not i || guard_fault limits (guard_of index.guard)) (not ok) f.six in
+    let o = or_parts (not e || not i) (guard_fault limits (guard_of index.guard)) six.0 in
+    let p = or_parts (not e) (not i) o.0 in
     let right = eqb-true index.live _ (not-false e p.0) in
     record {
       shaped = record {
@@ -312,7 +308,7 @@ pub passed_none : (index : Index) (s : Slices) (wrong : Bool) (rest : List Test)
 unfolding index_tests shown stored store_ops store_view state_of
 passed_none index s wrong rest h = four_passed index s wrong (none_of _ _ _ _ rest (sym h)).0
 
-module _ (index : Index) (s : Slices) {wrong : Bool} {rest : List Test} {A : Type 0} {r : Result A Refusal} (d : Decided index s wrong rest r) where
+module _ {index : Index} {s : Slices} {wrong : Bool} {rest : List Test} {A : Type 0} {r : Result A Refusal} (d : Decided index s wrong rest r) where
   -- the number of an error is the number given
   pub turned_back : {e : Refusal} → r ≡ Err e → first_of (index_tests limits (lengths_of s) (shown stored (state_of index s)) wrong rest) ≡ some (number_of e)
   turned_back z = sym d.does ∙ ap back z
@@ -331,7 +327,7 @@ module _ (index : Index) (s : Slices) {wrong : Bool} {rest : List Test} {A : Typ
     own_none = sym none_found.1
 
     pub not_wrong : wrong ≡ false
-    not_wrong = (or_neither (bad₃ index (lengths_of s)) wrong none_found.0.three).1
+    not_wrong = (or_parts (bad₃ index (lengths_of s)) wrong none_found.0.three).1
 
     -- and says all that a call may rest on
     pub passed : Passed index s

@@ -9,7 +9,7 @@ use borrow.Author.Tests.{eqb-true, not-true, not-false}
 use lib.ListN.{length, replicate, length-append, length-replicate}
 use lib.Dec.{eqb, ltb, leb}
 use Rattle.std.specs.List.{list_any}
-use Rattle.lists.proofs.Bools.{and_both}
+use Rattle.std.proofs.lemmas.Bool.{and_parts}
 use Rattle.slots.specs.View.{View}
 use Rattle.slots.specs.Store.{blank, store_view, store_ops}
 use Rattle.slots.specs.Plain.{new_plain}
@@ -91,7 +91,7 @@ module _ (m : Making) (lent : Lengths) {A : Type 0} {r₁ : Result A Refusal} (c
           let k = eqb (length m.rows) (m.count * m.sizes.degree) in
           let n = eqb (length m.numbers) m.count in (
             (ranges m.sizes (not-false (sizes_ok limits m.sizes) passed_three.0)).capacity_high,
-            eqb-true (length m.numbers) m.count (and_both (b && k) n (not-false (b && k && n) (sym given ∙ t₄))).1,
+            eqb-true (length m.numbers) m.count (and_parts (b && k) n (not-false (b && k && n) (sym given ∙ t₄))).1,
           )
 
 -- ---- the new index

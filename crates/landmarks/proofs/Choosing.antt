@@ -22,12 +22,6 @@ use Rattle.landmarks.proofs.Drawing.{all_drawn, drew_listed}
 pub record Comparing (w : List ℕ) (n best id i : ℕ) : Type 0 where
   pub goes : (farthest_from (pair best id) (cands w (0 + 2 * i) (n - i))).id ≡ farthest (cands w 0 n)
 
-pub comparing_none : (w : List ℕ) (n : ℕ) → Comparing w n 0 0 0
-comparing_none w n =
-    let e : n - 0 ≡ n = omega arith in
-    let g : 0 + 2 * 0 ≡ 0 = omega arith in
-    record { goes = rw (e, g) }
-
 pub step_farther : (a c : Candidate) (cs : List Candidate) → ltb c.dist a.dist ≡ false → farthest_from a (c ∷ cs) ≡ farthest_from c cs
 step_farther a c cs e = ap (λ (b : Bool). farthest_from (cond b a c) cs) e
 
@@ -79,19 +73,6 @@ pub record Choosing (space : Space) (d : ℕ → ℕ → ℕ) (wanted n : ℕ) (
   pub listed : Listed space w m
   pub list_size : length l ≡ length l₀
   pub size : length w ≡ length w₀
-
-pub choosing_none : {space : Space} (d : ℕ → ℕ → ℕ) (wanted : ℕ) {n : ℕ} (l : List ℕ) {w : List ℕ} → Listed space w n → Choosing space d wanted n l w l w n 0
-choosing_none d wanted {n} l {w} f =
-    let e : wanted - 0 ≡ wanted = omega arith in
-    record {
-      taken = [];
-      count = refl;
-      list = refl;
-      goes = rw e;
-      listed = f;
-      list_size = refl;
-      size = refl;
-    }
 
 chosen_none : (d : ℕ → ℕ → ℕ) (n : ℕ) → chosen d n [] ≡ []
 unfolding chosen

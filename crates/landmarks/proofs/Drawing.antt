@@ -7,12 +7,12 @@ use native.Mathlib.Omega.{arith}
 use borrow.Author.Tests.{eq-eqb, ne_eqb}
 use lib.Dec.{eqb}
 use lib.ListN.{length, drop, get_or}
+use Rattle.std.proofs.lemmas.Bool.{or_parts}
 use Rattle.lists.specs.Lists.{All, filter, elem, least_of}
 use Rattle.lists.proofs.All.{by_cases, all_append}
 use Rattle.lists.proofs.Filtered.{filter_all}
 use Rattle.lists.proofs.Least.{least_with, least_cons, least_min}
 use Rattle.std.proofs.lemmas.List.{at_drop_more, drop_all}
-use Rattle.lists.proofs.Unique.{or_false_l, or_false_r}
 use Rattle.vectors.specs.Space.{Measured}
 use Rattle.candidates.specs.Candidates.{Candidate, scored}
 use Rattle.candidates.specs.Inner.Words.{pair, cands, put}
@@ -138,7 +138,7 @@ all_parts : (r : ℕ) (rs xs : List ℕ) → All (λ s. elem s (r ∷ rs) ≡ fa
 all_parts r rs [] h = (tt, tt)
 all_parts r rs (x ∷ xs) h =
     let rest = all_parts r rs xs h.1 in
-    ((ap not (or_false_l (eqb x r) (elem x rs) h.0), rest.0), (or_false_r (eqb x r) (elem x rs) h.0, rest.1))
+    ((ap not (or_parts (eqb x r) (elem x rs) h.0).0, rest.0), ((or_parts (eqb x r) (elem x rs) h.0).1, rest.1))
 
 drawn_least : (d : ℕ → ℕ → ℕ) (near : ℕ → ℕ) (rs xs : List ℕ) → All (λ s. elem s rs ≡ false) xs
     → drawn_all d rs (scored near xs) ≡ scored (λ s. least_with (d s) (near s) rs) xs

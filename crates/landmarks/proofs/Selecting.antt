@@ -6,9 +6,9 @@ use mathlib.Core.List.{List, [], ◌∷◌}
 use native.Mathlib.Omega.{arith}
 use borrow.Author.Tests.{not-true}
 use lib.ListN.{length}
+use Rattle.std.proofs.lemmas.Bool.{and_parts}
 use Rattle.lists.specs.Lists.{All, filter, elem, range, least_of}
 use Rattle.lists.proofs.All.{all_map, filter_test}
-use Rattle.lists.proofs.Bools.{and_both}
 use Rattle.lists.proofs.Parts.{fits_in}
 use Rattle.candidates.specs.Candidates.{scored}
 use Rattle.candidates.specs.Inner.Words.{cands}
@@ -30,7 +30,7 @@ sample_free : (stays : ℕ → Bool) (references : List ℕ) (capacity stride wa
     → All (λ s. elem s references ≡ false) (sample_by (free stays references) capacity stride wanted)
 sample_free stays references capacity stride wanted =
     sample_all (λ s. elem s references ≡ false) (free stays references) capacity stride wanted
-    (λ b. all_map (λ s. sampled stride b (free stays references) s ≡ true) (λ s. elem s references ≡ false) (λ s e. not-true (elem s references) (and_both (stays s) (not (elem s references)) (and_both (on_stride stride b s) (free stays references s) e).1).1) (filter (sampled stride b (free stays references)) (range 0 capacity)) (filter_test (sampled stride b (free stays references)) (range 0 capacity)))
+    (λ b. all_map (λ s. sampled stride b (free stays references) s ≡ true) (λ s. elem s references ≡ false) (λ s e. not-true (elem s references) (and_parts (stays s) (not (elem s references)) (and_parts (on_stride stride b s) (free stays references s) e).1).1) (filter (sampled stride b (free stays references)) (range 0 capacity)) (filter_test (sampled stride b (free stays references)) (range 0 capacity)))
 
 -- ---- what is asked
 module _ {space : Space} {o : Free} {wanted sample : ℕ} {list w : List ℕ} (f : Selectable space o wanted sample list w) where

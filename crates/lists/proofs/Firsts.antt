@@ -1,7 +1,7 @@
 -- `distinct_by` one element at a time: those whose key is not among the keys met so far, `fresh`. Assumes nothing.
 use Prim.Native.Nat.{ℕ}
 use mathlib.Core.Path.{◌≡◌, refl, ap, sym, ◌∙◌}
-use mathlib.Core.Bool.{Bool, true, false, not, ◌||◌}
+use mathlib.Core.Bool.{Bool, true, false, not, ◌||◌, or_comm}
 use mathlib.Core.List.{List, [], ◌∷◌, ◌++◌}
 use lib.Dec.{eqb}
 use borrow.Author.Tests.{eq-eqb, eqb-true}
@@ -19,12 +19,6 @@ eqb_comm a b = go (eqb a b) refl
     go : (c : Bool) → eqb a b ≡ c → c ≡ eqb b a
     go true e = sym (eq-eqb b a (sym (eqb-true a b e)))
     go false e = sym (eqb_flip a b e)
-
-or_comm : (a b : Bool) → (a || b) ≡ (b || a)
-or_comm true true = refl
-or_comm true false = refl
-or_comm false true = refl
-or_comm false false = refl
 
 module _ {A : Type 0} (key : A → ℕ) where
   -- those whose key none of ks has

@@ -9,7 +9,7 @@ use Rattle.lists.specs.Lists.{filter, elem, insert_by, sort_by, distinct_by, sor
 use Rattle.lists.proofs.All.{by_cases}
 use Rattle.lists.proofs.Unique.{eqb_flip}
 
-or_swap : (a b c : Bool) → (a || (b || c)) ≡ (b || (a || c))
+pub or_swap : (a b c : Bool) → (a || (b || c)) ≡ (b || (a || c))
 or_swap true true c = refl
 or_swap true false c = refl
 or_swap false true c = refl

@@ -10,7 +10,8 @@ use native.Mathlib.Nat.{mul-le-mul_right, suc-mul, zero-mul, add-mul}
 use borrow.Author.Tests.{eqb-true, eqb-false}
 use lib.Dec.{eqb}
 use lib.ListN.{length, take, drop, length-append, length-drop, take-append-drop}
-use lib.Seq.{take_at, drop_at, take-append-le, drop-append-le, length-take-le, drop-append-add, drop-drop, take-take, take-nil}
+use lib.Seq.{take_at, drop_at, take-append-le, drop-append-le, length-take-le, drop-append-add, drop-drop, take-take}
+use Rattle.std.proofs.lemmas.List.{drop-take}
 use Rattle.lists.specs.Lists.{part, put_part}
 
 -- a slot's part ends before the next slot's begins
@@ -126,17 +127,12 @@ module _ (d n : ℕ) (xs ys l : List ℕ) (lx : length xs ≡ d) (ly : length ys
 
 -- ---- the parts of some slots
 
-drop_take : (n k : ℕ) (l : List ℕ) → drop k (take (k + n) l) ≡ take n (drop k l)
-drop_take n zero l = let e : 0 + n ≡ n = omega arith in rw e
-drop_take n (suc k) [] = let e : suc k + n ≡ suc (k + n) = omega arith in rw e (sym (take-nil n))
-drop_take n (suc k) (x ∷ l) = let e : suc k + n ≡ suc (k + n) = omega arith in rw e (drop_take n k l)
-
 -- the part of slot i among those of n slots from one on
 pub part_part : (d from n i : ℕ) (l : List ℕ) → i < n → part d i (take (n * d) (drop (from * d) l)) ≡ part d (from + i) l
 part_part d from n i l h =
     let k : ℕ = n * d - (i * d + d) in
     let e : n * d ≡ i * d + (d + k) = omega (arith, before_next d i n h) in
     ap (λ (x : ℕ). take d (drop (i * d) (take x (drop (from * d) l)))) e
-    ∙ ap (take d) (drop_take (d + k) (i * d) (drop (from * d) l))
+    ∙ ap (take d) (drop-take (i * d) (d + k) (drop (from * d) l))
     ∙ take-take d (d + k) (drop (i * d) (drop (from * d) l)) (omega arith)
     ∙ ap (take d) (drop-drop (i * d) (from * d) l ∙ ap (λ (x : ℕ). drop x l) (sym (add-mul from i d)))

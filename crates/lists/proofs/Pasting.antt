@@ -1,20 +1,17 @@
 -- Loops that write a list over a part of a list, one element a turn. Assumes nothing.
 use Prim.Native.Nat.{ℕ, ◌+◌, ◌*◌, ◌<◌}
-use mathlib.Core.Path.{◌≡◌, refl, sym, ◌∙◌}
+use mathlib.Core.Path.{◌≡◌, sym, ◌∙◌}
 use mathlib.Core.List.{List, append_assoc}
 use native.Mathlib.Numerals.{add-one}
 use native.Mathlib.Omega.{arith}
 use lib.ListN.{length, get_or, set, length-set}
-use lib.Seq.{paste, paste-zero, paste-suc, take_all}
+use lib.Seq.{paste, paste-suc, take_all}
 use Rattle.lists.specs.Lists.{put_part}
 
 -- l' is l with the first j elements of xs written from index at on
 pub record Pasting (l : List ℕ) (at : ℕ) (xs : List ℕ) (j : ℕ) (l' : List ℕ) : Type 0 where
   pub list : l' ≡ paste l at xs j
   pub size : length l' ≡ length l
-
-pub pasting_none : (l : List ℕ) (at : ℕ) (xs : List ℕ) → Pasting l at xs 0 l
-pasting_none l at xs = record { list = paste-zero l at xs; size = refl }
 
 pub pasting_more : {l : List ℕ} {at : ℕ} {xs : List ℕ} {j : ℕ} {l' : List ℕ} {v : ℕ} → at + j < length l → j < length xs → v ≡ get_or xs j 0
     → Pasting l at xs j l' → Pasting l at xs (j + 1) (set l' (at + j) v)

@@ -1,6 +1,6 @@
 -- RisingFrom lists of numbers, each once: what `sorted_set` makes is what a sweep over all numbers below a bound finds. Assumes nothing.
 use Prim.Native.Nat.{ℕ, zero, suc, ◌+◌, ◌≤◌, ◌<◌}
-use mathlib.Core.Bool.{Bool, true, false, cond, not, ◌||◌}
+use mathlib.Core.Bool.{Bool, true, false, cond, not, ◌||◌, or-true}
 use mathlib.Core.Path.{◌≡◌, refl, ap, sym, ◌∙◌}
 use mathlib.Core.List.{List, [], ◌∷◌}
 use native.Mathlib.Omega.{arith}
@@ -99,10 +99,6 @@ rising_sweep a (suc n) (x ∷ l) (rise_one g u) b =
     (λ (k : RisingFrom (suc a) l) (m : (s : ℕ) → elem s l ≡ true → s < suc a + n). rising_sweep (suc a) n l k m)
     (λ (k : RisingFrom (suc a) (x ∷ l)) (m : (s : ℕ) → elem s (x ∷ l) ≡ true → s < suc a + n). rising_sweep (suc a) n (x ∷ l) k m)
   where
-    or-true : (p : Bool) → p || true ≡ true
-    or-true true = refl
-    or-true false = refl
-
     in_rest : (s : ℕ) → elem s l ≡ true → eqb s x || elem s l ≡ true
     in_rest s m = rw m (or-true (eqb s x))
 

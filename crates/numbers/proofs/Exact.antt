@@ -8,10 +8,10 @@ use borrow.Author.Tests.{eqb-true, eqb-false, eq-eqb, ne_eqb, ltb-true, lt-ltb, 
 use lib.Dec.{eqb, ltb}
 use lib.ListN.{length, take, drop, replicate, length-drop, take-append-drop}
 use lib.Seq.{length-take-le, take_at, drop_at}
+use Rattle.std.proofs.lemmas.Bool.{and_parts}
 use Rattle.lists.specs.Lists.{All, Pairwise, filter, range, elem}
 use Rattle.lists.proofs.All.{all_map, all_both, all_sort, filter_test}
 use Rattle.lists.proofs.Alike.{one_length}
-use Rattle.lists.proofs.Bools.{and_both}
 use Rattle.lists.proofs.Filter.{filter_length}
 use Rattle.lists.proofs.Members.{elem_sort, elem_filter}
 use Rattle.lists.proofs.Ranges.{length_range, range_below, filtered_below}
@@ -25,7 +25,7 @@ use Rattle.numbers.proofs.Order.{all_elem, elem_all, same_test, elem_filter_in, 
 pub blank_all : (xs : List ℕ) → all_blank xs ≡ true → xs ≡ replicate (length xs) blank
 blank_all [] e = refl
 blank_all (x ∷ xs) e =
-    let b = and_both (eqb x blank) (all_blank xs) e in
+    let b = and_parts (eqb x blank) (all_blank xs) e in
     rw (← blank_all xs b.1) (ap (λ (y : ℕ). y ∷ xs) (eqb-true x blank b.0))
 
 pub all_blanks : (n : ℕ) → all_blank (replicate n blank) ≡ true
@@ -37,7 +37,7 @@ all_blanks (suc n) = all_blanks n
 pub fits_all : (live : ℕ → Bool) (numbers : List ℕ) (ss : List ℕ) → numbers_fit live numbers ss ≡ true → All (λ s. number_fits live numbers s ≡ true) ss
 fits_all live numbers [] e = tt
 fits_all live numbers (s ∷ ss) e =
-    let b = and_both (number_fits live numbers s) (numbers_fit live numbers ss) e in
+    let b = and_parts (number_fits live numbers s) (numbers_fit live numbers ss) e in
     (b.0, fits_all live numbers ss b.1)
 
 pub all_fits : (live : ℕ → Bool) (numbers : List ℕ) (ss : List ℕ) → All (λ s. number_fits live numbers s ≡ true) ss → numbers_fit live numbers ss ≡ true
@@ -64,8 +64,8 @@ module _ (n : ℕ) (numbers : List ℕ) where
   pub rising_all : (low : ℕ) (ss : List ℕ) → rising n numbers low ss ≡ true → All (λ s. (s < n) × (low < number_of numbers s)) ss × Rises numbers ss
   rising_all low [] e = (tt, tt)
   rising_all low (s ∷ ss) e =
-      let b = and_both (ltb s n && ltb low (number_of numbers s)) (rising n numbers (number_of numbers s) ss) e in
-      let d = and_both (ltb s n) (ltb low (number_of numbers s)) b.0 in
+      let b = and_parts (ltb s n && ltb low (number_of numbers s)) (rising n numbers (number_of numbers s) ss) e in
+      let d = and_parts (ltb s n) (ltb low (number_of numbers s)) b.0 in
       let l : low < number_of numbers s = ltb-true low (number_of numbers s) d.1 in
       let r = rising_all (number_of numbers s) ss b.1 in (
         ((ltb-true s n d.0, l), all_map (λ t. (t < n) × (number_of numbers s < number_of numbers t)) (λ t. (t < n) × (low < number_of numbers t)) (λ t h. (h.0, omega (arith, h.1, l))) ss r.0),
@@ -161,10 +161,10 @@ module _ (live : ℕ → Bool) (n count : ℕ) (numbers summary : List ℕ) (man
   }
     where
       one : (numbers_fit live numbers (range 0 n) && rising n numbers 0 (take count summary) ≡ true) × (all_blank (drop count summary) ≡ true)
-      one = and_both (numbers_fit live numbers (range 0 n) && rising n numbers 0 (take count summary)) (all_blank (drop count summary)) e
+      one = and_parts (numbers_fit live numbers (range 0 n) && rising n numbers 0 (take count summary)) (all_blank (drop count summary)) e
 
       two : (numbers_fit live numbers (range 0 n) ≡ true) × (rising n numbers 0 (take count summary) ≡ true)
-      two = and_both (numbers_fit live numbers (range 0 n)) (rising n numbers 0 (take count summary)) one.0
+      two = and_parts (numbers_fit live numbers (range 0 n)) (rising n numbers 0 (take count summary)) one.0
 
       fit : (s : ℕ) → s < n → number_fits live numbers s ≡ true
       fit s h = all_elem (λ s. number_fits live numbers s ≡ true) s (range 0 n) (fits_all live numbers (range 0 n) two.0) (range_in s n h)

@@ -9,14 +9,14 @@ use borrow.Author.Tests.{eqb-true, eqb-false, eq-eqb, ltb-true, ltb-false}
 use lib.Dec.{eqb, ltb}
 use lib.ListN.{length, get_or, set, replicate, length-set, length-append, length-replicate, get_or-replicate, get_or-append}
 use lib.Seq.{get_or-set_same, get_or-set_other, get_or-append-add}
+use Rattle.std.proofs.lemmas.Bool.{or_parts, or_right}
 use Rattle.lists.specs.Lists.{All, Pairwise, elem}
 use Rattle.lists.proofs.All.{all_map}
 use Rattle.lists.proofs.Places.{all_at, pairwise_at}
-use Rattle.lists.proofs.Unique.{or_false_l, or_false_r}
 use Rattle.slots.specs.Store.{blank}
 use Rattle.numbers.specs.Numbers.{number_of, by_number, taken, write_numbers, live_numbers, summary_of, Labelled}
 use Rattle.numbers.specs.Inner.Listed.{Apart, Inserting}
-use Rattle.numbers.proofs.Order.{all_elem, apart_unique, length_by, or_right}
+use Rattle.numbers.proofs.Order.{all_elem, apart_unique, length_by}
 use Rattle.numbers.proofs.Exact.{live_of, live_few}
 use Rattle.numbers.proofs.Named.{elem_at}
 use Rattle.numbers.proofs.Taken.{taken_none}
@@ -45,8 +45,8 @@ pub write_other : (t : ℕ) (slots ns numbers : List ℕ) → elem t slots ≡ f
 write_other t [] ns numbers e = refl
 write_other t (s ∷ slots) [] numbers e = refl
 write_other t (s ∷ slots) (m ∷ ns) numbers e =
-    write_other t slots ns (set numbers s m) (or_false_r (eqb t s) (elem t slots) e)
-    ∙ get_or-set_other numbers s t m 0 (eqb-false t s (or_false_l (eqb t s) (elem t slots) e))
+    write_other t slots ns (set numbers s m) (or_parts (eqb t s) (elem t slots) e).1
+    ∙ get_or-set_other numbers s t m 0 (eqb-false t s (or_parts (eqb t s) (elem t slots) e).0)
 
 -- the first slot's number
 write_first : (s : ℕ) (slots : List ℕ) (m : ℕ) (ns numbers : List ℕ) → s < length numbers → elem s slots ≡ false → number_of (write_numbers (s ∷ slots) (m ∷ ns) numbers) s ≡ m
@@ -63,7 +63,7 @@ write_one t (s ∷ slots) (m ∷ ns) numbers h d k e =
     go : (b : Bool) → eqb t s ≡ b → (b || elem t slots) ≡ true → (elem t slots ≡ true → elem (number_of (write_numbers slots ns (set numbers s m)) t) ns ≡ true)
         → elem (number_of (write_numbers (s ∷ slots) (m ∷ ns) numbers) t) (m ∷ ns) ≡ true
     go true q g r = rw (eqb-true t s q, write_first s slots m ns numbers h.0 (apart_unique (s ∷ slots) d).0, eq-eqb m m refl)
-    go false q g r = or_right (eqb (number_of (write_numbers slots ns (set numbers s m)) t) m) (r g)
+    go false q g r = or_right (eqb (number_of (write_numbers slots ns (set numbers s m)) t) m) _ (r g)
 
 -- and no two the same
 pub write_apart : (t u : ℕ) (slots ns numbers : List ℕ) → All (λ s. s < length numbers) slots → Pairwise (λ s t. s ≡ t → ⊥) slots → length ns ≡ length slots → Pairwise (λ a b. a ≡ b → ⊥) ns
@@ -150,7 +150,7 @@ module _ {live : ℕ → Bool} {n : ℕ} {numbers summary slots ns : List ℕ} (
       above s h false i false j e = absurd (true≢false (sym (rw (i, j) at e)))
 
       dead : (s : ℕ) → s < n → (x : Bool) → elem s slots ≡ x → (y : Bool) → live s ≡ y → (live s || elem s slots) ≡ false → number_of (write_numbers slots ns numbers) s ≡ 0
-      dead s h true i y j e = absurd (true≢false (sym (or_right (live s) i) ∙ e))
+      dead s h true i y j e = absurd (true≢false (sym (or_right (live s) _ i) ∙ e))
       dead s h false i true j e = absurd (true≢false (rw j at e))
       dead s h false i false j e = write_other s slots ns numbers i ∙ f.labelled.dead s h j
 

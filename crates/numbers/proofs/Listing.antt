@@ -1,5 +1,5 @@
 -- The summary as sorting, insert and delete leave it. Assumes nothing.
-use Prim.Native.Nat.{ℕ, zero, suc, ◌+◌, ◌-◌, ◌≤◌, ◌<◌}
+use Prim.Native.Nat.{ℕ, suc, ◌+◌, ◌-◌, ◌≤◌, ◌<◌}
 use mathlib.Core.Bool.{Bool, true, false, ◌&&◌, ◌||◌, true≢false}
 use mathlib.Core.Path.{◌≡◌, refl, ap, sym, ◌∙◌}
 use mathlib.Core.List.{List, [], ◌∷◌, ◌++◌, append-nil}
@@ -10,6 +10,8 @@ use lib.ListN.{length, take, drop, get_or, replicate, take-append-drop, length-a
 use borrow.Rule.Slice.PartMut.{put_mid}
 use Rattle.std.proofs.lemmas.Slice.{put_mid-paste}
 use lib.Seq.{paste, take_all, drop-drop, length-take-le, take_at, drop_at, take-paste, drop-paste, length-paste, get_or-take}
+use Rattle.std.proofs.lemmas.Bool.{or_right}
+use Rattle.std.proofs.lemmas.List.{drop-replicate}
 use Rattle.lists.specs.Lists.{All, filter, range, elem, times, insert_by, put_front}
 use Rattle.lists.proofs.All.{all_map, all_sort, all_append}
 use Rattle.lists.proofs.Alike.{one_length}
@@ -28,7 +30,7 @@ use Rattle.sorting.proofs.Counts.{times_all}
 use Rattle.sorting.proofs.Settling.{placed_front, risen_within, risen_front, sorted_front}
 use Rattle.numbers.specs.Numbers.{number_of, by_number, write_numbers, live_numbers, summary_of, Labelled}
 use Rattle.numbers.specs.Inner.Listed.{Listed, Apart, Summarized, Inserting, Entering, Entered, Packed, Struck}
-use Rattle.numbers.proofs.Order.{or_right, all_elem, elem_all, same_test, pairwise_from, range_up, unique_apart, apart_unique, lower, Rises, sort_rises, length_by, rises_unique}
+use Rattle.numbers.proofs.Order.{all_elem, elem_all, same_test, pairwise_from, range_up, unique_apart, apart_unique, lower, Rises, sort_rises, length_by, rises_unique}
 use Rattle.numbers.proofs.Exact.{live_of, live_in, in_live, live_all, live_few, live_unique, live_rises, live_listed, range_in, in_range}
 use Rattle.numbers.proofs.Named.{number_live}
 use Rattle.numbers.proofs.Kept.{summary_long, write_numbers_long, write_other, inserted_distinct}
@@ -47,7 +49,7 @@ elem_append t (x ∷ xs) ys = go (eqb t x) (elem_append t xs ys)
 pub unique_append : (xs ys : List ℕ) → Unique xs → Unique ys → ((t : ℕ) → elem t xs ≡ true → elem t ys ≡ true → ⊥) → Unique (xs ++ ys)
 unique_append [] ys u w d = w
 unique_append (x ∷ xs) ys u w d =
-    (elem_append x xs ys ∙ rw u.0 (go (elem x ys) refl), unique_append xs ys u.1 w (λ t e. d t (or_right (eqb t x) e)))
+    (elem_append x xs ys ∙ rw u.0 (go (elem x ys) refl), unique_append xs ys u.1 w (λ t e. d t (or_right (eqb t x) _ e)))
   where
     go : (b : Bool) → elem x ys ≡ b → b ≡ false
     go true e = absurd (d x (rw (eq-eqb x x refl)) e)
@@ -183,11 +185,6 @@ summarized {numbers} {order} {order'} {count} a f e = record {
 
 -- ---- insert
 
-drop_replicate : (m n v : ℕ) → drop m (replicate n v) ≡ replicate (n - m) v
-drop_replicate zero n v = let e : n - 0 ≡ n = omega arith in rw e
-drop_replicate (suc m) zero v = let e : 0 - suc m ≡ 0 = omega arith in rw e
-drop_replicate (suc m) (suc n) v = let e : suc n - suc m ≡ n - m = omega arith in rw e (drop_replicate m n v)
-
 module _ {live : ℕ → Bool} {n : ℕ} {old summary slots ns : List ℕ} (f : Inserting live n old summary slots ns) {count : ℕ} (many : count ≡ length (filter live (range 0 n))) where
   -- an old slot is none of the new ones
   old_apart : (t : ℕ) → live t ≡ true → elem t slots ≡ false
@@ -215,11 +212,11 @@ module _ {live : ℕ → Bool} {n : ℕ} {old summary slots ns : List ℕ} (f : 
       there true i e = let b = in_live live n t i in live_in after n t b.0 (w t b.0 ∙ rw b.1)
       there false i e =
           let h = all_elem (λ s. s < n) t slots f.inside e in
-          live_in after n t h (w t h ∙ or_right (live t) e)
+          live_in after n t h (w t h ∙ or_right (live t) _ e)
 
       back : (b : Bool) → live t ≡ b → t < n → (live t || elem t slots) ≡ true → (elem t (live_of live n) || elem t slots) ≡ true
       back true i h e = rw (live_in live n t h i)
-      back false i h e = or_right (elem t (live_of live n)) (rw i at e)
+      back false i h e = or_right (elem t (live_of live n)) _ (rw i at e)
 
   joined_few : count + length slots ≤ n
   joined_few =
@@ -289,7 +286,7 @@ module _ {numbers summary : List ℕ} {live : ℕ} {slots : List ℕ} (f : Enter
       rest before old ns g many =
           let e : (length numbers - live) - n ≡ length numbers - (live + n) = omega arith in
           drop-paste summary live slots n (omega (arith, f.room)) (omega arith) ∙ sym (drop-drop n live summary)
-          ∙ ap (drop n) (back_is g.labelled many) ∙ drop_replicate n (length numbers - live) blank ∙ ap (λ j. replicate j blank) e
+          ∙ ap (drop n) (back_is g.labelled many) ∙ drop-replicate n (length numbers - live) blank ∙ ap (λ j. replicate j blank) e
 
   -- the same of an order that equals it
   -- the new slots are pasted behind the live ones

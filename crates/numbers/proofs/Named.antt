@@ -7,11 +7,11 @@ use native.Mathlib.Omega.{arith}
 use borrow.Author.Tests.{eqb-true, eqb-false, eq-eqb, ne_eqb}
 use lib.Dec.{eqb}
 use lib.ListN.{length, get_or}
+use Rattle.std.proofs.lemmas.Bool.{or_right}
 use Rattle.lists.specs.Lists.{elem}
 use Rattle.slots.specs.Store.{blank}
 use Rattle.numbers.specs.Numbers.{number_of, place_of, slot_of, Labelled}
 use Rattle.numbers.specs.Inner.Listed.{Listed}
-use Rattle.numbers.proofs.Order.{or_right}
 
 place_none : (m from : ℕ) (l : List ℕ) → ((i : ℕ) → i < length l → get_or l i 0 ≡ m → ⊥) → place_of m from l ≡ blank
 place_none m from [] h = refl
@@ -66,7 +66,7 @@ module _ {live : ℕ → Bool} {n : ℕ} {numbers summary : List ℕ} (l : Label
 pub elem_at : (l : List ℕ) (i : ℕ) → i < length l → elem (get_or l i 0) l ≡ true
 elem_at [] i h = absurd (omega arith)
 elem_at (x ∷ l) zero h = rw (eq-eqb x x refl)
-elem_at (x ∷ l) (suc i) h = or_right (eqb (get_or l i 0) x) (elem_at l i (omega arith))
+elem_at (x ∷ l) (suc i) h = or_right (eqb (get_or l i 0) x) _ (elem_at l i (omega arith))
 
 -- the place of an element
 pub at_elem : (C : Type 0) (a : ℕ) (l : List ℕ) → elem a l ≡ true → ((i : ℕ) → i < length l → get_or l i 0 ≡ a → C) → C
@@ -76,13 +76,6 @@ at_elem C a (x ∷ l) e f = go (eqb a x) refl e (λ g. at_elem C a l g (λ i h. 
     go : (b : Bool) → eqb a x ≡ b → (b || elem a l) ≡ true → (elem a l ≡ true → C) → C
     go true q g r = f 0 (omega arith) (sym (eqb-true a x q))
     go false q g r = r g
-
-elem_not : (m : ℕ) (l : List ℕ) → ((i : ℕ) → i < length l → get_or l i 0 ≡ m → ⊥) → elem m l ≡ false
-elem_not m l d = go (elem m l) refl
-  where
-    go : (b : Bool) → elem m l ≡ b → b ≡ false
-    go true e = absurd (at_elem ⊥ m l e d)
-    go false e = refl
 
 -- ---- a number held, as looking up says it
 

@@ -8,6 +8,7 @@ use native.Mathlib.Omega.{arith}
 use borrow.Author.Tests.{eqb-true, eqb-false, eq-eqb, ne_eqb, ltb-true, ltb-false, lt-ltb}
 use lib.Dec.{eqb, ltb}
 use lib.ListN.{length}
+use Rattle.std.proofs.lemmas.Bool.{or_right}
 use Rattle.lists.specs.Lists.{All, Pairwise, Ordered, filter, range, elem}
 use Rattle.lists.proofs.All.{by_cases, all_map, all_sort, all_filter}
 use Rattle.lists.proofs.Ordered.{ordered_insert, length_insert}
@@ -16,10 +17,6 @@ use Rattle.lists.proofs.Filtered.{count_both}
 use Rattle.numbers.specs.Numbers.{number_of, by_number}
 
 -- ---- elements of lists
-
-pub or_right : (b : Bool) {c : Bool} → c ≡ true → (b || c) ≡ true
-or_right true e = refl
-or_right false e = e
 
 -- what holds of each element holds of one that stands in the list
 pub all_elem : (P : ℕ → Type 0) (t : ℕ) (xs : List ℕ) → All P xs → elem t xs ≡ true → P t
@@ -33,7 +30,7 @@ all_elem P t (x ∷ xs) h e = go (eqb t x) refl e (all_elem P t xs h.1)
 -- and the other way round
 pub elem_all : (P : ℕ → Type 0) (xs : List ℕ) → ((t : ℕ) → elem t xs ≡ true → P t) → All P xs
 elem_all P [] h = tt
-elem_all P (x ∷ xs) h = (h x (rw (eq-eqb x x refl)), elem_all P xs (λ t e. h t (or_right (eqb t x) e)))
+elem_all P (x ∷ xs) h = (h x (rw (eq-eqb x x refl)), elem_all P xs (λ t e. h t (or_right (eqb t x) _ e)))
 
 -- two tests that imply one another
 pub same_test : (b c : Bool) → (b ≡ true → c ≡ true) → (c ≡ true → b ≡ true) → b ≡ c
@@ -53,7 +50,7 @@ elem_filter_in p t (x ∷ xs) e = go (p x) refl e (elem_filter_in p t xs)
     go : (b : Bool) → p x ≡ b → elem t (cond b (x ∷ filter p xs) (filter p xs)) ≡ true → (elem t (filter p xs) ≡ true → (p t ≡ true) × (elem t xs ≡ true))
         → (p t ≡ true) × (elem t (x ∷ xs) ≡ true)
     go true k f r = more (eqb t x) refl k f r
-    go false k f r = let z = r f in (z.0, or_right (eqb t x) z.1)
+    go false k f r = let z = r f in (z.0, or_right (eqb t x) _ z.1)
 
 -- a filter that leaves as many leaves all
 pub filter_full : (p : ℕ → Bool) (xs : List ℕ) → length xs ≤ length (filter p xs) → All (λ x. p x ≡ true) xs

@@ -7,12 +7,11 @@ use native.Mathlib.Omega.{arith}
 use borrow.Author.Tests.{eqb-false, eq-eqb, ne_eqb}
 use lib.Dec.{eqb}
 use lib.ListN.{length, get_or}
+use Rattle.std.proofs.lemmas.Bool.{or_parts, or_right}
 use Rattle.lists.specs.Lists.{All, Pairwise, elem}
 use Rattle.lists.proofs.All.{all_map}
-use Rattle.lists.proofs.Unique.{or_false_l, or_false_r}
 use Rattle.numbers.specs.Numbers.{taken}
 use Rattle.numbers.specs.Inner.Held.{any_in}
-use Rattle.numbers.proofs.Order.{or_right}
 
 -- ---- two tests
 
@@ -50,11 +49,11 @@ taken_split held (n ∷ ns) =
 pub taken_none : (held ns : List ℕ) → taken held ns ≡ false → All (λ m. (0 < m) × (elem m held ≡ false)) ns × Pairwise (λ a b. a ≡ b → ⊥) ns
 taken_none held [] e = (tt, tt)
 taken_none held (n ∷ ns) e =
-    let a : (eqb n 0 || elem n held) ≡ false = or_false_l (eqb n 0 || elem n held) (taken (n ∷ held) ns) e in
-    let z = eqb-false n 0 (or_false_l (eqb n 0) (elem n held) a) in
-    let r = taken_none (n ∷ held) ns (or_false_r (eqb n 0 || elem n held) (taken (n ∷ held) ns) e) in (
-      ((omega arith, or_false_r (eqb n 0) (elem n held) a), all_map (λ m. (0 < m) × (elem m (n ∷ held) ≡ false)) (λ m. (0 < m) × (elem m held ≡ false)) (λ m h. (h.0, or_false_r (eqb m n) (elem m held) h.1)) ns r.0),
-      (all_map (λ m. (0 < m) × (elem m (n ∷ held) ≡ false)) (λ m. n ≡ m → ⊥) (λ m h i. eqb-false m n (or_false_l (eqb m n) (elem m held) h.1) (sym i)) ns r.0, r.1),
+    let a : (eqb n 0 || elem n held) ≡ false = (or_parts (eqb n 0 || elem n held) (taken (n ∷ held) ns) e).0 in
+    let z = eqb-false n 0 (or_parts (eqb n 0) (elem n held) a).0 in
+    let r = taken_none (n ∷ held) ns ((or_parts (eqb n 0 || elem n held) (taken (n ∷ held) ns) e).1) in (
+      ((omega arith, (or_parts (eqb n 0) (elem n held) a).1), all_map (λ m. (0 < m) × (elem m (n ∷ held) ≡ false)) (λ m. (0 < m) × (elem m held ≡ false)) (λ m h. (h.0, (or_parts (eqb m n) (elem m held) h.1).1)) ns r.0),
+      (all_map (λ m. (0 < m) × (elem m (n ∷ held) ≡ false)) (λ m. n ≡ m → ⊥) (λ m h i. eqb-false m n (or_parts (eqb m n) (elem m held) h.1).0 (sym i)) ns r.0, r.1),
     )
 
 -- ---- by the places of the list
@@ -63,21 +62,21 @@ taken_none held (n ∷ ns) e =
 pub taken_zero : (held ns : List ℕ) (i : ℕ) → i < length ns → get_or ns i 0 ≡ 0 → taken held ns ≡ true
 taken_zero held [] i h e = absurd (omega arith)
 taken_zero held (n ∷ ns) zero h e = rw (eq-eqb n 0 e)
-taken_zero held (n ∷ ns) (suc i) h e = or_right (eqb n 0 || elem n held) (taken_zero (n ∷ held) ns i (omega arith) e)
+taken_zero held (n ∷ ns) (suc i) h e = or_right (eqb n 0 || elem n held) _ (taken_zero (n ∷ held) ns i (omega arith) e)
 
 -- a number that is held
 pub taken_held : (held ns : List ℕ) (i : ℕ) → i < length ns → elem (get_or ns i 0) held ≡ true → taken held ns ≡ true
 taken_held held [] i h e = absurd (omega arith)
-taken_held held (n ∷ ns) zero h e = rw (or_right (eqb n 0) e)
-taken_held held (n ∷ ns) (suc i) h e = or_right (eqb n 0 || elem n held) (taken_held (n ∷ held) ns i (omega arith) (or_right (eqb (get_or ns i 0) n) e))
+taken_held held (n ∷ ns) zero h e = rw (or_right (eqb n 0) _ e)
+taken_held held (n ∷ ns) (suc i) h e = or_right (eqb n 0 || elem n held) _ (taken_held (n ∷ held) ns i (omega arith) (or_right (eqb (get_or ns i 0) n) _ e))
 
 -- a number that stands twice
 pub taken_twice : (held ns : List ℕ) (i j : ℕ) → i < j → j < length ns → get_or ns i 0 ≡ get_or ns j 0 → taken held ns ≡ true
 taken_twice held [] i j l h e = absurd (omega arith)
 taken_twice held (n ∷ ns) i zero l h e = absurd (omega arith)
 taken_twice held (n ∷ ns) zero (suc j) l h e =
-    or_right (eqb n 0 || elem n held) (taken_held (n ∷ held) ns j (omega arith) (rw (eq-eqb (get_or ns j 0) n (sym e))))
-taken_twice held (n ∷ ns) (suc i) (suc j) l h e = or_right (eqb n 0 || elem n held) (taken_twice (n ∷ held) ns i j (omega arith) (omega arith) e)
+    or_right (eqb n 0 || elem n held) _ (taken_held (n ∷ held) ns j (omega arith) (rw (eq-eqb (get_or ns j 0) n (sym e))))
+taken_twice held (n ∷ ns) (suc i) (suc j) l h e = or_right (eqb n 0 || elem n held) _ (taken_twice (n ∷ held) ns i j (omega arith) (omega arith) e)
 
 -- no such number
 pub taken_no : (held ns : List ℕ) → ((i : ℕ) → i < length ns → (get_or ns i 0 ≡ 0 → ⊥) × (elem (get_or ns i 0) held ≡ false))

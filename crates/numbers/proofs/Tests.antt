@@ -1,6 +1,6 @@
 -- The loops of row 6's test: numbers that fit, a summary that rises, and blanks. Assumes nothing.
 use Prim.Native.Nat.{ℕ, zero, suc, ◌+◌, ◌≤◌, ◌<◌, min}
-use mathlib.Core.Bool.{Bool, true, false, not, ◌&&◌, ◌||◌, cond, true≢false}
+use mathlib.Core.Bool.{Bool, true, false, not, ◌&&◌, ◌||◌, true≢false, and-false, and_assoc}
 use mathlib.Core.Logic.{◌⊎◌, inl, inr}
 use mathlib.Core.Path.{◌≡◌, refl, ap, sym, ◌∙◌}
 use mathlib.Core.List.{List, [], ◌∷◌, ◌++◌}
@@ -9,7 +9,6 @@ use native.Mathlib.Numerals.{add-one}
 use native.Mathlib.Omega.{arith}
 use borrow.Author.Tests.{le-ltb, lt-ltb}
 use lib.Dec.{eqb, ltb}
-use mathlib.Core.Bool.{beq}
 use lib.ListN.{length, take, drop, get_or, drop_of_length-le, length-append, get_or-eq_default}
 use lib.Seq.{drop-cons}
 use Rattle.std.specs.List.{list_any}
@@ -17,14 +16,6 @@ use Rattle.lists.specs.Lists.{range}
 use Rattle.slots.specs.Store.{blank, is_valid}
 use Rattle.numbers.specs.Numbers.{number_of, numbers_fit, rising, all_blank, labels_ok}
 use Rattle.numbers.specs.Inner.Fits.{fits, all_fit}
-
-and-false : (b : Bool) → b && false ≡ false
-and-false true = refl
-and-false false = refl
-
-and_join : (a b c : Bool) → (a && b) && c ≡ a && (b && c)
-and_join true b c = refl
-and_join false b c = refl
 
 -- ---- numbers that fit
 
@@ -44,16 +35,6 @@ fits_numbers marks numbers l = fits_from marks numbers 0 (length marks) (omega a
 pub record Fitting (marks numbers : List ℕ) (bad : Bool) (ms ns : List ℕ) : Type 0 where
   pub rest : not bad && all_fit ms ns ≡ all_fit marks numbers
 
-pub fitting_more : {marks numbers ms ns : List ℕ} {bad : Bool} (ms' ns' : List ℕ) (m n : ℕ) → Fitting marks numbers bad ms ns → ms ≡ m ∷ ms' → ns ≡ n ∷ ns' → Fitting marks numbers (bad || not (beq (eqb m 0) (eqb n 0))) ms' ns'
-fitting_more {marks} {numbers} {bad = bad} ms' ns' m n k f g = record { rest = go bad (eqb m 0) (eqb n 0) (rw (f, g) at k.rest) }
-  where
-    go : (b x y : Bool) → not b && (cond (not x) (not y) y && all_fit ms' ns') ≡ all_fit marks numbers → not (b || not (beq x y)) && all_fit ms' ns' ≡ all_fit marks numbers
-    go true x y e = e
-    go false true true e = e
-    go false true false e = e
-    go false false true e = e
-    go false false false e = e
-
 fit_empty : (ms ns : List ℕ) → (ms ≡ []) ⊎ (ns ≡ []) → all_fit ms ns ≡ true
 fit_empty ms ns (inl e) = rw e
 fit_empty [] ns (inr e) = refl
@@ -71,7 +52,7 @@ fit_split : (xs ys ms ns : List ℕ) → length xs ≡ length ys → all_fit (xs
 fit_split [] [] ms ns e = refl
 fit_split [] (y ∷ ys) ms ns e = absurd (omega arith)
 fit_split (x ∷ xs) [] ms ns e = absurd (omega arith)
-fit_split (x ∷ xs) (y ∷ ys) ms ns e = rw (fit_split xs ys ms ns (omega arith)) (sym (and_join (fits x y) (all_fit xs ys) (all_fit ms ns)))
+fit_split (x ∷ xs) (y ∷ ys) ms ns e = rw (fit_split xs ys ms ns (omega arith)) (sym (and_assoc (fits x y) (all_fit xs ys) (all_fit ms ns)))
 
 -- the blocks that are left, of 128 each
 pub record Blocks (marks numbers : List ℕ) (size size' : ℕ) (ms ns : List ℕ) : Type 0 where
@@ -134,9 +115,6 @@ module _ {numbers ss : List ℕ} {low i m : ℕ} (h : i < length ss) (k : Rising
       inside : Dec (get_or ss i 0 < length numbers) → get_or ss i 0 < length numbers
       inside (yes o) = o
       inside (no o) = let z : length numbers ≤ get_or ss i 0 = omega arith in absurd (omega (arith, e, get_or-eq_default numbers 0 z))
-
-pub rising_done : {numbers ss : List ℕ} {low i : ℕ} → length ss ≤ i → RisingTo numbers ss low i → false ≡ not (rising (length numbers) numbers 0 ss)
-rising_done {numbers} {ss} h k = ap not (rw (drop_of_length-le ss h) at k.rest)
 
 -- ---- blanks
 

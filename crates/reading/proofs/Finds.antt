@@ -10,6 +10,7 @@ use lib.Dec.{eqb, ltb}
 use lib.Ieee.{Float}
 use lib.ListN.{length, take, drop, set, length-set, length-map}
 use lib.Seq.{length-take-le, take_all, take_at}
+use Rattle.std.proofs.lemmas.Bool.{or_parts}
 use Rattle.lists.specs.Lists.{put_front}
 use Rattle.lists.proofs.All.{all_take}
 use Rattle.lists.proofs.Front.{front_map}
@@ -40,7 +41,7 @@ use Rattle.reading.specs.Inner.Finding.{search_tests, Fits, Shown}
 use Rattle.reading.specs.Search.{search_outputs, searching_of, found_of, found_as, Searches}
 use Rattle.reading.specs.declared.searching.Searching.{Searching}
 use Rattle.reading.specs.declared.searching.Found.{Found}
-use Rattle.calls.proofs.Tests.{first_none, or_neither}
+use Rattle.calls.proofs.Tests.{first_none}
 use Rattle.index.proofs.Decide.{decided_after, turned_back, let_through, own_none, not_wrong, passed, passed_marks, step_back, step_on}
 
 -- ---- rows 7 and 8
@@ -111,12 +112,12 @@ module _ {index : Index} {s : Slices} (a : Searching) (f : Found) (scratch : Lis
         nearest = [];
         numbers = [];
         counts = λ m o. cc;
-        meets = record { does = sym (step_back (state_of index s) call (row_of e) (turned_back index s d z)); writes = refl; keeps = λ m e. refl };
+        meets = record { does = sym (step_back (state_of index s) call (row_of e) (turned_back d z)); writes = refl; keeps = λ m e. refl };
       }
 
   module _ {v : A} (z : r ≡ Ok v) where
     abbrev able : Passed index s
-    able = passed index s d z
+    able = passed d z
 
     abbrev over : Bool
     over = ltb limits.beam a.beam || ltb (min (min (length f.slots.now) (length f.dists.now)) (length f.numbers.now)) a.k
@@ -126,14 +127,14 @@ module _ {index : Index} {s : Slices} (a : Searching) (f : Found) (scratch : Lis
 
     -- what the search's own tests leave
     own : (over ≡ false) × (small ≡ false)
-    own = let e = first_none 7 over ((8, small) ∷ []) (own_none index s d z) in (e.0, (first_none 8 small [] e.1).0)
+    own = let e = first_none 7 over ((8, small) ∷ []) (own_none d z) in (e.0, (first_none 8 small [] e.1).0)
 
     beam_most : a.beam ≤ 1024
     unfolding limits
-    beam_most = ltb-false 1024 a.beam (or_neither (ltb 1024 a.beam) _ own.0).0
+    beam_most = ltb-false 1024 a.beam (or_parts (ltb 1024 a.beam) _ own.0).0
 
     room : a.k ≤ min (min (length f.slots.now) (length f.dists.now)) (length f.numbers.now)
-    room = ltb-false (min (min (length f.slots.now) (length f.dists.now)) (length f.numbers.now)) a.k (or_neither (ltb limits.beam a.beam) _ own.0).1
+    room = ltb-false (min (min (length f.slots.now) (length f.dists.now)) (length f.numbers.now)) a.k (or_parts (ltb limits.beam a.beam) _ own.0).1
 
     words : marks_at + length s.marks ≤ length scratch
     unfolding size_answer
@@ -144,7 +145,7 @@ module _ {index : Index} {s : Slices} (a : Searching) (f : Found) (scratch : Lis
       pub search_ready : Ready g a.query.now index.entry a.beam scratch
       search_ready =
           rw same (record {
-            query_long = eqb-true (length a.query.now) index.dim (not-false _ (not_wrong index s d z));
+            query_long = eqb-true (length a.query.now) index.dim (not-false _ (not_wrong d z));
             start_inside = rw (passed_marks able) able.entry_inside;
             beam_most = beam_most;
             room = words;
@@ -194,7 +195,7 @@ module _ {index : Index} {s : Slices} (a : Searching) (f : Found) (scratch : Lis
 
         not_refused : (m : ℕ) → refusal stored (state_of index s) call ≡ some m → ⊥
         unfolding refusal tests state_of stored store_ops store_view shown room_of
-        not_refused m h = let g = sym (let_through index s d z) ∙ h in cc
+        not_refused m h = let g = sym (let_through d z) ∙ h in cc
 
         module _ {slots' : List ℕ} {dists' : List Float} {out : List ℕ} (h : Shown scratch' n f.slots.now f.dists.now slots' dists')
             (copied : out ≡ map (number_of s.numbers) (take (length (take n f.numbers.now)) slots')) where
@@ -221,7 +222,7 @@ module _ {index : Index} {s : Slices} (a : Searching) (f : Found) (scratch : Lis
                 numbers = figures;
                 counts = λ m o. let q : n ≡ m = cc in sym q ∙ sym (cands_length scratch' 0 n);
                 meets = record {
-                  does = ap (λ cs. (state_of index s, found cs (map (number_of s.numbers) (ids cs)))) nearest_found ∙ sym (step_on (state_of index s) call (let_through index s d z));
+                  does = ap (λ cs. (state_of index s, found cs (map (number_of s.numbers) (ids cs)))) nearest_found ∙ sym (step_on (state_of index s) call (let_through d z));
                   writes = λ i. search_outputs (h.slots_written i) (h.dists_written i) (figures_written i);
                   keeps = λ m o. absurd (not_refused m o);
                 };

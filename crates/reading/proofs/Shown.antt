@@ -83,14 +83,14 @@ module _ {index : Index} {s : Slices} {A : Type 0} {r : Result A Refusal} (d : D
   pub reads_back : {q : Reading} {e : Refusal} → r ≡ Err e → Reads index s q (Err e)
   unfolding tests answer_of refused_as call_of slices_of state_of written
   reads_back {q} {e} z =
-      record { meets = record { does = sym (step_back (state_of index s) (call (read (reading_of q))) (row_of e) (turned_back index s d z)); writes = refl; keeps = λ k e. refl } }
+      record { meets = record { does = sym (step_back (state_of index s) (call (read (reading_of q))) (row_of e) (turned_back d z)); writes = refl; keeps = λ k e. refl } }
 
   pub reads_on : {q : Reading} {v : Value} {a : A} → r ≡ Ok a → Answers index s q v → Reads index s q (Ok v)
   unfolding tests perform call_of slices_of state_of
   reads_on {q} {v} z a =
       record {
         meets = record {
-          does = ap (λ a. (state_of index s, a)) a.does ∙ sym (step_on (state_of index s) (call (read (reading_of q))) (let_through index s d z));
+          does = ap (λ a. (state_of index s, a)) a.does ∙ sym (step_on (state_of index s) (call (read (reading_of q))) (let_through d z));
           writes = only_answered (Ok v);
           keeps = λ k e. refl;
         };
@@ -103,7 +103,7 @@ module _ {index : Index} {s : Slices} {A : Type 0} {r : Result A Refusal} (d : D
     vector_back {f} z e = record {
       reads = record {
         meets = record {
-          does = ap (λ l. (state_of index s, vector l)) e ∙ sym (step_back (state_of index s) (call (read_vector slot)) (row_of f) (turned_back index s d z));
+          does = ap (λ l. (state_of index s, vector l)) e ∙ sym (step_back (state_of index s) (call (read_vector slot)) (row_of f) (turned_back d z));
           writes = refl;
           keeps = λ k e. refl;
         };
@@ -118,7 +118,7 @@ module _ {index : Index} {s : Slices} {A : Type 0} {r : Result A Refusal} (d : D
         answers : part.now ≡ cond (is_valid s.marks slot) (part_of index.dim slot s.vectors) [] → ReadsVector index s slot part.now
         answers a = record {
           meets = record {
-            does = ap (λ l. (state_of index s, vector l)) a ∙ sym (step_on (state_of index s) (call (read_vector slot)) (let_through index s d z));
+            does = ap (λ l. (state_of index s, vector l)) a ∙ sym (step_on (state_of index s) (call (read_vector slot)) (let_through d z));
             writes = refl;
             keeps = λ k e. refl;
           };

@@ -8,13 +8,13 @@ use native.Mathlib.Omega.{arith}
 use borrow.Author.Tests.{lt-ltb}
 use lib.Dec.{eqb, ltb}
 use lib.ListN.{length}
+use Rattle.std.proofs.lemmas.Bool.{and_parts, or_parts}
 use Rattle.lists.specs.Lists.{All, filter, elem, range, foldl, concat_map, sort_by, distinct_by}
 use Rattle.lists.proofs.All.{all_sort, filter_test}
 use Rattle.lists.proofs.Filtered.{count_without}
 use Rattle.lists.proofs.Firsts.{filter_same}
 use Rattle.lists.proofs.Ranges.{times_once}
-use Rattle.lists.proofs.Unique.{Unique, or_false_l, or_false_r, eqb_flip, unique_distinct, all_distinct}
-use Rattle.lists.proofs.Bools.{and_both}
+use Rattle.lists.proofs.Unique.{Unique, eqb_flip, unique_distinct, all_distinct}
 use Rattle.slots.specs.Sizes.{Sizes}
 use Rattle.slots.specs.View.{live_slots, emptied}
 use Rattle.slots.specs.Ops.{Ops, Row, write_rows}
@@ -75,8 +75,8 @@ module _ {B : Type 0} (O : Ops B) (Fit : B → Type 0) (k : Marking O Fit) where
   still_live : (b : B) (h : Fit b) (s : ℕ) → s < (O.view b).sizes.capacity → (ss : List ℕ) → elem s ss ≡ false → All (λ t. (O.view b).live t ≡ true) ss → All (λ t. (O.view (O.kill b s)).live t ≡ true) ss
   still_live b h s i [] u a = tt
   still_live b h s i (t ∷ ss) u a =
-      let n : eqb t s ≡ false = eqb_flip s t (or_false_l (eqb s t) (elem s ss) u) in
-      (killed b h s i t ∙ rw (a.0, n), still_live b h s i ss (or_false_r (eqb s t) (elem s ss) u) a.1)
+      let n : eqb t s ≡ false = eqb_flip s t (or_parts (eqb s t) (elem s ss) u).0 in
+      (killed b h s i t ∙ rw (a.0, n), still_live b h s i ss (or_parts (eqb s t) (elem s ss) u).1 a.1)
 
   record Killed (b : B) (n : ℕ) (b' : B) : Type 0 where
     fits : Fit b'
@@ -93,7 +93,7 @@ module _ {B : Type 0} (O : Ops B) (Fit : B → Type 0) (k : Marking O Fit) where
         fits = r.fits;
         sizes = r.sizes ∙ m.sizes;
         count = omega (arith, kill_count b h s a.0, r.count);
-        fewer = λ t e. (and_both ((O.view b).live t) (not (eqb t s)) (sym (killed b h s (k.inside b h s a.0) t) ∙ r.fewer t e)).0;
+        fewer = λ t e. (and_parts ((O.view b).live t) (not (eqb t s)) (sym (killed b h s (k.inside b h s a.0) t) ∙ r.fewer t e)).0;
       }
 
   -- ---- the delete

@@ -8,9 +8,10 @@ use native.Mathlib.Omega.{arith}
 use borrow.Author.Tests.{eqb-true, eq-eqb}
 use lib.Dec.{eqb}
 use lib.ListN.{length, length-map, length-take, length-append}
+use Rattle.std.proofs.lemmas.Bool.{or_parts}
 use Rattle.lists.specs.Lists.{elem, filter, concat_map, sort_by, least_from, least_of}
 use Rattle.lists.proofs.Ordered.{length_insert}
-use Rattle.lists.proofs.Unique.{Unique, or_false_l, or_false_r}
+use Rattle.lists.proofs.Unique.{Unique}
 use Rattle.candidates.specs.Candidates.{Candidate, nearer}
 use Rattle.repair.specs.Repair.{swap_remove, links, span, repair_links}
 use Rattle.repair.proofs.Span.{one_less, others_fewer}
@@ -48,10 +49,10 @@ span_length d degree (suc f) con (r ∷ rs) h =
 -- only one of them is left out
 absent_kept : (a : ℕ) (l : List ℕ) → elem a l ≡ false → filter (λ x. not (eqb x a)) l ≡ l
 absent_kept a [] e = refl
-absent_kept a (x ∷ l) e = go (eqb x a) refl (absent_kept a l (or_false_r (eqb a x) (elem a l) e))
+absent_kept a (x ∷ l) e = go (eqb x a) refl (absent_kept a l (or_parts (eqb a x) (elem a l) e).1)
   where
     go : (b : Bool) → eqb x a ≡ b → filter (λ y. not (eqb y a)) l ≡ l → cond (not b) (x ∷ filter (λ y. not (eqb y a)) l) (filter (λ y. not (eqb y a)) l) ≡ x ∷ l
-    go true k r = absurd (true≢false (sym (eq-eqb a x (sym (eqb-true x a k))) ∙ or_false_l (eqb a x) (elem a l) e))
+    go true k r = absurd (true≢false (sym (eq-eqb a x (sym (eqb-true x a k))) ∙ (or_parts (eqb a x) (elem a l) e).0))
     go false k r = ap (λ (m : List ℕ). x ∷ m) r
 
 one_out : (s : ℕ) (l : List ℕ) → Unique l → length l ≤ suc (length (filter (λ x. not (eqb x s)) l))

@@ -3,15 +3,9 @@ use Rattle.std.proofs.Common.{◌≡◌, ℕ, suc, ◌+◌, ◌<◌, ◌≤◌, 
 use Rattle.std.specs.List.{count_by}
 use Rattle.std.proofs.lemmas.List.Sums.{sum_by-cons, sum_by-append, count_by-le-length}
 use Rattle.lists.specs.Lists.{filter, range}
-use Rattle.slots.specs.View.{live_slots}
-use Rattle.slots.specs.Store.{Store, Shaped, is_valid, store_view}
+use Rattle.slots.specs.Store.{is_valid}
 
--- what is counted is the number of live slots of the view
-pub count_live : (b : Store) → Shaped b.capacity b.arrays
-    → length (filter (is_valid b.arrays.marks) (range 0 (length b.arrays.marks))) ≡ length (live_slots (store_view b))
-unfolding store_view
-count_live b f = rw f.marks_long
-
+-- a mark of a live slot
 abbrev pub is_set : ℕ → Bool
 is_set mark = not (eqb mark 0)
 

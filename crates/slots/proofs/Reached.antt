@@ -1,17 +1,13 @@
 -- What holds of every index that calls have reached (`Reached`), kept by the operations of the plain index. Assumes nothing.
 use Rattle.std.proofs.Common.{◌≡◌, ℕ, ◌<◌, Bool, true, false, cond, not, ◌&&◌, ◌||◌, eqb, ltb, List, [], ◌∷◌, take, sym, refl, ap, ◌∙◌, true≢false, arith, ltb-true, lt-ltb, eqb-true}
 use lib.Seq.{take-nil}
+use Rattle.std.proofs.lemmas.Bool.{and_parts, or_left}
 use Rattle.lists.specs.Lists.{filter, foldl, elem, All}
-use Rattle.lists.proofs.Bools.{and_both}
 use Rattle.lists.proofs.All.{by_cases, all_map, all_both, all_take, all_filter, filter_test}
 use Rattle.slots.specs.View.{View, Reached}
 use Rattle.slots.specs.Ops.{Row, write_rows}
 use Rattle.slots.specs.Store.{blank}
 use Rattle.slots.specs.Plain.{other_than, plain_ops}
-
-or_here : (a b : Bool) → a ≡ true → (a || b) ≡ true
-or_here true b e = refl
-or_here false b e = absurd (true≢false (sym e))
 
 -- no element is live, and all are
 pub none_left : (live : ℕ → Bool) → ((t : ℕ) → live t ≡ false) → (l : List ℕ) → All (λ t. live t ≡ true) l → l ≡ []
@@ -23,7 +19,7 @@ none_left live dead (t ∷ ts) h = absurd (true≢false (sym h.0 ∙ dead t))
 module _ (v : View) (r : Reached v) (s : ℕ) (vector : List ℕ) where
   filled_inside : (t : ℕ) (b : Bool) → (ltb s v.sizes.capacity && eqb t s) ≡ b → cond b true (v.live t) ≡ true → t < v.sizes.capacity
   filled_inside t true e h =
-      let k = and_both (ltb s v.sizes.capacity) (eqb t s) e in
+      let k = and_parts (ltb s v.sizes.capacity) (eqb t s) e in
       omega (arith, ltb-true s v.sizes.capacity k.0, eqb-true t s k.1)
   filled_inside t false e h = r.live_inside t h
 
@@ -52,7 +48,7 @@ abbrev pub Bare : View → Type 0
 Bare v = (s : ℕ) → v.refs s ≡ []
 
 pub held_reached : (v : View) → Reached v → Held [] v
-held_reached v r s = all_map _ _ (λ t h. or_here (v.live t) false h) (v.refs s) (r.live_targets s)
+held_reached v r s = all_map _ _ (λ t h. or_left (v.live t) false h) (v.refs s) (r.live_targets s)
 
 pub none_gone : (v : View) → Held [] v → (s : ℕ) → All (λ t. v.live t ≡ true) (v.refs s)
 none_gone v h s = all_map _ _ (λ t e. go (v.live t) e) (v.refs s) (h s)
@@ -85,7 +81,7 @@ held_rows gone (row ∷ rows) v h held =
     held_rows gone rows (plain_ops.write v row.source row.targets) h.1
     (λ s. by_cases (All (λ t. (v.live t || elem t gone) ≡ true)) (ltb row.source v.sizes.capacity && eqb s row.source)
     (λ e. all_filter _ (other_than blank) (take v.sizes.degree row.targets) (all_take _ v.sizes.degree row.targets
-    (all_map _ _ (λ t l. or_here (v.live t) (elem t gone) l) row.targets h.0))) (λ e. held s))
+    (all_map _ _ (λ t l. or_left (v.live t) (elem t gone) l) row.targets h.0))) (λ e. held s))
 
 pub bare_rows : (rows : List Row) (v : View) → All (λ (row : Row). row.targets ≡ []) rows → Bare v → Bare (write_rows plain_ops v rows)
 unfolding plain_ops
@@ -113,7 +109,7 @@ reached_rows v rows r live bare =
 -- a live slot stays live, unless it is one of them
 kill_live : (v : View) (ss : List ℕ) (t : ℕ) → v.live t ≡ true → ((foldl plain_ops.kill v ss).live t || elem t ss) ≡ true
 unfolding plain_ops
-kill_live v [] t h = or_here (v.live t) false h
+kill_live v [] t h = or_left (v.live t) false h
 kill_live v (x ∷ xs) t h = go (ltb x v.sizes.capacity && eqb t x) refl (λ l. kill_live (plain_ops.kill v x) xs t l)
   where
     later : (a b c : Bool) → (a || c) ≡ true → (a || (b || c)) ≡ true
@@ -129,7 +125,7 @@ kill_live v (x ∷ xs) t h = go (ltb x v.sizes.capacity && eqb t x) refl (λ l. 
     go : (b : Bool) → (ltb x v.sizes.capacity && eqb t x) ≡ b
         → ((plain_ops.kill v x).live t ≡ true → ((foldl plain_ops.kill (plain_ops.kill v x) xs).live t || elem t xs) ≡ true)
         → ((foldl plain_ops.kill (plain_ops.kill v x) xs).live t || (eqb t x || elem t xs)) ≡ true
-    go true e rest = named ((foldl plain_ops.kill (plain_ops.kill v x) xs).live t) (eqb t x) (elem t xs) (and_both (ltb x v.sizes.capacity) (eqb t x) e).1
+    go true e rest = named ((foldl plain_ops.kill (plain_ops.kill v x) xs).live t) (eqb t x) (elem t xs) (and_parts (ltb x v.sizes.capacity) (eqb t x) e).1
     go false e rest = later ((foldl plain_ops.kill (plain_ops.kill v x) xs).live t) (eqb t x) (elem t xs) (rest (rw e h))
 
 -- what is live after was live before

@@ -2,9 +2,10 @@
 use Rattle.std.proofs.Common.{◌≡◌, ℕ, zero, suc, ◌+◌, ◌*◌, ◌<◌, ◌≤◌, Bool, true, false, cond, eqb, ◌≢◌, List, [], ◌∷◌, ◌++◌, map, length, get_or, take, set, replicate, sym, refl, ap, ◌∙◌, arith, get_or-take}
 use lib.ListN.{length-map, get_or-replicate}
 use lib.Seq.{take-nil}
+use Rattle.std.proofs.lemmas.List.{get_or-map}
 use Rattle.lists.specs.Lists.{filter, part, put_part}
 use Rattle.lists.proofs.Parts.{fits_in, length_put, part_put, put_again, put_both}
-use Rattle.lists.proofs.Pasting.{Pasting, pasting_none, pasting_more, pasted_part}
+use Rattle.lists.proofs.Pasting.{Pasting, pasting_more, pasted_part}
 use Rattle.slots.specs.Store.{Arrays, arrays, Shaped, blank, current, refs_of, padded, edge_version, write_neighbors}
 use Rattle.slots.specs.Plain.{other_than}
 use Rattle.slots.specs.Inner.Writing.{Wrote}
@@ -28,20 +29,11 @@ padded_from (x ∷ ids) n (suc p) h = padded_from ids n p (omega arith)
 padded_at : (d : ℕ) (ids : List ℕ) (p : ℕ) → p < d → get_or (padded d ids) p 0 ≡ get_or ids p blank
 padded_at d ids p h = get_or-take d (ids ++ replicate d blank) p 0 h ∙ padded_from ids d p h
 
-map_at : (f : ℕ → ℕ) (l : List ℕ) (p : ℕ) → p < length l → get_or (map f l) p 0 ≡ f (get_or l p 0)
-map_at f [] p h = absurd (omega arith)
-map_at f (x ∷ l) zero h = refl
-map_at f (x ∷ l) (suc p) h = map_at f l p (omega arith)
-
 -- the places before this one are written
 pub record Writing (d : ℕ) (targets edges versions : List ℕ) (s : ℕ) (ids : List ℕ) (place : ℕ) (targets' edges' : List ℕ) : Type 0 where
   pub below : place ≤ d
   pub row : Pasting targets (s * d) (padded d ids) place targets'
   pub row_edges : Pasting edges (s * d) (new_edges d versions ids) place edges'
-
-pub writing_none : (d : ℕ) (targets edges versions : List ℕ) (s : ℕ) (ids : List ℕ) → Writing d targets edges versions s ids 0 targets edges
-writing_none d targets edges versions s ids =
-    record { below = omega arith; row = pasting_none targets (s * d) (padded d ids); row_edges = pasting_none edges (s * d) (new_edges d versions ids) }
 
 pub writing_more : {d : ℕ} {targets edges versions : List ℕ} {s : ℕ} {ids : List ℕ} {place : ℕ} {targets' edges' : List ℕ} {id version : ℕ}
     → s * d + d ≤ length targets → s * d + d ≤ length edges → place < d → id ≡ get_or ids place blank → version ≡ edge_version versions id
@@ -54,7 +46,7 @@ writing_more {d} {versions = versions} {ids = ids} {place = place} {id = id} ft 
       below = omega arith;
       row = pasting_more (omega arith) k t w.row;
       row_edges = pasting_more (omega arith) (rw (length_new_edges d versions ids) h)
-          (v ∙ ap (edge_version versions) t ∙ sym (map_at (edge_version versions) (padded d ids) place k)) w.row_edges;
+          (v ∙ ap (edge_version versions) t ∙ sym (get_or-map (edge_version versions) (padded d ids) place 0 0 k)) w.row_edges;
     }
 
 pub writing_done : {d : ℕ} {targets edges versions : List ℕ} {s : ℕ} {ids : List ℕ} {place : ℕ} {targets' edges' : List ℕ}

@@ -9,6 +9,7 @@ use borrow.Author.Tests.{ltb-false}
 use lib.Dec.{ltb}
 use lib.Ieee.{Float}
 use lib.ListN.{length}
+use Rattle.std.proofs.lemmas.Bool.{or_parts}
 use Rattle.lists.specs.Lists.{filter, range}
 use Rattle.lists.proofs.Filter.{filter_length}
 use Rattle.lists.proofs.Ranges.{length_range}
@@ -30,7 +31,7 @@ use Rattle.calls.specs.Outputs.{room_of, written}
 use Rattle.calls.specs.State.{State, stored, shown, with_graph}
 use Rattle.calls.specs.Step.{slots_of, deletion, refusal, perform}
 use Rattle.calls.specs.Runs.{lent_of, slices_of, call_of, run_refusal}
-use Rattle.calls.proofs.Tests.{first_none, or_neither}
+use Rattle.calls.proofs.Tests.{first_none}
 use Rattle.index.specs.declared.Index.{Index}
 use Rattle.index.specs.Index.{guard_of, state_of, arrays_of}
 use Rattle.index.specs.Inner.Deciding.{Decided, Passed}
@@ -66,8 +67,8 @@ module _ {index : Index} {s : Slices} (able : Passed index s) (ids : List ℕ) (
   unfolding limits
   delete_able scratch over short =
       let m = passed_marks able in
-      let o = or_neither (ltb 256 beam || ltb 16 degree) (ltb 256 (length ids)) over in
-      let p = or_neither (ltb 256 beam) (ltb 16 degree) o.0 in
+      let o = or_parts (ltb 256 beam || ltb 16 degree) (ltb 256 (length ids)) over in
+      let p = or_parts (ltb 256 beam) (ltb 16 degree) o.0 in
       record {
         together = record { bytes = passed_bytes able; rows = passed_rows able; degree_most = able.degree_high };
         entry_in = rw m able.entry_inside;
@@ -153,14 +154,17 @@ module _ {index : Index} {s : Slices} (able : Passed index s) (ids : List ℕ) (
 
 -- ---- a delete of slots
 
--- of slices that are read as s₀
-module _ (index : Index) {s₀ s : Slices} (same : s₀ ≡ s) (ids : List ℕ) (beam degree room : ℕ) (scratch : List ℕ) {A : Type 0} {r : Result A Refusal}
-    (d₀ : Decided index s₀ (ltb room (length ids)) (delete_tests index (slot_delete ids beam degree) (length scratch)) r) where
+-- a delete of slots that was checked, with its slices read as s₀
+pub record DeleteChecked (index : Index) (s₀ s : Slices) (ids : List ℕ) (beam degree room : ℕ) (scratch : List ℕ) {A : Type 0} (r : Result A Refusal) : Type 0 where
+  pub read : s₀ ≡ s
+  pub decided : Decided index s₀ (ltb room (length ids)) (delete_tests index (slot_delete ids beam degree) (length scratch)) r
+
+module _ {index : Index} {s₀ s : Slices} {ids : List ℕ} {beam degree room : ℕ} {scratch : List ℕ} {A : Type 0} {r : Result A Refusal} (checked : DeleteChecked index s₀ s ids beam degree room scratch r) where
   abbrev Tests : Slices → ℕ → Type 0
   Tests s room = Decided index s (ltb room (length ids)) (delete_tests index (slot_delete ids beam degree) (length scratch)) r
 
   d : Tests s room
-  d = subst (λ (x : Slices). Tests x room) same d₀
+  d = subst (λ (x : Slices). Tests x room) checked.read checked.decided
 
   abbrev call : List Stats → Call
   call before = record { lent = lent_of s (stats_outputs before) scratch; operation = delete (slot_delete ids beam degree) }
@@ -176,17 +180,17 @@ module _ (index : Index) {s₀ s : Slices} (same : s₀ ≡ s) (ids : List ℕ) 
         stats = [];
         words = λ c e. cc;
         fits = λ c e. cc;
-        meets = λ before e. record { does = sym (step_back (state_of index s) (call before) (number_of x) (turned_back index s (with_list before e) n)); writes = refl; keeps = λ m e. refl };
+        meets = λ before e. record { does = sym (step_back (state_of index s) (call before) (number_of x) (turned_back (with_list before e) n)); writes = refl; keeps = λ m e. refl };
       }
 
   module _ {u : A} (z : r ≡ Ok u) where
     pub able : Passed index s
-    able = passed index s d z
+    able = passed d z
 
     own : (delete_over limits (slot_delete ids beam degree) ≡ false) × (ltb (length scratch) (size_answer index.capacity) ≡ false)
     own =
         let short = ltb (length scratch) (size_answer index.capacity) in
-        let e = first_none 7 (delete_over limits (slot_delete ids beam degree)) ((8, short) ∷ []) (own_none index s d z) in
+        let e = first_none 7 (delete_over limits (slot_delete ids beam degree)) ((8, short) ∷ []) (own_none d z) in
         (e.0, (first_none 8 short [] e.1).0)
 
     pub deletes_able : Deletable (arrays_of index s) index.entry beam degree ids scratch
@@ -195,7 +199,7 @@ module _ (index : Index) {s₀ s : Slices} (same : s₀ ≡ s) (ids : List ℕ) 
 
     not_refused : (before : List Stats) → length before ≡ room → (m : ℕ) → refusal stored (state_of index s) (call before) ≡ some m → ⊥
     unfolding refusal tests state_of stored store_ops store_view shown room_of
-    not_refused before e m h = let g = sym (let_through index s (with_list before e) z) ∙ h in let x : ◌≡◌ {A = ℕ} 0 1 = cc in omega arith
+    not_refused before e m h = let g = sym (let_through (with_list before e) z) ∙ h in let x : ◌≡◌ {A = ℕ} 0 1 = cc in omega arith
 
     module _ (s' : Slices) {scratch' : List ℕ} {entry' n : ℕ}
         (b : BatchDeleted (arrays_of index s) index.alpha index.entry beam degree ids (arrays_of index s') entry' n scratch')
@@ -211,9 +215,9 @@ module _ (index : Index) {s₀ s : Slices} (same : s₀ ≡ s) (ids : List ℕ) 
           record {
             stats = map (stats_of scratch' (stats_at index.capacity)) (range 0 n);
             words = λ k g. ap (λ (x : ℕ). map (stats_of scratch' (stats_at index.capacity)) (range 0 x)) (counted k g);
-            fits = λ k g. omega (arith, counted k g, b.few, ltb-false room (length ids) (not_wrong index s d z));
+            fits = λ k g. omega (arith, counted k g, b.few, ltb-false room (length ids) (not_wrong d z));
             meets = λ before l. record {
-              does = ap (λ (v : State Store × List Stats). (v.0, deleted v.1)) w ∙ sym (step_on (state_of index s) (call before) (let_through index s (with_list before l) z));
+              does = ap (λ (v : State Store × List Stats). (v.0, deleted v.1)) w ∙ sym (step_on (state_of index s) (call before) (let_through (with_list before l) z));
               writes = refl;
               keeps = λ m g. absurd (not_refused before l m g);
             };

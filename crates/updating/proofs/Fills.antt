@@ -9,6 +9,7 @@ use borrow.Author.Tests.{lt-ltb, le-ltb, ltb-false, eq-eqb, ne_eqb, eqb-true, no
 use lib.Dec.{eqb, ltb}
 use lib.ListN.{length, take, drop, length-map}
 use lib.Seq.{length-take-le, take-append-le, take-length}
+use Rattle.std.proofs.lemmas.Bool.{or_parts}
 use Rattle.lists.specs.Lists.{filter, range, elem, put_front}
 use Rattle.lists.proofs.Filtered.{count_both}
 use Rattle.lists.proofs.Ranges.{length_range}
@@ -31,7 +32,7 @@ use Rattle.calls.specs.Outputs.{Outputs, room_of, written}
 use Rattle.calls.specs.State.{State, stored, shown, with_graph}
 use Rattle.calls.specs.Step.{vectors_of, refusal, perform}
 use Rattle.calls.specs.Runs.{lent_of, slices_of, call_of, run_refusal}
-use Rattle.calls.proofs.Tests.{first_none, or_neither}
+use Rattle.calls.proofs.Tests.{first_none}
 use Rattle.calls.proofs.Count.{Insertable as InsertFinds, insert_finds}
 use Rattle.calls.proofs.Labelled.{inserting_now, filled_now}
 use Rattle.index.specs.declared.Index.{Index}
@@ -51,20 +52,25 @@ ok_is e = cc
 
 -- ---- rows 7 to 10, and 15
 
-module _ (index : Index) (s : Slices) (a : Insert) (slots scratch : ℕ) {n : ℕ} {wrong : Bool} {A : Type 0} {r : Result A Refusal}
-    (e : n ≡ length a.bytes / index.dim) (w : wrong ≡ (ltb slots n || not (eqb (length a.numbers) n))) (d : Decided index s wrong [] r) where
+-- an insert whose index was looked at
+pub record Asked (index : Index) (s : Slices) (a : Insert) (slots n : ℕ) (wrong : Bool) {A : Type 0} (r : Result A Refusal) : Type 0 where
+  pub count : n ≡ length a.bytes / index.dim
+  pub room : wrong ≡ (ltb slots n || not (eqb (length a.numbers) n))
+  pub decided : Decided index s wrong [] r
+
+module _ {index : Index} {s : Slices} {a : Insert} {slots : ℕ} (scratch : ℕ) {n : ℕ} {wrong : Bool} {A : Type 0} {r : Result A Refusal} (k : Asked index s a slots n wrong r) where
   abbrev Turns : Result A Refusal → Type 0
-  Turns k = Decided index s (insert_wrong index a slots) (insert_tests index s a scratch) k
+  Turns x = Decided index s (insert_wrong index a slots) (insert_tests index s a scratch) x
 
   right : Decided index s (insert_wrong index a slots) [] r
-  right = subst (λ (q : Bool). Decided index s q [] r) (w ∙ ap (λ (x : ℕ). ltb slots x || not (eqb (length a.numbers) x)) e) d
+  right = subst (λ (q : Bool). Decided index s q [] r) (k.room ∙ ap (λ (x : ℕ). ltb slots x || not (eqb (length a.numbers) x)) k.count) k.decided
 
   pub turns_before : {x : Refusal} → r ≡ Err x → Turns (Err x)
   turns_before z = decided_before right _ z
 
   module _ {u : A} (z : r ≡ Ok u) where
     holds : Passed index s
-    holds = passed index s d z
+    holds = passed k.decided z
 
     -- the live slots are counted, so the others are free
     free_is : index.live + length (filter (λ t. not (is_valid s.marks t)) (range 0 index.capacity)) ≡ index.capacity
@@ -87,14 +93,14 @@ module _ (index : Index) (s : Slices) (a : Insert) (slots scratch : ℕ) {n : �
         unfolding limits
         turns_left t =
             decided_after right _ _ z
-            (rw (le-ltb 1024 a.beam b, sym e₈ ∙ f₈, ne_eqb (length a.bytes) (length a.bytes / index.dim * index.dim) (λ x. t (x ∙ ap (λ m. m * index.dim) (sym e)))))
+            (rw (le-ltb 1024 a.beam b, sym e₈ ∙ f₈, ne_eqb (length a.bytes) (length a.bytes / index.dim * index.dim) (λ x. t (x ∙ ap (λ m. m * index.dim) (sym k.count)))))
 
         module _ (f₉ : length a.bytes ≡ n * index.dim) {q₁₀ : Bool} (e₁₀ : q₁₀ ≡ ltb (index.capacity - index.live) n) where
           whole_is : eqb (length a.bytes) (length a.bytes / index.dim * index.dim) ≡ true
-          whole_is = eq-eqb (length a.bytes) (length a.bytes / index.dim * index.dim) (f₉ ∙ ap (λ m. m * index.dim) e)
+          whole_is = eq-eqb (length a.bytes) (length a.bytes / index.dim * index.dim) (f₉ ∙ ap (λ m. m * index.dim) k.count)
 
           few : q₁₀ ≡ ltb (length (filter (λ t. not (is_valid s.marks t)) (range 0 index.capacity))) (length a.bytes / index.dim)
-          few = e₁₀ ∙ ap₂ ltb (omega (arith, free_is)) e
+          few = e₁₀ ∙ ap₂ ltb (omega (arith, free_is)) k.count
 
           pub turns_few : q₁₀ ≡ true → Turns (Err Refused.Full)
           unfolding limits
@@ -109,7 +115,7 @@ module _ (index : Index) (s : Slices) (a : Insert) (slots scratch : ℕ) {n : �
                 arith,
                 ltb-false (index.capacity - index.live) n (sym e₁₀ ∙ f₁₀),
                 holds.capacity_high,
-                eqb-true (length a.numbers) n (not-false (eqb (length a.numbers) n) (or_neither (ltb slots n) (not (eqb (length a.numbers) n)) (sym w ∙ not_wrong index s d z)).1),
+                eqb-true (length a.numbers) n (not-false (eqb (length a.numbers) n) (or_parts (ltb slots n) (not (eqb (length a.numbers) n)) (sym k.room ∙ not_wrong k.decided z)).1),
               ),
             )
 
@@ -132,11 +138,14 @@ module _ {numbers summary : List ℕ} {live : ℕ} {slots given : List ℕ} (k :
 
 -- ---- an insert
 
--- of slices that are read as s₀
-module _ (index : Index) {s₀ s : Slices} (same : s₀ ≡ s) (a : Insert) (slots scratch : List ℕ) {A : Type 0} {r : Result A Refusal}
-    (d₀ : Decided index s₀ (insert_wrong index a (length slots)) (insert_tests index s₀ a (length scratch)) r) where
+-- an insert that was checked, with its slices read as s₀
+pub record InsertChecked (index : Index) (s₀ s : Slices) (a : Insert) (slots scratch : List ℕ) {A : Type 0} (r : Result A Refusal) : Type 0 where
+  pub read : s₀ ≡ s
+  pub decided : Decided index s₀ (insert_wrong index a (length slots)) (insert_tests index s₀ a (length scratch)) r
+
+module _ {index : Index} {s₀ s : Slices} {a : Insert} {slots scratch : List ℕ} {A : Type 0} {r : Result A Refusal} (checked : InsertChecked index s₀ s a slots scratch r) where
   d : Decided index s (insert_wrong index a (length slots)) (insert_tests index s a (length scratch)) r
-  d = subst (λ (x : Slices). Decided index x (insert_wrong index a (length slots)) (insert_tests index x a (length scratch)) r) same d₀
+  d = subst (λ (x : Slices). Decided index x (insert_wrong index a (length slots)) (insert_tests index x a (length scratch)) r) checked.read checked.decided
 
   abbrev call : Call
   call = record { lent = lent_of s (insert_outputs slots) scratch; operation = insert a }
@@ -162,24 +171,24 @@ module _ (index : Index) {s₀ s : Slices} (same : s₀ ≡ s) (a : Insert) (slo
       record {
         filled = [];
         counts = λ c h. cc;
-        meets = record { does = sym (step_back (state_of index s) call (number_of x) (turned_back index s d n)); writes = refl; keeps = λ m e. refl };
+        meets = record { does = sym (step_back (state_of index s) call (number_of x) (turned_back d n)); writes = refl; keeps = λ m e. refl };
       }
 
   module _ {u : A} (z : r ≡ Ok u) where
     abbrev able : Passed index s
-    able = passed index s d z
+    able = passed d z
 
     -- none of the call's tests holds
     let_on : first_of (tests limits call.lent (shown stored (state_of index s)) (insert a)) ≡ none
     unfolding tests state_of stored store_ops store_view shown room_of
-    let_on = let_through index s d z
+    let_on = let_through d z
 
     pub finds : InsertFinds call.lent (shown stored (state_of index s)) a
     finds = insert_finds call.lent (shown stored (state_of index s)) a let_on
 
     own : (over ≡ false) × (small ≡ false)
     own =
-        let e = first_none 7 over ((8, small) ∷ (9, odd) ∷ (10, full) ∷ (15, taken s.numbers a.numbers) ∷ []) (own_none index s d z) in
+        let e = first_none 7 over ((8, small) ∷ (9, odd) ∷ (10, full) ∷ (15, taken s.numbers a.numbers) ∷ []) (own_none d z) in
         (e.0, (first_none 8 small ((9, odd) ∷ (10, full) ∷ (15, taken s.numbers a.numbers) ∷ []) e.1).0)
 
     beam_most : a.beam ≤ 1024
@@ -200,7 +209,7 @@ module _ (index : Index) {s₀ s : Slices} (same : s₀ ≡ s) (a : Insert) (slo
           dim_least = p.dim_low;
           entry_in = rw m p.entry_inside;
           beam_most = beam_most;
-          room_in = ltb-false (length slots) count (or_neither (ltb (length slots) count) (not (eqb (length a.numbers) count)) (not_wrong index s d z)).0;
+          room_in = ltb-false (length slots) count (or_parts (ltb (length slots) count) (not (eqb (length a.numbers) count)) (not_wrong d z)).0;
           free_in = rw m enough_free;
           enough = rw m (omega (arith, insert_enough index.capacity index.degree p.degree_high, ltb-false (length scratch) (size_answer index.capacity) own.1));
         }

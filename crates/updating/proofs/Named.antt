@@ -10,6 +10,7 @@ use denote.Enum.Bare.{sameb}
 use lib.Dec.{ltb}
 use lib.ListN.{length, take, drop, length-map}
 use lib.Seq.{take-append_seam}
+use Rattle.std.proofs.lemmas.Bool.{or_parts}
 use Rattle.lists.specs.Lists.{put_front}
 use Rattle.slots.specs.Sizes.{Slices, lengths_of, limits}
 use Rattle.slots.specs.Store.{Store}
@@ -20,7 +21,7 @@ use Rattle.calls.specs.Refusals.{Test, first_of, delete_over, scratch_short, ind
 use Rattle.calls.specs.State.{State, stored, shown}
 use Rattle.calls.specs.Step.{slots_of, named, refusal}
 use Rattle.calls.specs.Runs.{slices_of, call_of, run_refusal}
-use Rattle.calls.proofs.Tests.{first_none, or_neither, index_finds}
+use Rattle.calls.proofs.Tests.{first_none, index_finds}
 use Rattle.calls.proofs.Labelled.{same_refusal, same_delete}
 use Rattle.index.specs.declared.Index.{Index}
 use Rattle.index.specs.Index.{state_of}
@@ -73,14 +74,14 @@ module _ (naming : Naming) (index : Index) (s : Slices) (names : List ℕ) (beam
       where
         go : (q : Result A Refusal) → Decided index s false [] q → false ≡ is_ok q → Passes → names ≡ named on asked
         go (Ok u) k e n = cc
-        go (Err x) k e n = let z = sym (turned_back index s k refl) ∙ n in cc
+        go (Err x) k e n = let z = sym (turned_back k refl) ∙ n in cc
 
     -- the numbers of one that is not can be looked up
     pub by_slots_listed : true ≡ is_ok r → Listed s.numbers s.summary index.live
     by_slots_listed f = go r d f
       where
         go : (q : Result A Refusal) → Decided index s false [] q → true ≡ is_ok q → Listed s.numbers s.summary index.live
-        go (Ok u) k e = passed_listed (passed index s k refl)
+        go (Ok u) k e = passed_listed (passed k refl)
         go (Err x) k e = cc
 
   -- by those that carry the numbers
@@ -104,7 +105,7 @@ module _ {index : Index} {s : Slices} {a b : Delete} (k : BySlots index s a b) w
       → named (state_of index s) b ≡ named (state_of index s) a
   unfolding slots_of
   same_named over n =
-      let few = (or_neither (ltb limits.repair_beam a.repair_beam || ltb limits.repair_degree a.repair_degree) (ltb limits.ids (length a.names)) over).1 in
+      let few = (or_parts (ltb limits.repair_beam a.repair_beam || ltb limits.repair_degree a.repair_degree) (ltb limits.ids (length a.names)) over).1 in
       ap (named (state_of index s)) k.rest ∙ k.names n (ltb-false limits.ids (length a.names) few)
 
   -- the delete that its names, beam and degree make

@@ -9,6 +9,7 @@ use native.Mathlib.Omega.{arith}
 use lib.ListN.{length, take}
 use lib.Dec.{eqb, ltb}
 use borrow.Author.Tests.{eqb-true, eq-eqb, ltb-true, ltb-false, le-leb}
+use Rattle.lists.proofs.Members.{or_swap}
 use Rattle.lists.specs.Lists.{All, Ordered, filter, elem, foldl, insert_by, init, last, sort_by}
 use Rattle.lists.proofs.All.{by_cases, all_map, all_init, all_insert}
 use Rattle.lists.proofs.Ordered.{length_insert, length_init}
@@ -29,12 +30,6 @@ by_list = record {
   joins = amended.joins;
   stays = amended.stays;
 }
-
-or_swap : (a b c : Bool) → (a || (b || c)) ≡ (b || (a || c))
-or_swap true true c = refl
-or_swap true false c = refl
-or_swap false true c = refl
-or_swap false false c = refl
 
 all_elem : (P : ℕ → Type 0) (t : ℕ) (xs : List ℕ) → All P xs → elem t xs ≡ true → P t
 all_elem P t [] h e = absurd (true≢false (sym e))

@@ -9,6 +9,7 @@ use lib.Dec.{eqb, ltb}
 use lib.ListN.{length, take, get_or, set}
 use lib.Seq.{take-suc-set}
 use native.Mathlib.Numerals.{add-one}
+use Rattle.std.proofs.lemmas.Option.{none-some}
 use Rattle.lists.specs.Lists.{All, Pairwise}
 use Rattle.lists.proofs.All.{all_map, all_both, all_append}
 use Rattle.lists.proofs.Ranges.{foldl_append}
@@ -29,9 +30,6 @@ use Rattle.walk.proofs.Seen.{dist_small, near_from}
 use Rattle.walk.proofs.Walking.{marked_list, marked_goes, entered_goes}
 
 -- ---- what the tests of the code say
-dead_live : {t : ℕ} → None ≡ Some t → ⊥
-dead_live e = let z : ◌≡◌ {A = ℕ} 0 1 = cc in omega arith
-
 unmet_true : (capacity : ℕ) (w : List ℕ) (s : ℕ) → unmet capacity w s ≡ true → mark w s ≡ 0
 unmet_true capacity w s = go (ltb s capacity)
   where
@@ -44,13 +42,13 @@ module _ (a : Arrays) (s place : ℕ) (w : List ℕ) {x : ℕ} (p : (t : ℕ) �
   unmet_live {r} y e =
       record {
         found = λ t q. (sym q ∙ e, rw (← (p t (sym q ∙ e))) at (unmet_true (length a.marks) w x (sym y)));
-        none = λ q t k _. dead_live (sym q ∙ e ∙ sym k);
+        none = λ q t k _. none-some t (sym q ∙ e ∙ sym k);
       }
 
   pub unmet_dead : false ≡ unmet (length a.marks) w x → UnmetAt a s place w None
   unmet_dead y =
       record {
-        found = λ t q. absurd (dead_live q);
+        found = λ t q. absurd (none-some t q);
         none = λ _ t k m.
             let q : x ≡ t = sym (p t k) in
             true≢false (sym (rw (q, lt-ltb t (length a.marks) (ref_inside a s place k refl), m) at y));
@@ -66,16 +64,6 @@ pairwise_push R [] y h k = (tt, tt)
 pairwise_push R (x ∷ xs) y h k = (all_append (R x) xs (y ∷ []) h.0 (k.0, tt), pairwise_push R xs y h.1 k.1)
 
 -- ---- the first pass
-pub gathered_none : (a : Arrays) (query : List ℕ) {beam : ℕ} {w : List ℕ} {n next : ℕ} (ts : List ℕ) → Walkable (length a.marks) beam w n next
-    → Gathered a query beam w n next ts ts w []
-gathered_none a query {w = w} ts f =
-    record {
-      holds = refl;
-      goes = f;
-      fresh = record { inside = tt; met = tt; apart = tt; once = tt };
-      same = outside_none 0 (work_at (length a.marks)) w;
-    }
-
 module _ {a : Arrays} {query : List ℕ} {beam : ℕ} {w₀ : List ℕ} {n next : ℕ} {ts₀ ts w xs : List ℕ} (g : Gathered a query beam w₀ n next ts₀ ts w xs) where
   abbrev capacity : ℕ
   capacity = length a.marks

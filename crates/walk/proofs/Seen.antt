@@ -6,7 +6,7 @@ use mathlib.Core.List.{List, [], ◌∷◌}
 use native.Mathlib.Omega.{arith}
 use lib.ListN.{length}
 use Rattle.lists.specs.Lists.{All, filter, elem, sorted_set}
-use Rattle.lists.proofs.All.{all_map, all_filter, filter_test}
+use Rattle.lists.proofs.All.{all_map, filter_test}
 use Rattle.lists.proofs.Filter.{filter_every}
 use Rattle.lists.proofs.Members.{elem_sorted}
 use Rattle.slots.specs.View.{live_neighbors}
@@ -61,11 +61,3 @@ near_live a ids (t ∷ ts) h = rw (elem_sorted (is_valid a.marks) t h.0 ids, nea
 pub near_but_live : (a : Arrays) (ids : List ℕ) (s : ℕ) → near_but ids a s ≡ near_but (sorted_set (filter (is_valid a.marks) ids)) a s
 unfolding near_but
 near_but_live a ids s = near_live a ids (near_of a s) (near_valid a s)
-
-pub near_but_valid : (a : Arrays) (ids : List ℕ) (s : ℕ) → All (λ t. is_valid a.marks t ≡ true) (near_but ids a s)
-unfolding near_but
-near_but_valid a ids s = all_filter _ (λ t. not (elem t ids)) (near_of a s) (near_valid a s)
-
-pub near_but_inside : (a : Arrays) (ids : List ℕ) (s : ℕ) → All (λ t. t < length a.marks) (near_but ids a s)
-unfolding near_but
-near_but_inside a ids s = all_filter _ (λ t. not (elem t ids)) (near_of a s) (near_inside a s)

@@ -9,6 +9,7 @@ use borrow.Author.Tests.{ltb-false}
 use lib.Dec.{T, eqb, ltb}
 use lib.Ieee.{is_nan}
 use lib.ListN.{length, length-map}
+use Rattle.std.proofs.lemmas.Bool.{or_parts}
 use Rattle.lists.specs.Lists.{filter, range, distinct_by, put_front}
 use Rattle.lists.proofs.Filter.{filter_length}
 use Rattle.lists.proofs.Alike.{self, sorted_many}
@@ -30,7 +31,7 @@ use Rattle.calls.specs.Refusals.{first_of, tests}
 use Rattle.calls.specs.State.{State, stored, shown, with_graph}
 use Rattle.calls.specs.Step.{named, deletion, perform}
 use Rattle.calls.specs.Runs.{lent_of, slices_of, call_of}
-use Rattle.calls.proofs.Tests.{passed_lengths, first_none, or_neither, index_finds}
+use Rattle.calls.proofs.Tests.{passed_lengths, first_none, index_finds}
 use Rattle.calls.proofs.Labelled.{named_many}
 use Rattle.index.specs.declared.Index.{Index}
 use Rattle.index.specs.declared.Refusal.{Refusal}
@@ -116,7 +117,7 @@ module _ {index : Index} {s : Slices} {a : Delete} {room : ℕ} {scratch : List 
               stats_many a.repair_beam a.repair_degree g ids,
               emptied_few (store_view g) ids,
               named_many s.numbers a.naming a.names,
-              ltb-false 256 (length a.names) (or_neither over many o₇.0).1,
+              ltb-false 256 (length a.names) (or_parts over many o₇.0).1,
               ltb-false (length scratch) (size_answer index.capacity) (first_none 8 short [] o₇.1).0,
             );
           }

@@ -12,8 +12,8 @@ use Rattle.std.specs.Prelude.{Result, Ok, Err, MatchResult, IsOkAnd}
 use Rattle.std.specs.Int.{from_bool}
 use Rattle.slots.specs.Sizes.{Slices, limits, alpha_ok}
 use Rattle.slots.specs.Store.{Store, is_valid, vector_of, store_view, store_ops}
-use Rattle.calls.specs.Calls.{Making, Search, read, read_vector, Call, Answer, refused, created, number, alpha, version, vector, found, inserted, deleted, standing, assessed, applied, deferred, refused_as}
-use Rattle.calls.specs.Outputs.{Outputs, no_outputs}
+use Rattle.calls.specs.Calls.{Making, read, read_vector, Call, Answer, refused, created, number, alpha, version, vector, found, inserted, deleted, standing, assessed, applied, deferred, refused_as}
+use Rattle.calls.specs.Outputs.{no_outputs}
 use Rattle.calls.specs.Refusals.{first_of, tests}
 use Rattle.calls.specs.State.{State, stored, view_of, shown, made}
 use Rattle.calls.specs.Step.{reading, perform}
@@ -29,10 +29,9 @@ use Rattle.reading.specs.declared.Reading.TheVariants.{Dim, Capacity, Degree, Al
 use Rattle.reading.specs.declared.Value.{Value}
 use Rattle.reading.specs.declared.Value.TheVariants.{Number, Alpha as Factor, Version as Stamp}
 use Rattle.reading.specs.Read.{reading_of, answer_of, Reads, ReadsVector}
-use Rattle.reading.specs.Search.{Searches}
 use Rattle.words.specs.IndexWords.{index_of, words_of}
 use Rattle.words.specs.GuardWords.{flag}
-use Rattle.words.specs.Given.{map_ok, put, CreatesWords, value_in, ReadsNumber, ReadsAlpha, ReadsLength, SearchesWords}
+use Rattle.words.specs.Given.{map_ok, put, CreatesWords, value_in, ReadsNumber, ReadsAlpha, ReadsLength}
 use Rattle.words.specs.Inner.Putting.{gives_number, number_in, alpha_in}
 use Rattle.words.proofs.Held.{alpha_right, words_hold}
 
@@ -217,10 +216,3 @@ module _ {words : List ℕ} {s : Slices} {slot : ℕ} {p : List ℕ} where
           let v = cond (is_valid s.marks slot) (take (index_of words).dim l) [] in
           let a : vector p ≡ vector v = ap (λ x. x.1) (r.meets.does ∙ step_on on asked e) in
           part_some (index_of words).dim l (is_valid s.marks slot) (let y : p ≡ v = cc in y)
-
--- ---- search
-
-pub searches_words : {words : List ℕ} {s : Slices} {a : Search} {outputs : Outputs} {scratch : List ℕ} {outputs' : Outputs} {scratch' : List ℕ} {before after status : ℕ} {i : Index} {r : Result ℕ Refusal}
-    → i ≡ index_of words → Searches i s a outputs scratch outputs' scratch' r → (status, after) ≡ put r before → SearchesWords words s a outputs scratch outputs' scratch' before after status
-searches_words {s = s} {a} {outputs} {scratch} {outputs'} {scratch'} {r = r} e c p =
-    record { answer = r; does = subst (λ i. Searches i s a outputs scratch outputs' scratch' r) e c; told = p }

@@ -1,19 +1,11 @@
-use native.Mathlib.Omega.{arith}
 use Rattle.vectors.specs.Distance.{f32}
 use Rattle.candidates.specs.Quotient.{largest}
-use Rattle.candidates.proofs.Floats.{whole_in_float}
 use Rattle.candidates.proofs.Exact.{quotient_zero, quotient_other}
 use Rattle.candidates.proofs.candidate.quotient.Goals as goal
 
 pub returns-then-pair-eq0 : goal.returns-then-pair-eq0
 unfolding largest
 returns-then-pair-eq0 c = quotient_zero _ _ c.if-pair-eq0.true
-
-pub int_to_float-result : goal.int_to_float-result
-int_to_float-result c = whole_in_float _ (omega arith)
-
-pub int_to_float-result-2 : goal.int_to_float-result-2
-int_to_float-result-2 c = whole_in_float _ (omega arith)
 
 pub returns : goal.returns
 unfolding f32

@@ -1,12 +1,11 @@
-use Rattle.std.proofs.lemmas.Result.{err_from_is_err_and}
+use Rattle.index.proofs.Decide.{handed_on}
 use Rattle.guard.specs.Lent.{config_of}
 use Rattle.guarding.proofs.Enables.{turns_before, turns_over, turns_short, turns_empty, turns_one, turns_none}
 use Rattle.guarding.proofs.enabling.check_enable.Goals as goal
 
 pub returns-in_err-check_index : goal.returns-in_err-check_index
 returns-in_err-check_index c =
-    let p = err_from_is_err_and c.from_residual.result c.from_residual.ensures.1 in
-    rw (p.1, p.2) (turns_before (config_of c.args.config) c.args.scratch c.check_index.ensures c.in_err-check_index.was)
+    rw (handed_on c.from_residual.result c.from_residual.ensures.1) (turns_before (config_of c.args.config) c.args.scratch c.check_index.ensures c.in_err-check_index.was)
 
 pub returns-then-config_over : goal.returns-then-config_over
 returns-then-config_over c = turns_over (config_of c.args.config) c.args.scratch c.check_index.ensures c.in_ok-check_index.was c.config_over.ensures c.if-config_over.true

@@ -1,4 +1,4 @@
-use Rattle.std.proofs.lemmas.Result.{err_from_is_err_and}
+use Rattle.index.proofs.Decide.{handed_on}
 use Rattle.index.proofs.Makes.{judged_before, judged_given, judged_fits, judged_rest}
 use Rattle.index.specs.Index.{lengths_in}
 use Rattle.index.specs.Create.{making_of}
@@ -6,8 +6,7 @@ use Rattle.index.proofs.making.check_making.Goals as goal
 
 pub returns-in_err-check_sizes : goal.returns-in_err-check_sizes
 returns-in_err-check_sizes c =
-    let p = err_from_is_err_and c.from_residual.result c.from_residual.ensures.1 in
-    rw (p.1, p.2) (judged_before (making_of c.args.given.now) (lengths_in c.args.lent) c.check_sizes.ensures c.in_err-check_sizes.was)
+    rw (handed_on c.from_residual.result c.from_residual.ensures.1) (judged_before (making_of c.args.given.now) (lengths_in c.args.lent) c.check_sizes.ensures c.in_err-check_sizes.was)
 
 pub returns-then-given_bad : goal.returns-then-given_bad
 returns-then-given_bad c = judged_given (making_of c.args.given.now) (lengths_in c.args.lent) c.check_sizes.ensures c.in_ok-check_sizes.was c.given_bad.ensures c.if-given_bad.true

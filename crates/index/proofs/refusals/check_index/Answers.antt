@@ -1,12 +1,10 @@
-use Rattle.std.proofs.lemmas.Result.{err_from_is_err_and}
-use Rattle.index.proofs.Decide.{index_refused, decided_wrong, decided_index, decided_none, lent_alike}
+use Rattle.index.proofs.Decide.{index_refused, decided_wrong, decided_index, decided_none, lent_alike, handed_on}
 use Rattle.index.specs.Lent.{slices_of}
 use Rattle.index.proofs.refusals.check_index.Goals as goal
 
 pub returns-in_err-check_sizes : goal.returns-in_err-check_sizes
 returns-in_err-check_sizes c =
-    let p = err_from_is_err_and c.from_residual.result c.from_residual.ensures.1 in
-    rw (p.1, p.2) (index_refused c.args.index (slices_of c.args.slices.now) c.check_sizes.ensures c.lengths.ensures c.in_err-check_sizes.was)
+    rw (handed_on c.from_residual.result c.from_residual.ensures.1) (index_refused c.args.index (slices_of c.args.slices.now) c.check_sizes.ensures c.lengths.ensures c.in_err-check_sizes.was)
 
 pub returns-then-wrong : goal.returns-then-wrong
 returns-then-wrong c = decided_wrong c.args.index (slices_of c.args.slices.now) c.check_sizes.ensures c.lengths.ensures c.in_ok-check_sizes.was c.if-wrong.true

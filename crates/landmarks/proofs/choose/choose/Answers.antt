@@ -1,14 +1,8 @@
-use Rattle.landmarks.proofs.Choosing.{farthest_inside, choosing_none, choosing_more, choosing_empty, choosing_done}
+use Rattle.landmarks.proofs.Choosing.{farthest_inside, choosing_more, choosing_empty, choosing_done}
 use Rattle.landmarks.proofs.choose.choose.Goals as goal
-
-pub loop-k-init : goal.loop-k-init
-loop-k-init c = choosing_none _ _ _ c.requires.0
 
 pub returns-then-m-eq0 : goal.returns-then-m-eq0
 returns-then-m-eq0 c = choosing_empty c.loop-k.invariant c.if-m-eq0.true
-
-pub farthest_id-next-requires : goal.farthest_id-next-requires
-farthest_id-next-requires c = c.loop-k.invariant.listed.room
 
 pub draw_near-m-requires : goal.draw_near-m-requires
 draw_near-m-requires c = (c.loop-k.invariant.listed, farthest_inside c.loop-k.invariant.listed c.if-m-eq0.false c.farthest_id-next.ensures)

@@ -1,10 +1,7 @@
 use native.Mathlib.Omega.{arith}
-use Rattle.landmarks.proofs.Choosing.{comparing_none, comparing_farther, comparing_nearer, comparing_done}
+use Rattle.landmarks.proofs.Choosing.{comparing_farther, comparing_nearer, comparing_done}
 use Rattle.landmarks.proofs.choose.farthest_id.Goals as goal
 use Rattle.landmarks.proofs.choose.farthest_id.Goals.{then-best-dist, else-best-dist}
-
-pub loop-i-init : goal.loop-i-init
-loop-i-init c = comparing_none _ _
 
 pub loop-i-preserved : goal.loop-i-preserved
 loop-i-preserved c =

@@ -1,17 +1,15 @@
-use Rattle.std.proofs.lemmas.Result.{err_from_is_err_and}
-use Rattle.index.specs.Lent.{slices_of}
-use Rattle.index.proofs.Decide.{passed, passed_bytes, passed_rows}
+use Rattle.index.proofs.Decide.{passed, passed_bytes, passed_rows, handed_on}
 use Rattle.reading.proofs.Shown.{reads_back, reads_on}
 use Rattle.reading.proofs.readings.read.Goals as goal
 
 pub returns-in_err-check_index : goal.returns-in_err-check_index
-returns-in_err-check_index c = let p = err_from_is_err_and c.from_residual.result c.from_residual.ensures.1 in rw (p.1, p.2) (reads_back c.check_index.ensures c.in_err-check_index.was)
+returns-in_err-check_index c = rw (handed_on c.from_residual.result c.from_residual.ensures.1) (reads_back c.check_index.ensures c.in_err-check_index.was)
 
 pub answer-requires-clause-bytes : goal.answer-requires-clause-bytes
-answer-requires-clause-bytes c = passed_bytes (passed c.args.index (slices_of c.args.slices.now) c.check_index.ensures c.in_ok-check_index.was)
+answer-requires-clause-bytes c = passed_bytes (passed c.check_index.ensures c.in_ok-check_index.was)
 
 pub answer-requires-clause-shape : goal.answer-requires-clause-shape
-answer-requires-clause-shape c = passed_rows (passed c.args.index (slices_of c.args.slices.now) c.check_index.ensures c.in_ok-check_index.was)
+answer-requires-clause-shape c = passed_rows (passed c.check_index.ensures c.in_ok-check_index.was)
 
 pub returns : goal.returns
 returns c = reads_on c.check_index.ensures c.in_ok-check_index.was c.answer.ensures

@@ -1,20 +1,18 @@
-use Rattle.std.proofs.lemmas.Result.{err_from_is_err_and}
 use mathlib.Core.Path.{refl}
 use Rattle.index.specs.Lent.{slices_of}
-use Rattle.index.proofs.Decide.{passed, passed_bytes, passed_rows}
+use Rattle.index.proofs.Decide.{passed, passed_bytes, passed_rows, handed_on}
 use Rattle.reading.proofs.Finds.{searches_back, search_ready, search_fits, search_named, search_first, search_copies, searches_on}
 use Rattle.reading.proofs.searching.search.Goals as goal
 
 pub returns-in_err-check_search : goal.returns-in_err-check_search
 returns-in_err-check_search c =
-    let p = err_from_is_err_and c.from_residual.result c.from_residual.ensures.1 in
-    rw (p.1, p.2) (searches_back c.args.asked.now c.args.found.now c.args.scratch.now c.check_search.ensures c.in_err-check_search.was, record { slots = refl; dists = refl; numbers = refl })
+    rw (handed_on c.from_residual.result c.from_residual.ensures.1) (searches_back c.args.asked.now c.args.found.now c.args.scratch.now c.check_search.ensures c.in_err-check_search.was, record { slots = refl; dists = refl; numbers = refl })
 
 pub graph-graph-requires-clause-bytes : goal.graph-graph-requires-clause-bytes
-graph-graph-requires-clause-bytes c = passed_bytes (passed c.args.index (slices_of c.args.slices.now) c.check_search.ensures c.in_ok-check_search.was)
+graph-graph-requires-clause-bytes c = passed_bytes (passed c.check_search.ensures c.in_ok-check_search.was)
 
 pub graph-graph-requires-clause-shape : goal.graph-graph-requires-clause-shape
-graph-graph-requires-clause-shape c = passed_rows (passed c.args.index (slices_of c.args.slices.now) c.check_search.ensures c.in_ok-check_search.was)
+graph-graph-requires-clause-shape c = passed_rows (passed c.check_search.ensures c.in_ok-check_search.was)
 
 pub search_pool-pool-requires : goal.search_pool-pool-requires
 search_pool-pool-requires c = search_ready c.args.asked.now c.args.found.now c.args.scratch.now c.check_search.ensures c.in_ok-check_search.was c.graph-graph.ensures

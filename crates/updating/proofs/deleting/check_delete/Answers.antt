@@ -1,9 +1,8 @@
-use Rattle.std.proofs.lemmas.Result.{err_from_is_err_and}
-use Rattle.index.proofs.Decide.{decided_before, decided_after}
+use Rattle.index.proofs.Decide.{decided_before, decided_after, handed_on}
 use Rattle.updating.proofs.deleting.check_delete.Goals as goal
 
 pub returns-in_err-check_index : goal.returns-in_err-check_index
-returns-in_err-check_index c = let p = err_from_is_err_and c.from_residual.result c.from_residual.ensures.1 in rw (p.1, p.2) (decided_before c.check_index.ensures _ c.in_err-check_index.was)
+returns-in_err-check_index c = rw (handed_on c.from_residual.result c.from_residual.ensures.1) (decided_before c.check_index.ensures _ c.in_err-check_index.was)
 
 pub returns-then-delete_over : goal.returns-then-delete_over
 returns-then-delete_over c = decided_after c.check_index.ensures _ _ c.in_ok-check_index.was (rw (← c.if-delete_over.ensures))

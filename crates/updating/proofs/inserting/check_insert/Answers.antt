@@ -1,31 +1,36 @@
-use Rattle.std.proofs.lemmas.Result.{err_from_is_err_and}
+use Rattle.index.specs.Lent.{slices_of}
+use Rattle.index.proofs.Decide.{handed_on}
 use Rattle.updating.specs.Insert.{inserting_of}
-use Rattle.updating.proofs.Fills.{turns_before, turns_live, turns_listed, turns_over, turns_short, turns_left, turns_few, turns_taken, turns_none}
+use Rattle.updating.proofs.Fills.{Asked, turns_before, turns_live, turns_listed, turns_over, turns_short, turns_left, turns_few, turns_taken, turns_none}
+use Rattle.updating.proofs.inserting.check_insert.Goals.{After-check_index}
 use Rattle.updating.proofs.inserting.check_insert.Goals as goal
 
+asked : (c : After-check_index) → Asked c.args.index (slices_of c.args.slices.now) (inserting_of c.args.asked.now) c.args.slots c.whole-n.result c.room_or_numbers_wrong-wrong.result c.check_index.result
+asked c = record { count = c.whole-n.ensures; room = c.room_or_numbers_wrong-wrong.ensures; decided = c.check_index.ensures }
+
 pub returns-in_err-check_index : goal.returns-in_err-check_index
-returns-in_err-check_index c = let p = err_from_is_err_and c.from_residual.result c.from_residual.ensures.1 in rw (p.1, p.2) (turns_before _ _ (inserting_of c.args.asked.now) c.args.slots c.args.scratch c.whole-n.ensures c.room_or_numbers_wrong-wrong.ensures c.check_index.ensures c.in_err-check_index.was)
+returns-in_err-check_index c = rw (handed_on c.from_residual.result c.from_residual.ensures.1) (turns_before c.args.scratch (asked (goal.at.returns-in_err-check_index c).After-check_index) c.in_err-check_index.was)
 
 pub returns-then-asked-gt-BEAM : goal.returns-then-asked-gt-BEAM
-returns-then-asked-gt-BEAM c = turns_over _ _ (inserting_of c.args.asked.now) c.args.slots c.args.scratch c.whole-n.ensures c.room_or_numbers_wrong-wrong.ensures c.check_index.ensures c.in_ok-check_index.was c.if-asked-gt-BEAM.true
+returns-then-asked-gt-BEAM c = turns_over c.args.scratch (asked (goal.at.returns-then-asked-gt-BEAM c).After-check_index) c.in_ok-check_index.was c.if-asked-gt-BEAM.true
 
 pub returns-then-scratch_short : goal.returns-then-scratch_short
-returns-then-scratch_short c = turns_short _ _ (inserting_of c.args.asked.now) c.args.slots c.args.scratch c.whole-n.ensures c.room_or_numbers_wrong-wrong.ensures c.check_index.ensures c.in_ok-check_index.was c.if-asked-gt-BEAM.false c.scratch_short.ensures c.if-scratch_short.true
+returns-then-scratch_short c = turns_short c.args.scratch (asked (goal.at.returns-then-scratch_short c).After-check_index) c.in_ok-check_index.was c.if-asked-gt-BEAM.false c.scratch_short.ensures c.if-scratch_short.true
 
 pub returns-then-bytes-n : goal.returns-then-bytes-n
-returns-then-bytes-n c = turns_left _ _ (inserting_of c.args.asked.now) c.args.slots c.args.scratch c.whole-n.ensures c.room_or_numbers_wrong-wrong.ensures c.check_index.ensures c.in_ok-check_index.was c.if-asked-gt-BEAM.false c.scratch_short.ensures c.if-scratch_short.false c.if-bytes-n.true
+returns-then-bytes-n c = turns_left c.args.scratch (asked (goal.at.returns-then-bytes-n c).After-check_index) c.in_ok-check_index.was c.if-asked-gt-BEAM.false c.scratch_short.ensures c.if-scratch_short.false c.if-bytes-n.true
 
 pub too_few-requires : goal.too_few-requires
-too_few-requires c = turns_live _ _ (inserting_of c.args.asked.now) c.args.slots c.args.scratch c.whole-n.ensures c.room_or_numbers_wrong-wrong.ensures c.check_index.ensures c.in_ok-check_index.was
+too_few-requires c = turns_live c.args.scratch (asked (goal.at.too_few-requires c).After-check_index) c.in_ok-check_index.was
 
 pub returns-then-too_few : goal.returns-then-too_few
-returns-then-too_few c = turns_few _ _ (inserting_of c.args.asked.now) c.args.slots c.args.scratch c.whole-n.ensures c.room_or_numbers_wrong-wrong.ensures c.check_index.ensures c.in_ok-check_index.was c.if-asked-gt-BEAM.false c.scratch_short.ensures c.if-scratch_short.false c.if-bytes-n.false c.too_few.ensures c.if-too_few.true
+returns-then-too_few c = turns_few c.args.scratch (asked (goal.at.returns-then-too_few c).After-check_index) c.in_ok-check_index.was c.if-asked-gt-BEAM.false c.scratch_short.ensures c.if-scratch_short.false c.if-bytes-n.false c.too_few.ensures c.if-too_few.true
 
 pub taken-requires : goal.taken-requires
-taken-requires c = turns_listed _ _ (inserting_of c.args.asked.now) c.args.slots c.args.scratch c.whole-n.ensures c.room_or_numbers_wrong-wrong.ensures c.check_index.ensures c.in_ok-check_index.was c.if-asked-gt-BEAM.false c.scratch_short.ensures c.if-scratch_short.false c.if-bytes-n.false c.too_few.ensures c.if-too_few.false
+taken-requires c = turns_listed c.args.scratch (asked (goal.at.taken-requires c).After-check_index) c.in_ok-check_index.was c.if-asked-gt-BEAM.false c.scratch_short.ensures c.if-scratch_short.false c.if-bytes-n.false c.too_few.ensures c.if-too_few.false
 
 pub returns-then-taken : goal.returns-then-taken
-returns-then-taken c = turns_taken _ _ (inserting_of c.args.asked.now) c.args.slots c.args.scratch c.whole-n.ensures c.room_or_numbers_wrong-wrong.ensures c.check_index.ensures c.in_ok-check_index.was c.if-asked-gt-BEAM.false c.scratch_short.ensures c.if-scratch_short.false c.if-bytes-n.false c.too_few.ensures c.if-too_few.false c.taken.ensures c.if-taken.true
+returns-then-taken c = turns_taken c.args.scratch (asked (goal.at.returns-then-taken c).After-check_index) c.in_ok-check_index.was c.if-asked-gt-BEAM.false c.scratch_short.ensures c.if-scratch_short.false c.if-bytes-n.false c.too_few.ensures c.if-too_few.false c.taken.ensures c.if-taken.true
 
 pub returns : goal.returns
-returns c = turns_none _ _ (inserting_of c.args.asked.now) c.args.slots c.args.scratch c.whole-n.ensures c.room_or_numbers_wrong-wrong.ensures c.check_index.ensures c.in_ok-check_index.was c.if-asked-gt-BEAM.false c.scratch_short.ensures c.if-scratch_short.false c.if-bytes-n.false c.too_few.ensures c.if-too_few.false c.taken.ensures c.if-taken.false
+returns c = turns_none c.args.scratch (asked (goal.at.returns c).After-check_index) c.in_ok-check_index.was c.if-asked-gt-BEAM.false c.scratch_short.ensures c.if-scratch_short.false c.if-bytes-n.false c.too_few.ensures c.if-too_few.false c.taken.ensures c.if-taken.false

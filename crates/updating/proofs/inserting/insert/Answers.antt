@@ -1,27 +1,30 @@
 use mathlib.Core.Path.{refl, ap}
 use native.Mathlib.Omega.{arith}
-use Rattle.std.proofs.lemmas.Result.{err_from_is_err_and}
-use Rattle.index.specs.Lent.{insert_slices_of}
+use Rattle.index.proofs.Decide.{handed_on}
+use Rattle.index.specs.Lent.{insert_slices_of, slices_of}
 use Rattle.updating.specs.Insert.{inserting_of}
-use Rattle.updating.proofs.Fills.{inserts_back, insert_able, more_fits, insert_labelable, inserts_on}
+use Rattle.updating.proofs.Fills.{InsertChecked, inserts_back, insert_able, more_fits, insert_labelable, inserts_on}
+use Rattle.updating.proofs.inserting.insert.Goals.{After-check_insert}
 use Rattle.updating.proofs.inserting.insert.Goals as goal
+
+checked : (c : After-check_insert) → InsertChecked c.args.index (slices_of c.read.result) (insert_slices_of c.args.slices.now) (inserting_of c.args.asked.now) c.args.slots.now c.args.scratch.now c.check_insert.result
+checked c = record { read = c.read.ensures; decided = c.check_insert.ensures }
 
 pub returns-in_err-check_insert : goal.returns-in_err-check_insert
 returns-in_err-check_insert c =
-    let p = err_from_is_err_and c.from_residual.result c.from_residual.ensures.1 in
-    rw (p.1, p.2) (
-      inserts_back c.args.index c.read.ensures (inserting_of c.args.asked.now) c.args.slots.now c.args.scratch.now c.check_insert.ensures c.in_err-check_insert.was,
+    rw (handed_on c.from_residual.result c.from_residual.ensures.1) (
+      inserts_back (checked (goal.at.returns-in_err-check_insert c).After-check_insert) c.in_err-check_insert.was,
       record { vectors = refl; targets = refl; edges = refl; versions = refl; marks = refl; pool = refl; numbers = refl; summary = refl },
     )
 
 pub insert_batch-n-requires : goal.insert_batch-n-requires
 insert_batch-n-requires c =
-    insert_able c.args.index c.read.ensures (inserting_of c.args.asked.now) c.args.slots.now c.args.scratch.now c.check_insert.ensures c.in_ok-check_insert.was
+    insert_able (checked (goal.at.insert_batch-n-requires c).After-check_insert) c.in_ok-check_insert.was
 
 pub overflow_cast-n : goal.overflow_cast-n
 overflow_cast-n c =
     let h =
-    more_fits c.args.index c.read.ensures (inserting_of c.args.asked.now) c.args.slots.now c.args.scratch.now c.check_insert.ensures c.in_ok-check_insert.was
+    more_fits (checked (goal.at.overflow_cast-n c).After-check_insert) c.in_ok-check_insert.was
     (insert_slices_of c.insert_batch-n.new.slices) c.insert_batch-n.ensures.0 in
     record { fits = omega (arith, h) }
 
@@ -29,20 +32,20 @@ pub label-requires : goal.label-requires
 label-requires c =
     let e = c.insert_batch-n.ensures in
     let able =
-    insert_labelable c.args.index c.read.ensures (inserting_of c.args.asked.now) c.args.slots.now c.args.scratch.now c.check_insert.ensures c.in_ok-check_insert.was
+    insert_labelable (checked (goal.at.label-requires c).After-check_insert) c.in_ok-check_insert.was
     (insert_slices_of c.insert_batch-n.new.slices) e.0 c.insert_batch-n.auto.slots in
     rw (e.1, e.2) able
 
 pub with_more-requires : goal.with_more-requires
 with_more-requires c =
-    more_fits c.args.index c.read.ensures (inserting_of c.args.asked.now) c.args.slots.now c.args.scratch.now c.check_insert.ensures c.in_ok-check_insert.was
+    more_fits (checked (goal.at.with_more-requires c).After-check_insert) c.in_ok-check_insert.was
     (insert_slices_of c.insert_batch-n.new.slices) c.insert_batch-n.ensures.0
 
 pub returns : goal.returns
 returns c =
     let e = c.insert_batch-n.ensures in
     let labelled = rw (e.1, e.2) at c.label.ensures in (
-      inserts_on c.args.index c.read.ensures (inserting_of c.args.asked.now) c.args.slots.now c.args.scratch.now c.check_insert.ensures c.in_ok-check_insert.was
+      inserts_on (checked (goal.at.returns c).After-check_insert) c.in_ok-check_insert.was
           (insert_slices_of c.insert_batch-n.new.slices) e.0 _ (refl, ap (λ x. x.now) e.3.pool) labelled c.with_more.ensures,
       record {
         vectors = e.3.vectors;

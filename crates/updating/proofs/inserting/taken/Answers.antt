@@ -1,10 +1,6 @@
 use mathlib.Core.Path.{sym, ◌∙◌}
-use Rattle.numbers.proofs.Listing.{listed_front}
 use Rattle.numbers.proofs.Taken.{taken_split}
 use Rattle.updating.proofs.inserting.taken.Goals as goal
-
-pub invariant_of-labels : goal.invariant_of-labels
-invariant_of-labels c = record { listed = listed_front c.requires.0 }
 
 pub returns-then-any_live : goal.returns-then-any_live
 returns-then-any_live c = rw (taken_split c.args.numbers.now c.args.given.now, sym c.any_live.ensures ∙ c.if-any_live.true) c.if-any_live.true
