@@ -48,24 +48,33 @@ use Rattle.guarding.proofs.Tested.{Testable, Tested, number_given, none_given, a
 
 -- ---- a guarded delete of slots
 
-module _ (index : Index) (s : Slices) (ids : List ℕ) (beam degree room : ℕ) (checked lost scratch : List ℕ) where
+-- the call's own part of 3, for a list of n records
+abbrev lists_wrong : List ℕ → List ℕ → List ℕ → ℕ → Bool
+lists_wrong ids checked lost n = ltb n (length ids) || ltb (min (length checked) (length lost)) limits.landmarks
+
+pub guarded_testable : (ids : List ℕ) (beam degree room : ℕ) (checked lost : List ℕ) → Testable (lists_wrong ids checked lost room) (delete_over limits (slot_delete ids beam degree)) ids checked lost
+unfolding limits
+guarded_testable ids beam degree room checked lost =
+    record {
+      long = λ e. ltb-false (min (length checked) (length lost)) 64 (or_parts (ltb room (length ids)) _ e).1;
+      few = λ e. ltb-false 256 (length ids) (or_parts (ltb 256 beam || ltb 16 degree) _ e).1;
+    }
+
+-- a guarded delete of slots, with its slices read as s₀, whose report was asked for
+pub record Reported (index : Index) (s₀ s : Slices) (ids : List ℕ) (beam degree room : ℕ) (checked lost scratch checked' lost' scratch₁ : List ℕ) (r : Result Report Refusal) : Type 0 where
+  pub read : s₀ ≡ s
+  pub tested : Tested index s₀ (lists_wrong ids checked lost room) (delete_over limits (slot_delete ids beam degree)) ids checked lost scratch checked' lost' scratch₁ r
+
+module _ {index : Index} {s₀ s : Slices} {ids : List ℕ} {beam degree room : ℕ} {checked lost scratch checked' lost' scratch₁ : List ℕ} {r : Result Report Refusal}
+    (known : Reported index s₀ s ids beam degree room checked lost scratch checked' lost' scratch₁ r) where
   abbrev a : Delete
   a = slot_delete ids beam degree
 
-  -- the call's own part of 3 for a list of n records, and 7
   abbrev wrong : ℕ → Bool
-  wrong n = ltb n (length ids) || ltb (min (length checked) (length lost)) limits.landmarks
+  wrong = lists_wrong ids checked lost
 
   abbrev over : Bool
   over = delete_over limits a
-
-  pub guarded_testable : Testable (wrong room) over ids checked lost
-  unfolding limits
-  guarded_testable =
-      record {
-        long = λ e. ltb-false (min (length checked) (length lost)) 64 (or_parts (ltb room (length ids)) _ e).1;
-        few = λ e. ltb-false 256 (length ids) (or_parts (ltb 256 beam || ltb 16 degree) _ e).1;
-      }
 
   abbrev call : List Stats → Call
   call before = record { lent = lent_of s (guarded_outputs before checked lost) scratch; operation = guarded_delete a }
@@ -73,121 +82,119 @@ module _ (index : Index) (s : Slices) (ids : List ℕ) (beam degree room : ℕ) 
   abbrev report : Guard.Report
   report = report_of (shown stored (state_of index s)) ids
 
-  -- of slices that are read as s₀
-  module _ {s₀ : Slices} (same : s₀ ≡ s) {checked' lost' scratch₁ : List ℕ} {r : Result Report Refusal} (t₀ : Tested index s₀ (wrong room) over ids checked lost scratch checked' lost' scratch₁ r) where
-    t : Tested index s (wrong room) over ids checked lost scratch checked' lost' scratch₁ r
-    t = subst (λ (x : Slices). Tested index x (wrong room) over ids checked lost scratch checked' lost' scratch₁ r) same t₀
+  t : Tested index s (wrong room) over ids checked lost scratch checked' lost' scratch₁ r
+  t = subst (λ (x : Slices). Tested index x (wrong room) over ids checked lost scratch checked' lost' scratch₁ r) known.read known.tested
 
-    -- for a list of that room, by the tests as the definitions have them
-    with_list : {q : Result Report Refusal} → r ≡ q → (before : List Stats) → length before ≡ room
-        → Tested index s (wrong (length before)) over ids checked lost scratch checked' lost' scratch₁ q
-    with_list e before l =
-        subst (λ (x : Result Report Refusal). Tested index s (wrong (length before)) over ids checked lost scratch checked' lost' scratch₁ x) e
-        (subst (λ (n : ℕ). Tested index s (wrong n) over ids checked lost scratch checked' lost' scratch₁ r) (sym l) t)
+  -- for a list of that room, by the tests as the definitions have them
+  with_list : {q : Result Report Refusal} → r ≡ q → (before : List Stats) → length before ≡ room
+      → Tested index s (wrong (length before)) over ids checked lost scratch checked' lost' scratch₁ q
+  with_list e before l =
+      subst (λ (x : Result Report Refusal). Tested index s (wrong (length before)) over ids checked lost scratch checked' lost' scratch₁ x) e
+      (subst (λ (n : ℕ). Tested index s (wrong n) over ids checked lost scratch checked' lost' scratch₁ r) (sym l) t)
 
-    pub guards_back : {x : Refusal} → r ≡ Err x → Guards index s a room checked lost scratch s checked' lost' scratch₁ (Err x)
-    unfolding tests refused_as guarded_as index_kept written state_of stored store_ops store_view shown room_of call_of slices_of slots_of
-    guards_back {x} e =
-        let k = t.back x e in
+  pub guards_back : {x : Refusal} → r ≡ Err x → Guards index s a room checked lost scratch s checked' lost' scratch₁ (Err x)
+  unfolding tests refused_as guarded_as index_kept written state_of stored store_ops store_view shown room_of call_of slices_of slots_of
+  guards_back {x} e =
+      let k = t.back x e in
+      record {
+        report = no_landmarks false 0;
+        stats = [];
+        numbers_applied = λ c w h. cc;
+        numbers_deferred = λ w h. cc;
+        words = λ c w h. cc;
+        there = λ c w h. cc;
+        fits = λ c w h. cc;
+        meets = λ before l. record {
+          does = sym (step_back (state_of index s) (call before) (number_of x) (number_given index s _ _ scratch (with_list e before l).decided refl));
+          writes = λ i. guarded_outputs before (k.0 i) (k.1 i);
+          keeps = λ m h. k.2;
+        };
+      }
+
+  module _ {v : Report} (e : r ≡ Ok v) where
+    reports : Reports report checked checked' lost lost' v
+    reports = t.on v e
+
+    -- the list does not matter: one of that room
+    on_list : (before : List Stats) → length before ≡ room → step stored (state_of index s) (call before) ≡ perform stored (state_of index s) (guarded_delete a)
+    unfolding tests state_of stored store_ops store_view shown room_of
+    on_list before l = step_on (state_of index s) (call before) (none_given index s _ _ scratch (with_list e before l).decided refl)
+
+    not_refused : (before : List Stats) → length before ≡ room → (m : ℕ) → refusal stored (state_of index s) (call before) ≡ some m → ⊥
+    unfolding refusal tests state_of stored store_ops store_view shown room_of
+    not_refused before l m h = let g = sym (none_given index s _ _ scratch (with_list e before l).decided refl) ∙ h in let x : ◌≡◌ {A = ℕ} 0 1 = cc in omega arith
+
+    pub passes : Passed index s
+    passes = able index s (wrong room) over scratch (subst (λ (x : Result Report Refusal). Tested index s (wrong room) over ids checked lost scratch checked' lost' scratch₁ x) e t).decided refl
+
+    pub guards_deferred : v.admitted ≡ false → Guards index s a room checked lost scratch s checked' lost' scratch₁ (Ok (Deferred v))
+    unfolding perform guarded guarded_as index_kept written call_of slices_of run_refusal state_of slots_of
+    guards_deferred f =
+        let g = reports in
         record {
-          report = no_landmarks false 0;
+          report = report;
           stats = [];
           numbers_applied = λ c w h. cc;
-          numbers_deferred = λ w h. cc;
+          numbers_deferred = λ x h. let i : v ≡ x = cc in sym i ∙ numbers_are g;
           words = λ c w h. cc;
           there = λ c w h. cc;
           fits = λ c w h. cc;
           meets = λ before l. record {
-            does = sym (step_back (state_of index s) (call before) (number_of x) (number_given index s _ _ scratch (with_list e before l).decided refl));
-            writes = λ i. guarded_outputs before (k.0 i) (k.1 i);
-            keeps = λ m h. k.2;
+            does = sym (on_list before l ∙ ap (guarded stored (state_of index s) a report) (sym g.admits ∙ f));
+            writes = λ i. guarded_outputs before (g.checked_list i) (g.lost_list i);
+            keeps = λ m h. absurd (not_refused before l m h);
           };
         }
 
-    module _ {v : Report} (e : r ≡ Ok v) where
-      reports : Reports report checked checked' lost lost' v
-      reports = t.on v e
+    pub guards_able : length scratch₁ ≡ length scratch
+        → Deletable (arrays_of index s) index.entry beam degree ids scratch₁
+        × (length s.numbers ≡ length s.marks) × (index.live ≤ length s.summary)
+    guards_able k =
+        let d = (subst (λ (x : Result Report Refusal). Tested index s (wrong room) over ids checked lost scratch checked' lost' scratch₁ x) e t).decided in
+        let p = own index s (wrong room) over scratch d refl in
+        let f = strike_able passes ids beam degree in
+        (delete_able passes ids beam degree scratch₁ p.0 (rw k p.1), f.0, f.1)
 
-      -- the list does not matter: one of that room
-      on_list : (before : List Stats) → length before ≡ room → step stored (state_of index s) (call before) ≡ perform stored (state_of index s) (guarded_delete a)
-      unfolding tests state_of stored store_ops store_view shown room_of
-      on_list before l = step_on (state_of index s) (call before) (none_given index s _ _ scratch (with_list e before l).decided refl)
+    -- of the slices that the batch leaves
+    module _ (s' : Slices) {scratch' : List ℕ} {entry' n : ℕ} (b : BatchDeleted (arrays_of index s) index.alpha index.entry beam degree ids (arrays_of index s') entry' n scratch')
+        (k : Struck s'.marks s.numbers s.summary index.live s'.numbers s'.summary) where
+      pub guards_few : n ≤ index.live
+      guards_few = (fewer_fits passes ids beam degree s' b k).0
 
-      not_refused : (before : List Stats) → length before ≡ room → (m : ℕ) → refusal stored (state_of index s) (call before) ≡ some m → ⊥
-      unfolding refusal tests state_of stored store_ops store_view shown room_of
-      not_refused before l m h = let g = sym (none_given index s _ _ scratch (with_list e before l).decided refl) ∙ h in let x : ◌≡◌ {A = ℕ} 0 1 = cc in omega arith
+      enough : n ≤ room
+      enough =
+          let d = (subst (λ (x : Result Report Refusal). Tested index s (wrong room) over ids checked lost scratch checked' lost' scratch₁ x) e t).decided in
+          let q = (or_parts (ltb room (length ids)) _ (lists_right index s (wrong room) over scratch d refl)).0 in
+          omega (arith, b.few, ltb-false room (length ids) q)
 
-      pub passes : Passed index s
-      passes = able index s (wrong room) over scratch (subst (λ (x : Result Report Refusal). Tested index s (wrong room) over ids checked lost scratch checked' lost' scratch₁ x) e t).decided refl
+      inside : length scratch₁ ≡ length scratch → length scratch' ≡ length scratch₁ → stats_at index.capacity + 4 * n ≤ length scratch'
+      inside q l = let d = (guards_able q).0 in omega (arith, rw (passed_marks passes) at d.enough, b.few, d.ids_most, l)
 
-      pub guards_deferred : v.admitted ≡ false → Guards index s a room checked lost scratch s checked' lost' scratch₁ (Ok (Deferred v))
-      unfolding perform guarded guarded_as index_kept written call_of slices_of run_refusal state_of slots_of
-      guards_deferred f =
+      pub guards_applied : {c : Changed} → s'.pool ≡ s.pool → length scratch₁ ≡ length scratch → length scratch' ≡ length scratch₁ → v.admitted ≡ true → c ≡ fewer index entry' n
+          → Guards index s a room checked lost scratch s' checked' lost' scratch' (Ok (Applied c v))
+      unfolding perform guarded guarded_as index_kept written call_of slices_of run_refusal state_of stored slots_of
+      guards_applied {c} p q ls f e =
           let g = reports in
+          let u = state_left passes ids beam degree s' b k p (ap (λ x. x.index) e) in
           record {
             report = report;
-            stats = [];
-            numbers_applied = λ c w h. cc;
-            numbers_deferred = λ x h. let i : v ≡ x = cc in sym i ∙ numbers_are g;
-            words = λ c w h. cc;
-            there = λ c w h. cc;
-            fits = λ c w h. cc;
+            stats = map (stats_of scratch' (stats_at index.capacity)) (range 0 n);
+            numbers_applied = λ d x h. let j : v ≡ x = cc in sym j ∙ numbers_are g;
+            numbers_deferred = λ w h. cc;
+            words = λ d x h. ap (λ (y : ℕ). map (stats_of scratch' (stats_at index.capacity)) (range 0 y)) (many d x h);
+            there = λ d x h. omega (arith, many d x h, inside q ls);
+            fits = λ d x h. omega (arith, many d x h, enough);
             meets = λ before l. record {
-              does = sym (on_list before l ∙ ap (guarded stored (state_of index s) a report) (sym g.admits ∙ f));
-              writes = λ i. guarded_outputs before (g.checked_list i) (g.lost_list i);
+              does =
+                  ap (λ (y : State Store × List Stats). (y.0, applied y.1 report)) u
+                  ∙ sym (on_list before l ∙ ap (guarded stored (state_of index s) a report) (sym g.admits ∙ f));
+              writes = λ i. guarded_outputs (put_front (map (stats_of scratch' (stats_at index.capacity)) (range 0 n)) before) (g.checked_list i) (g.lost_list i);
               keeps = λ m h. absurd (not_refused before l m h);
             };
           }
-
-      pub guards_able : length scratch₁ ≡ length scratch
-          → Deletable (arrays_of index s) index.entry beam degree ids scratch₁
-          × (length s.numbers ≡ length s.marks) × (index.live ≤ length s.summary)
-      guards_able k =
-          let d = (subst (λ (x : Result Report Refusal). Tested index s (wrong room) over ids checked lost scratch checked' lost' scratch₁ x) e t).decided in
-          let p = own index s (wrong room) over scratch d refl in
-          let f = strike_able passes ids beam degree in
-          (delete_able passes ids beam degree scratch₁ p.0 (rw k p.1), f.0, f.1)
-
-      -- of the slices that the batch leaves
-      module _ (s' : Slices) {scratch' : List ℕ} {entry' n : ℕ} (b : BatchDeleted (arrays_of index s) index.alpha index.entry beam degree ids (arrays_of index s') entry' n scratch')
-          (k : Struck s'.marks s.numbers s.summary index.live s'.numbers s'.summary) where
-        pub guards_few : n ≤ index.live
-        guards_few = (fewer_fits passes ids beam degree s' b k).0
-
-        enough : n ≤ room
-        enough =
-            let d = (subst (λ (x : Result Report Refusal). Tested index s (wrong room) over ids checked lost scratch checked' lost' scratch₁ x) e t).decided in
-            let q = (or_parts (ltb room (length ids)) _ (lists_right index s (wrong room) over scratch d refl)).0 in
-            omega (arith, b.few, ltb-false room (length ids) q)
-
-        inside : length scratch₁ ≡ length scratch → length scratch' ≡ length scratch₁ → stats_at index.capacity + 4 * n ≤ length scratch'
-        inside q l = let d = (guards_able q).0 in omega (arith, rw (passed_marks passes) at d.enough, b.few, d.ids_most, l)
-
-        pub guards_applied : {c : Changed} → s'.pool ≡ s.pool → length scratch₁ ≡ length scratch → length scratch' ≡ length scratch₁ → v.admitted ≡ true → c ≡ fewer index entry' n
-            → Guards index s a room checked lost scratch s' checked' lost' scratch' (Ok (Applied c v))
-        unfolding perform guarded guarded_as index_kept written call_of slices_of run_refusal state_of stored slots_of
-        guards_applied {c} p q ls f e =
-            let g = reports in
-            let u = state_left passes ids beam degree s' b k p (ap (λ x. x.index) e) in
-            record {
-              report = report;
-              stats = map (stats_of scratch' (stats_at index.capacity)) (range 0 n);
-              numbers_applied = λ d x h. let j : v ≡ x = cc in sym j ∙ numbers_are g;
-              numbers_deferred = λ w h. cc;
-              words = λ d x h. ap (λ (y : ℕ). map (stats_of scratch' (stats_at index.capacity)) (range 0 y)) (many d x h);
-              there = λ d x h. omega (arith, many d x h, inside q ls);
-              fits = λ d x h. omega (arith, many d x h, enough);
-              meets = λ before l. record {
-                does =
-                    ap (λ (y : State Store × List Stats). (y.0, applied y.1 report)) u
-                    ∙ sym (on_list before l ∙ ap (guarded stored (state_of index s) a report) (sym g.admits ∙ f));
-                writes = λ i. guarded_outputs (put_front (map (stats_of scratch' (stats_at index.capacity)) (range 0 n)) before) (g.checked_list i) (g.lost_list i);
-                keeps = λ m h. absurd (not_refused before l m h);
-              };
-            }
-          where
-            many : (d : Changed) (x : Report) → ◌≡◌ {A = Result Guarded Refusal} (Ok (Applied c v)) (Ok (Applied d x)) → n ≡ d.count
-            many d x h = let j : c ≡ d = cc in sym (ap (λ y. y.count) e) ∙ ap (λ y. y.count) j
+        where
+          many : (d : Changed) (x : Report) → ◌≡◌ {A = Result Guarded Refusal} (Ok (Applied c v)) (Ok (Applied d x)) → n ≡ d.count
+          many d x h = let j : c ≡ d = cc in sym (ap (λ y. y.count) e) ∙ ap (λ y. y.count) j
 
 -- ---- by other names
 

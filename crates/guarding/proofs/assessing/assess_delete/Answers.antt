@@ -1,7 +1,7 @@
 use mathlib.Core.Path.{refl}
-use Rattle.std.proofs.lemmas.Result.{err_from_is_err_and}
 use Rattle.index.specs.Lent.{slices_of}
 use Rattle.guarding.specs.Guarding.{assessing}
+use Rattle.index.proofs.Decide.{handed_on}
 use Rattle.guarding.proofs.Tested.{tested_back, tested_ready, tested_on}
 use Rattle.guarding.proofs.Assesses.{assess_testable, assesses}
 use Rattle.guarding.proofs.assessing.assess_delete.Goals as goal
@@ -10,8 +10,7 @@ pub returns-in_err-guard : goal.returns-in_err-guard
 returns-in_err-guard c =
     let s = slices_of c.args.slices.now in
     let l = c.args.lists.now in
-    let p = err_from_is_err_and c.from_residual.result c.from_residual.ensures.1 in
-    rw (p.1, p.2) (
+    rw (handed_on c.from_residual.result c.from_residual.ensures.1) (
       assesses c.args.index s (assessing c.args.ids.now) l.checked.now l.lost.now c.args.scratch.now _
           (tested_back c.args.index s _ _ c.args.scratch.now c.check_assess.ensures.0 c.args.ids.now l.checked.now l.lost.now c.in_err-guard.was),
       record { checked = refl; lost = refl },

@@ -1,15 +1,14 @@
 use Rattle.std.proofs.Common.{length}
 use Rattle.std.proofs.Math.Dec.{ltb}
 use Rattle.std.proofs.lemmas.Bool.{lt-ltb, le-ltb}
-use Rattle.std.proofs.lemmas.Result.{err_from_is_err_and}
 use Rattle.slots.specs.Sizes.{limits}
+use Rattle.index.proofs.Decide.{handed_on}
 use Rattle.guarding.proofs.Tested.{turns_before, turns_over, turns_guard}
 use Rattle.guarding.proofs.assessing.check_assess.Goals as goal
 
 pub returns-in_err-check_index : goal.returns-in_err-check_index
 returns-in_err-check_index c =
-    let p = err_from_is_err_and c.from_residual.result c.from_residual.ensures.1 in
-    rw (p.1, p.2) ((turns_before (ltb limits.ids (length c.args.ids.now)) c.args.scratch (rw c.lists_short.ensures at c.check_index.ensures) c.in_err-check_index.was, tt))
+    rw (handed_on c.from_residual.result c.from_residual.ensures.1) ((turns_before (ltb limits.ids (length c.args.ids.now)) c.args.scratch (rw c.lists_short.ensures at c.check_index.ensures) c.in_err-check_index.was, tt))
 
 pub returns-then-ids : goal.returns-then-ids
 unfolding limits
