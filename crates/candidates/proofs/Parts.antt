@@ -1,6 +1,6 @@
 -- Part of some words as words of its own: what a list there holds, and what the whole holds once the part is written. Assumes nothing.
 use Prim.Native.Nat.{ℕ, ◌+◌, ◌-◌, ◌*◌, ◌/◌, ◌≤◌, ◌<◌}
-use mathlib.Core.Path.{◌≡◌, refl, ap, sym, ◌∙◌}
+use mathlib.Core.Path.{◌≡◌, ap, ◌∙◌}
 use mathlib.Core.List.{List}
 use native.Mathlib.Omega.{arith}
 use borrow.Rule.Slice.PartMut.{put_mid}
@@ -8,10 +8,9 @@ use lib.ListN.{length, take, drop, get_or}
 use Rattle.std.proofs.lemmas.List.{places, get_or-take, get_or-drop, length-take-le}
 use Rattle.std.proofs.Common.{rules}
 use Rattle.std.proofs.lemmas.Grind.{common_steps}
-use Rattle.candidates.specs.Candidates.{Candidate}
-use Rattle.candidates.specs.Inner.Words.{cand, cands, cands_of, Outside, Holds, Left, Remain}
+use Rattle.candidates.specs.Inner.Words.{cand, cands, cands_of, Outside}
 use Rattle.candidates.specs.Inner.Runs.{rest}
-use Rattle.candidates.proofs.Words.{cands_length, cands_moved, cands_agree, cands_kept}
+use Rattle.candidates.proofs.Words.{cands_moved, cands_agree, cands_kept}
 
 -- ---- the k words from word p on
 part_at : (w : List ℕ) (p k j : ℕ) → j < k → get_or (take k (drop p w)) j 0 ≡ get_or w (p + j) 0
