@@ -1,16 +1,18 @@
 -- Part of some words as words of its own: what a list there holds, and what the whole holds once the part is written. Assumes nothing.
 use Prim.Native.Nat.{ℕ, ◌+◌, ◌-◌, ◌*◌, ◌/◌, ◌≤◌, ◌<◌}
-use mathlib.Core.Path.{◌≡◌, ap, ◌∙◌}
-use mathlib.Core.List.{List}
+use mathlib.Core.Path.{◌≡◌, ap, sym, ◌∙◌}
+use mathlib.Core.List.{List, ◌++◌}
 use native.Mathlib.Omega.{arith}
 use borrow.Rule.Slice.PartMut.{put_mid}
-use lib.ListN.{length, take, drop, get_or}
-use Rattle.std.proofs.lemmas.List.{places, get_or-take, get_or-drop, length-take-le}
+use lib.ListN.{length, take, drop, get_or, set}
+use Rattle.std.proofs.lemmas.List.{places, get_or-take, get_or-drop, length-take-le, length-set, take-append-drop, set-append_left, set-append_right}
 use Rattle.std.proofs.Common.{rules}
 use Rattle.std.proofs.lemmas.Grind.{common_steps}
-use Rattle.candidates.specs.Inner.Words.{cand, cands, cands_of, Outside}
+use Rattle.lists.specs.Lists.{insert_by}
+use Rattle.candidates.specs.Candidates.{Candidate, before}
+use Rattle.candidates.specs.Inner.Words.{cand, cands, cands_of, filled, put, Outside, Holds, Left, Remain, Inserts, Inserted}
 use Rattle.candidates.specs.Inner.Runs.{rest}
-use Rattle.candidates.proofs.Words.{cands_moved, cands_agree, cands_kept}
+use Rattle.candidates.proofs.Words.{cands_length, outside_wide, cands_moved, cands_agree, cands_kept}
 
 -- ---- the k words from word p on
 part_at : (w : List ℕ) (p k j : ℕ) → j < k → get_or (take k (drop p w)) j 0 ≡ get_or w (p + j) 0
@@ -90,3 +92,80 @@ written_here w v c k n h e l = let z : 2 * c + 0 ≡ 2 * c = omega arith in rw z
 
 pub written_elsewhere : (w v : List ℕ) (p k b n : ℕ) → p + k ≤ length w → length v ≡ k → (p < b + 2 * n → p + k ≤ b) → cands (put_mid p k w v) b n ≡ cands w b n
 written_elsewhere w v p k b n h e l = cands_kept p k w (put_mid p k w v) (outside_written w v p k h e) b n l
+
+-- ---- what a function left of a list that is part of the words: the k words from p on
+module _ (w : List ℕ) (p k n : ℕ) (h : p + k ≤ length w) where
+  pub filled_part : k ≡ 2 * (n + 1) → filled (take k (drop p w)) ≡ cands w p n
+  filled_part e =
+      let m : length (take k (drop p w)) / 2 - 1 ≡ n = omega (arith, part_length w p k h) in
+      let z : p + 0 ≡ p = omega arith in
+      ap (λ (i : ℕ). cands (take k (drop p w)) 0 i) m ∙ (rw z at (cands_part w p k 0 n (omega arith)))
+
+  pub whole_part : k ≡ 2 * n → cands_of (take k (drop p w)) ≡ cands w p n
+  whole_part e =
+      let m : length (take k (drop p w)) / 2 ≡ n = omega (arith, part_length w p k h) in
+      let z : p + 0 ≡ p = omega arith in
+      ap (λ (i : ℕ). cands (take k (drop p w)) 0 i) m ∙ (rw z at (cands_part w p k 0 n (omega arith)))
+
+  module _ (v : List ℕ) (l : length v ≡ length (take k (drop p w))) where
+    long : length v ≡ k
+    long = l ∙ part_length w p k h
+
+    written : (m : ℕ) → 2 * m ≤ k → cands (put_mid p k w v) p m ≡ cands v 0 m
+    written m o = let z : p + 0 ≡ p = omega arith in rw z at (cands_written w v p k h long 0 m (omega (arith, o)))
+
+    outside : (m : ℕ) → k ≡ 2 * m → Outside p (2 * m) w (put_mid p k w v)
+    outside m e = outside_wide p k p (2 * m) w (put_mid p k w v) (outside_written w v p k h long) (omega arith) (omega arith)
+
+    pub part_holds : k ≡ 2 * n → {cs : List Candidate} → cands_of v ≡ cs → Holds w p n cs (put_mid p k w v)
+    part_holds e {cs} g =
+        let m : length v / 2 ≡ n = omega (arith, long) in
+        record { list = written n (omega arith) ∙ sym (ap (λ (i : ℕ). cands v 0 i) m) ∙ g; size = written_length w v p k h long; same = outside n e }
+
+    pub part_left : k ≡ 2 * n → {cs : List Candidate} {r : ℕ} → Remain (take k (drop p w)) cs r v → Left w p n cs r (put_mid p k w v)
+    part_left e {cs} {r} g =
+        let m : r ≤ n = omega (arith, g.within, part_length w p k h) in
+        record {
+          count = sym (cands_length v 0 r) ∙ ap length g.list;
+          list = written r (omega arith) ∙ g.list;
+          within = m;
+          size = written_length w v p k h long;
+          same = outside n e;
+        }
+
+    pub part_inserted : k ≡ 2 * (n + 1) → {x : Candidate} {r : ℕ} → Inserts (take k (drop p w)) x r v → Inserted w p n x r (put_mid p k w v)
+    part_inserted e {x} {r} g =
+        let m : length v / 2 ≡ n + 1 = omega (arith, long) in
+        let i : r ≤ n = omega (arith, g.within, part_length w p k h) in
+        let z : p + 0 ≡ p = omega arith in
+        record {
+          within = i;
+          front = written r (omega arith) ∙ g.front ∙ (rw z at (cands_part w p k 0 r (omega arith)));
+          holds = record {
+            list = written (n + 1) (omega arith) ∙ sym (ap (λ (i : ℕ). cands v 0 i) m) ∙ g.list ∙ ap (insert_by before x) (filled_part e);
+            size = written_length w v p k h long;
+            same = outside (n + 1) e;
+          };
+        }
+
+-- ---- one candidate of a part
+whole : (w : List ℕ) (p k : ℕ) → put_mid p k w (take k (drop p w)) ≡ w
+whole w p k = ap (λ (l : List ℕ). take p w ++ l) (take-append-drop k (drop p w)) ∙ take-append-drop p w
+
+set_part : (w : List ℕ) (p k : ℕ) (v : List ℕ) (j x : ℕ) → p ≤ length w → j < length v → put_mid p k w (set v j x) ≡ set (put_mid p k w v) (p + j) x
+set_part w p k v j x h l =
+    let e : p + j - p ≡ j = omega arith in
+    sym (set-append_right (take p w) (v ++ drop k (drop p w)) p (p + j) x (length-take-le p w h) (omega arith) ∙ rw (e, set-append_left v (drop k (drop p w)) j x l))
+
+pub put_part : (w : List ℕ) (p k i d s : ℕ) → p + k ≤ length w → 2 * i + 1 < k → put_mid p k w (put (take k (drop p w)) (2 * i) d s) ≡ put w (p + 2 * i) d s
+put_part w p k i d s h l =
+    let v = take k (drop p w) in
+    let m = part_length w p k h in
+    let z : p + (2 * i + 1) ≡ p + 2 * i + 1 = omega arith in
+    set_part w p k (set v (2 * i) d) (2 * i + 1) s (omega arith) (omega (arith, m, length-set v (2 * i) d))
+    ∙ rw (z, set_part w p k v (2 * i) d (omega arith) (omega (arith, m)), whole w p k)
+
+pub cand_part : (w : List ℕ) (p k i : ℕ) → 2 * i + 1 < k → cand (take k (drop p w)) (2 * i) ≡ cand w (p + 2 * i)
+cand_part w p k i h =
+    let z : p + (2 * i + 1) ≡ p + 2 * i + 1 = omega arith in
+    rw (part_at w p k (2 * i) (omega arith), part_at w p k (2 * i + 1) h, z)
