@@ -1,11 +1,11 @@
 -- Part of some words as words of its own: what a list there holds, and what the whole holds once the part is written. Assumes nothing.
 use Prim.Native.Nat.{ℕ, ◌+◌, ◌-◌, ◌*◌, ◌/◌, ◌≤◌, ◌<◌}
 use mathlib.Core.Path.{◌≡◌, ap, sym, ◌∙◌}
-use mathlib.Core.List.{List, ◌++◌}
+use mathlib.Core.List.{List, ◌++◌, append_assoc}
 use native.Mathlib.Omega.{arith}
 use borrow.Rule.Slice.PartMut.{put_mid}
 use lib.ListN.{length, take, drop, get_or, set}
-use Rattle.std.proofs.lemmas.List.{places, get_or-take, get_or-drop, length-take-le, length-set, take-append-drop, set-append_left, set-append_right}
+use Rattle.std.proofs.lemmas.List.{places, get_or-take, get_or-drop, length-take-le, length-set, take-append-drop, set-append_left, set-append_right, take-append-le, drop-append-le, take_at, drop_at, length-drop}
 use Rattle.std.proofs.Common.{rules}
 use Rattle.std.proofs.lemmas.Grind.{common_steps}
 use Rattle.lists.specs.Lists.{insert_by}
@@ -169,3 +169,20 @@ pub cand_part : (w : List ℕ) (p k i : ℕ) → 2 * i + 1 < k → cand (take k 
 cand_part w p k i h =
     let z : p + (2 * i + 1) ≡ p + 2 * i + 1 = omega arith in
     rw (part_at w p k (2 * i) (omega arith), part_at w p k (2 * i + 1) h, z)
+
+-- ---- two parts of words that were split at word m: one of those before it, and the first behind it
+front_of_both : (xs ys v : List ℕ) (p k : ℕ) → p + k ≤ length xs → put_mid p k xs v ++ ys ≡ put_mid p k (xs ++ ys) v
+front_of_both xs ys v p k h =
+    let e : k ≤ length (drop p xs) = omega (arith, length-drop p xs) in
+    append_assoc (take p xs) (v ++ drop k (drop p xs)) ys
+    ∙ ap (λ (l : List ℕ). take p xs ++ l) (append_assoc v (drop k (drop p xs)) ys)
+    ∙ sym (rw (take-append-le p xs ys (omega arith), drop-append-le p xs ys (omega arith), drop-append-le k (drop p xs) ys e))
+
+back_of_both : (xs ys v : List ℕ) (m k : ℕ) → length xs ≡ m → xs ++ (v ++ drop k ys) ≡ put_mid m k (xs ++ ys) v
+back_of_both xs ys v m k e = sym (rw (take_at xs ys m e, drop_at xs ys m e))
+
+pub both_written : (w : List ℕ) (m p k n : ℕ) (v u : List ℕ) → p + k ≤ m → m ≤ length w → length v ≡ k → put_mid p k (take m w) v ++ (u ++ drop n (drop m w)) ≡ put_mid m n (put_mid p k w v) u
+both_written w m p k n v u h l e =
+    let f : length (take m w) ≡ m = length-take-le m w l in
+    back_of_both (put_mid p k (take m w) v) (drop m w) u m n (written_length (take m w) v p k (omega (arith, f)) e ∙ f)
+    ∙ ap (λ (x : List ℕ). put_mid m n x u) (front_of_both (take m w) (drop m w) v p k (omega (arith, f)) ∙ ap (λ (x : List ℕ). put_mid p k x v) (take-append-drop m w))
