@@ -24,7 +24,12 @@ fn write_unnamed(
     let at = plans.at;
     if plans.n <= scratch[MARKS + s as usize] {
         let (words, to) = scratch.split_at_mut(at.chosen);
-        write_ids(pruner.rows, s, &words[at.plans + 2 * b..at.plans + 2 * e], to);
+        write_ids(
+            pruner.rows,
+            s,
+            &words[at.plans + 2 * b..at.plans + 2 * e],
+            to,
+        );
     }
 }
 

@@ -27,7 +27,11 @@ fn renew(pruner: &mut Pruner<'_, '_, '_, '_, '_, 0>, plans: &Plans<'_>, s: u32, 
 }
 
 // Works out and writes the row of each slot that a plan names, in one sweep over the slots.
-pub fn write_named(pruner: &mut Pruner<'_, '_, '_, '_, '_, 0>, plans: &Plans<'_>, scratch: &mut [u32])
+pub fn write_named(
+    pruner: &mut Pruner<'_, '_, '_, '_, '_, 0>,
+    plans: &Plans<'_>,
+    scratch: &mut [u32],
+)
     requires { Renewable pruner.old.rows.now.degree (length pruner.old.marks.now) scratch.old plans.now.at plans.now.n }
     ensures { (entry : ℕ) → Written entry pruner.old (foldl (renewed_at scratch.old plans.now.at plans.now.n) (index_by entry pruner.old) (range 0 (length pruner.old.marks.now))) pruner.new }
 {
