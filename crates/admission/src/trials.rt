@@ -25,7 +25,7 @@ impl Trial<'_> {
     {
         let query = self.graph.space.vector(landmark as usize);
         let n = residual_search(&self.graph, query, self.entry, self.beam, ids, scratch);
-        has_id(scratch, 0, n, landmark)
+        has_id(&scratch[..2 * n], landmark)
     }
 }
 

@@ -1,42 +1,39 @@
 -- The slots of a list of candidates, copied one word each. Assumes nothing.
-use Prim.Native.Nat.{ℕ, ◌+◌, ◌-◌, ◌*◌, ◌≤◌, ◌<◌}
-use mathlib.Core.Path.{◌≡◌, ◌∙◌}
-use mathlib.Core.Logic.{⊎_elim}
-use mathlib.Core.List.{List, [], ◌∷◌, ◌++◌, append_assoc, append-nil}
-use native.Mathlib.Numerals.{add-one}
+use Prim.Native.Nat.{ℕ, ◌+◌, ◌*◌, ◌/◌, ◌≤◌, ◌<◌}
+use mathlib.Core.Path.{◌≡◌, refl, ap, sym, ◌∙◌}
+use mathlib.Core.List.{List}
+use lib.ListN.{length, take, get_or, set, length-set}
+use lib.Seq.{get_or-set_other}
 use native.Mathlib.Omega.{arith}
-use lib.ListN.{length, get_or, take, drop, set, length-set, length-drop}
-use lib.Seq.{take-suc-set, drop-set-add, get_or-set_other}
-use Rattle.candidates.specs.Candidates.{ids}
-use Rattle.candidates.specs.Inner.Words.{cands, Outside, Clear, Copied}
-use Rattle.candidates.proofs.Words.{cands_none, cands_cons, cands_agree, outside_set}
+use Rattle.std.proofs.lemmas.List.{take_more_set}
+use Rattle.lists.proofs.Unique.{keys_snoc}
+use Rattle.candidates.specs.Candidates.{Candidate, ids}
+use Rattle.candidates.specs.Inner.Words.{cand, cands}
+use Rattle.candidates.proofs.Words.{cands_none, front_snoc}
 
--- ---- k of n slots are copied
-pub record Copying (w₀ : List ℕ) (a n to : ℕ) (w : List ℕ) (k : ℕ) : Type 0 where
-  pub bound : k ≤ n
-  pub goes : take k (drop to w) ++ ids (cands w (a + 2 * k) (n - k)) ≡ ids (cands w₀ a n)
+abbrev slot : Candidate → ℕ
+slot c = c.id
+
+-- ---- k slots are copied
+pub copied_none : (w t : List ℕ) → take 0 t ≡ ids (cands w 0 0)
+copied_none w t = rw (cands_none w 0 0 refl)
+
+pub copied_more : (w t : List ℕ) {k id : ℕ} → k < length t → id ≡ (cand w (2 * k)).id → take k t ≡ ids (cands w 0 k) → take (k + 1) (set t k id) ≡ ids (cands w 0 (k + 1))
+copied_more w t {k} {id} h e f = take_more_set t k id h ∙ rw (f, e) (sym (ap ids (front_snoc w k) ∙ keys_snoc slot (cands w 0 k) (cand w (2 * k))))
+
+-- ---- k slots are moved to the front of their own list
+pub record Packing (w₀ w : List ℕ) (k : ℕ) : Type 0 where
+  pub list : take k w ≡ ids (cands w₀ 0 k)
   pub size : length w ≡ length w₀
-  pub same : Outside to n w₀ w
+  pub same : (j : ℕ) → k ≤ j → get_or w j 0 ≡ get_or w₀ j 0
 
-one_more : (w : List ℕ) (to k x : ℕ) → to + k < length w → take (k + 1) (drop to (set w (to + k) x)) ≡ take k (drop to w) ++ (x ∷ [])
-one_more w to k x h = rw (drop-set-add to w k x, add-one k) (take-suc-set (drop to w) k x (rw (length-drop to w) (omega arith)))
+pub packing_none : (w : List ℕ) → Packing w w 0
+packing_none w = record { list = copied_none w w; size = refl; same = λ j h. refl }
 
-module _ {w₀ : List ℕ} {a n to : ℕ} {w : List ℕ} {k : ℕ} (f : Copying w₀ a n to w k) where
-  pub copying_more : Clear a n to → to + n ≤ length w₀ → k < n → Copying w₀ a n to (set w (to + k) (get_or w (a + 2 * k + 1) 0)) (k + 1)
-  copying_more b l h =
-      let x = get_or w (a + 2 * k + 1) 0 in
-      let rest : cands (set w (to + k) x) (a + 2 * (k + 1)) (n - (k + 1)) ≡ cands w (a + 2 * (k + 1)) (n - (k + 1)) =
-      cands_agree w (set w (to + k) x) (a + 2 * (k + 1)) (n - (k + 1))
-      (λ j m i. get_or-set_other w (to + k) j x 0 (λ (g : j ≡ to + k). ⊎_elim (λ (q : to ≤ a). absurd (omega arith)) (λ (q : a + 2 * n ≤ to). absurd (omega arith)) b)) in
-      record {
-        bound = omega arith;
-        goes = rw (one_more w to k x (omega (arith, f.size)), append_assoc, rest) (rw (cands_cons w a n k h) at f.goes);
-        size = length-set w (to + k) x ∙ f.size;
-        same = outside_set to n w₀ w (to + k) x f.same (omega arith) (omega arith);
-      }
-
-  pub copying_done : n ≤ k → Copied w₀ a n to w
-  copying_done h =
-      let z : n - k ≡ 0 = omega arith in
-      let e : k ≡ n = omega arith in
-      record { list = rw (cands_none w (a + 2 * k) (n - k) z, append-nil, e) at f.goes; size = f.size; same = f.same }
+pub packing_more : {w₀ w : List ℕ} {k id : ℕ} → k < length w₀ / 2 → id ≡ (cand w (2 * k)).id → Packing w₀ w k → Packing w₀ (set w k id) (k + 1)
+packing_more {w₀} {w} {k} {id} h e f =
+    record {
+      list = copied_more w₀ w (omega (arith, f.size)) (e ∙ f.same (2 * k + 1) (omega arith)) f.list;
+      size = length-set w k id ∙ f.size;
+      same = λ j l. get_or-set_other w k j id 0 (λ (z : j ≡ k). absurd (omega arith)) ∙ f.same j (omega arith);
+    }

@@ -4,6 +4,7 @@ pub mod Floats
 pub mod Plain
 pub mod Exact
 pub mod Words
+pub mod Parts
 pub mod Scored
 pub mod Insertion
 pub mod Keeping

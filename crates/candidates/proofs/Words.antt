@@ -10,8 +10,6 @@ use Rattle.lists.proofs.Places.{init_snoc, last_snoc, all_at}
 use Rattle.candidates.specs.Candidates.{Candidate}
 use Rattle.candidates.specs.Inner.Words.{pair, cand, cands, put, Outside}
 
--- so that the examples are checked first
-
 -- ---- parts of a list
 pub cands_none : (w : List ℕ) (a n : ℕ) → n ≡ 0 → cands w a n ≡ []
 unfolding cands
@@ -146,3 +144,31 @@ pub cands_push : (w : List ℕ) (d s a n : ℕ) → a + 2 * n + 1 < length w →
 cands_push w d s a n h =
     cands_snoc (put w (a + 2 * n) d s) a n
     ∙ rw (cands_put w (a + 2 * n) d s a n (λ q. absurd (omega arith)), put_cand w (a + 2 * n) d s h)
+
+-- ---- a list at word 0
+pub front_cons : (w : List ℕ) (n k : ℕ) → k < n → cands w (2 * k) (n - k) ≡ cand w (2 * k) ∷ cands w (2 * (k + 1)) (n - (k + 1))
+front_cons w n k h =
+    let e : 0 + 2 * k ≡ 2 * k = omega arith in
+    let g : 0 + 2 * (k + 1) ≡ 2 * (k + 1) = omega arith in
+    rw (e, g) at (cands_cons w 0 n k h)
+
+pub front_split : (w : List ℕ) (n k : ℕ) → k ≤ n → cands w 0 n ≡ cands w 0 k ++ cands w (2 * k) (n - k)
+front_split w n k h = let e : 0 + 2 * k ≡ 2 * k = omega arith in rw e at (cands_split w 0 n k h)
+
+pub front_drop : (w : List ℕ) (n k : ℕ) → k ≤ n → drop k (cands w 0 n) ≡ cands w (2 * k) (n - k)
+front_drop w n k h = let e : 0 + 2 * k ≡ 2 * k = omega arith in rw e at (cands_drop w 0 n k h)
+
+pub front_snoc : (w : List ℕ) (n : ℕ) → cands w 0 (n + 1) ≡ cands w 0 n ++ (cand w (2 * n) ∷ [])
+front_snoc w n = let e : 0 + 2 * n ≡ 2 * n = omega arith in rw e at (cands_snoc w 0 n)
+
+pub front_last : (w : List ℕ) (n : ℕ) → 0 < n → (c : Candidate) → last c (cands w 0 n) ≡ cand w (2 * (n - 1))
+front_last w n h c = let e : 0 + 2 * (n - 1) ≡ 2 * (n - 1) = omega arith in rw e at (cands_last w 0 n h c)
+
+pub front_at : (w : List ℕ) (n k : ℕ) → k < n → get_or (cands w 0 n) k (pair 0 0) ≡ cand w (2 * k)
+front_at w n k h = let e : 0 + 2 * k ≡ 2 * k = omega arith in rw e at (cands_at w 0 n k h)
+
+pub front_each : (P : Candidate → Type 0) (w : List ℕ) (n : ℕ) → All P (cands w 0 n) → (k : ℕ) → k < n → P (cand w (2 * k))
+front_each P w n h k l = subst P (front_at w n k l) (all_at (pair 0 0) P (cands w 0 n) h k (omega (arith, cands_length w 0 n)))
+
+pub front_push : (w : List ℕ) (d s n : ℕ) → 2 * n + 1 < length w → cands (put w (2 * n) d s) 0 (n + 1) ≡ cands w 0 n ++ (pair d s ∷ [])
+front_push w d s n h = let e : 0 + 2 * n ≡ 2 * n = omega arith in rw e at (cands_push w d s 0 n (omega (arith, h)))

@@ -1,18 +1,19 @@
 -- The acts of a delete: slots taken and marked dead; plans made, applied and finished. Assumes nothing.
-use Prim.Native.Nat.{ℕ, ◌+◌, ◌-◌, ◌*◌, ◌≤◌, ◌<◌}
+use Prim.Native.Nat.{ℕ, ◌+◌, ◌-◌, ◌*◌, ◌/◌, ◌≤◌, ◌<◌}
 use mathlib.Core.Bool.{true}
 use mathlib.Core.List.{List, [], ◌∷◌}
 use mathlib.Core.Path.{◌≡◌, refl, ap, ap₂, sym, ◌∙◌, subst}
 use native.Mathlib.Omega.{arith}
 use lib.Dec.{ltb}
 use lib.Ieee.{Float}
-use lib.ListN.{length}
+use lib.ListN.{length, take, drop}
 use Rattle.lists.specs.Lists.{All, filter, foldl, sort_by}
 use Rattle.lists.proofs.All.{all_map, all_sort, filter_test}
 use Rattle.lists.proofs.Unique.{all_distinct}
 use Rattle.candidates.specs.Candidates.{Candidate, ids}
-use Rattle.candidates.specs.Inner.Words.{cand, cands}
-use Rattle.candidates.proofs.Words.{cands_none, cands_cons, cands_each, cands_agree}
+use Rattle.candidates.specs.Inner.Words.{cand, cands, cands_of}
+use Rattle.candidates.proofs.Parts.{whole_part}
+use Rattle.candidates.proofs.Words.{cands_none, cands_agree, front_cons, front_each}
 use Rattle.slots.specs.Scratch.{work_at}
 use Rattle.slots.specs.Store.{Arrays, Store, arrays, is_valid, store_ops}
 use Rattle.slots.specs.Inner.Writing.{Finished}
@@ -35,6 +36,10 @@ all_by_ids : (P : ℕ → Type 0) (cs : List Candidate) → All P (ids cs) → A
 all_by_ids P [] h = tt
 all_by_ids P (c ∷ cs) h = (h.0, all_by_ids P cs h.1)
 
+-- the list of n slots from word p on
+pub list_part : (w : List ℕ) (p n : ℕ) → p + 2 * n ≤ length w → cands_of (take (p + 2 * n - p) (drop p w)) ≡ cands w p n
+list_part w p n h = whole_part w p (p + 2 * n - p) n (omega arith) (omega arith)
+
 -- ---- the first acts
 -- the slots of the layout stood in the words `taken`; their rows are taken, their marks are cleared, and e is the entry
 pub record Marked (a : Arrays) (entry : ℕ) (named w : List ℕ) (at : Layout) (e : ℕ) (marks' w' : List ℕ) : Type 0 where
@@ -49,6 +54,10 @@ emptied_live {marks} {named} {at = at} {r = r} {w' = w'} l =
     all_by_ids (λ s. is_valid marks s ≡ true) (cands w' at r)
     (rw l.list (all_distinct (λ x. x) (λ s. is_valid marks s ≡ true) (sort_by ltb (filter (is_valid marks) named))
     (all_sort (λ s. is_valid marks s ≡ true) ltb (filter (is_valid marks) named) (filter_test (is_valid marks) named))))
+
+-- the words of the layout hold a slot for each id
+pub taken_room : {a : Arrays} {named w : List ℕ} → Takeable a named w → work_at (length a.marks) + 2 * length named ≤ length w
+taken_room d = omega (arith, d.ids_most, d.room)
 
 module _ {a : Arrays} {named w : List ℕ} {p : ℕ} {w₁ : List ℕ} (d : Takeable a named w) (l : Emptied a.marks named w (work_at (length a.marks)) p w₁) where
   abbrev at : Layout
@@ -87,36 +96,36 @@ module _ {a : Arrays} {named w : List ℕ} {p : ℕ} {w₁ : List ℕ} (d : Take
     marked em ee = record { taken = w₁; list = l; rows = r; marks_are = rw taken_stay at em; entry_is = rw taken_stay at ee }
 
 -- ---- the last act
--- of the slots of n candidates k are finished: the arrays a₀ have come to a
-pub record Finishing (a₀ : Arrays) (w : List ℕ) (at n : ℕ) (a : Arrays) (k : ℕ) : Type 0 where
-  pub goes : (alpha : Float) (entry : ℕ) → foldl store_ops.finish (index_of alpha entry a) (ids (cands w (at + 2 * k) (n - k))) ≡ foldl store_ops.finish (index_of alpha entry a₀) (ids (cands w at n))
+-- of the slots of a list k are finished: the arrays a₀ have come to a
+pub record Finishing (a₀ : Arrays) (w : List ℕ) (a : Arrays) (k : ℕ) : Type 0 where
+  pub goes : (alpha : Float) (entry : ℕ) → foldl store_ops.finish (index_of alpha entry a) (ids (cands w (2 * k) (length w / 2 - k))) ≡ foldl store_ops.finish (index_of alpha entry a₀) (ids (cands_of w))
   pub together : Together a
   pub marks_long : length a.marks ≡ length a₀.marks
 
-pub finishing_none : (a : Arrays) (w : List ℕ) (at n : ℕ) → Together a → Finishing a w at n a 0
-finishing_none a w at n o =
-    let e : at + 2 * 0 ≡ at = omega arith in
-    let z : n - 0 ≡ n = omega arith in
+pub finishing_none : (a : Arrays) (w : List ℕ) → Together a → Finishing a w a 0
+finishing_none a w o =
+    let e : 2 * 0 ≡ 0 = omega arith in
+    let z : length w / 2 - 0 ≡ length w / 2 = omega arith in
     record { goes = λ alpha entry. rw (e, z); together = o; marks_long = refl }
 
-module _ {a₀ : Arrays} {w : List ℕ} {at n : ℕ} {a : Arrays} {k : ℕ} (f : Finishing a₀ w at n a k) where
-  module _ (v : Inside (length a₀.marks) w at n) (h : k < n) {u : ℕ} (the_slot : u ≡ (cand w (at + 2 * k)).id) where
-    slot_in : (cand w (at + 2 * k)).id < length a.marks
-    slot_in = rw f.marks_long (cands_each (λ c. c.id < length a₀.marks) w at n v.each k h)
+module _ {a₀ : Arrays} {w : List ℕ} {a : Arrays} {k : ℕ} (f : Finishing a₀ w a k) where
+  module _ (v : All (λ c. c.id < length a₀.marks) (cands_of w)) (h : k < length w / 2) {u : ℕ} (the_slot : u ≡ (cand w (2 * k)).id) where
+    slot_in : (cand w (2 * k)).id < length a.marks
+    slot_in = rw f.marks_long (front_each (λ c. c.id < length a₀.marks) w (length w / 2) v k h)
 
     pub finishing_asks : (u * a.degree + a.degree ≤ length a.targets) × (u * a.degree + a.degree ≤ length a.edges) × (u < length a.versions)
-    finishing_asks = let r = shape_fits f.together.rows (cand w (at + 2 * k)).id slot_in in rw the_slot (r.0, r.1, rw f.together.rows.versions_long slot_in)
+    finishing_asks = let r = shape_fits f.together.rows (cand w (2 * k)).id slot_in in rw the_slot (r.0, r.1, rw f.together.rows.versions_long slot_in)
 
     pub finishing_more : {targets' edges' versions' : List ℕ} → Finished a.degree a.targets a.edges a.versions u targets' edges' versions'
         → length targets' ≡ length a.targets → length edges' ≡ length a.edges → length versions' ≡ length a.versions
-        → Finishing a₀ w at n (arrays a.dim a.degree a.vectors targets' edges' versions' a.marks) (k + 1)
+        → Finishing a₀ w (arrays a.dim a.degree a.vectors targets' edges' versions' a.marks) (k + 1)
     finishing_more {targets'} {edges'} {versions'} d lt le lv =
         record {
           goes = λ alpha entry.
               let b = index_of alpha entry a in
-              let y : index_of alpha entry (arrays a.dim a.degree a.vectors targets' edges' versions' a.marks) ≡ store_ops.finish b (cand w (at + 2 * k)).id =
+              let y : index_of alpha entry (arrays a.dim a.degree a.vectors targets' edges' versions' a.marks) ≡ store_ops.finish b (cand w (2 * k)).id =
               (d.does a.dim a.vectors a.marks).does b refl (rw the_slot slot_in) ∙ ap (store_ops.finish b) the_slot in
-              ap (λ (c : Store). foldl store_ops.finish c (ids (cands w (at + 2 * (k + 1)) (n - (k + 1))))) y ∙ (rw (cands_cons w at n k h) at (f.goes alpha entry));
+              ap (λ (c : Store). foldl store_ops.finish c (ids (cands w (2 * (k + 1)) (length w / 2 - (k + 1))))) y ∙ (rw (front_cons w (length w / 2) k h) at (f.goes alpha entry));
           together =
               record {
                 bytes = f.together.bytes;
@@ -132,10 +141,10 @@ module _ {a₀ : Arrays} {w : List ℕ} {at n : ℕ} {a : Arrays} {k : ℕ} (f :
           marks_long = f.marks_long;
         }
 
-  pub finishing_done : k ≡ n → AllFinished a₀ w at n a
+  pub finishing_done : length w / 2 ≤ k → AllFinished a₀ (cands_of w) a
   finishing_done h =
-      let z : n - k ≡ 0 = omega arith in
-      record { does = λ alpha entry. rw (cands_none w (at + 2 * k) (n - k) z) at (f.goes alpha entry) }
+      let z : length w / 2 - k ≡ 0 = omega arith in
+      record { does = λ alpha entry. rw (cands_none w (2 * k) (length w / 2 - k) z) at (f.goes alpha entry) }
 
 -- ---- the later acts
 -- what links make of the slices that rows were built from
@@ -163,23 +172,21 @@ module _ {a : Arrays} {how : Repair} {w : List ℕ} {at : Layout} {w₁ : List �
         cands_agree w₁ w₂ at.from at.count (λ j l h. s.same j (λ q. omega (arith, f.placed, f.makes.table.first, f.makes.table.second)))
         ∙ cands_agree w w₁ at.from at.count (λ j l h. m.same j (omega (arith, f.makes.behind)) (omega (arith, f.makes.table.first)))
 
-    pub repaired_finish : length a₁.marks ≡ length a.marks → Together a₁ × Inside (length a₁.marks) w₂ at.from at.count
+    pub repaired_finish : length a₁.marks ≡ length a.marks → Together a₁ × All (λ c. c.id < length a₁.marks) (cands_of (take (at.from + 2 * at.count - at.from) (drop at.from w₂)))
     repaired_finish e = (
       applied_together o s,
-      record {
-        each = rw e (subst (λ (cs : List Candidate). All (λ c. c.id < length a.marks) cs) (sym slots_stay) f.makes.inside.each);
-        words = omega (arith, f.makes.inside.words, m.size, s.size);
-      },
+      rw (e, list_part w₂ at.from at.count (omega (arith, f.makes.inside.words, m.size, s.size)))
+          (subst (λ (cs : List Candidate). All (λ c. c.id < length a.marks) cs) (sym slots_stay) f.makes.inside.each),
     )
 
-    pub repaired : {a₂ : Arrays} → AllFinished a₁ w₂ at.from at.count a₂ → Repaired a how w at a₂ w₂
+    pub repaired : {a₂ : Arrays} → AllFinished a₁ (cands_of (take (at.from + 2 * at.count - at.from) (drop at.from w₂))) a₂ → Repaired a how w at a₂ w₂
     repaired g =
         record {
           made = w₁;
           plan = m;
           does =
               g.does how.alpha how.entry
-              ∙ ap₂ (λ (b : Store) (ss : List ℕ). foldl store_ops.finish b ss) (s.does how.entry) (ap ids slots_stay);
+              ∙ ap₂ (λ (b : Store) (ss : List ℕ). foldl store_ops.finish b ss) (s.does how.entry) (ap ids (list_part w₂ at.from at.count (omega (arith, f.makes.inside.words, m.size, s.size)) ∙ slots_stay));
           size = s.size ∙ m.size;
           same = λ i h. s.same i (λ q. omega arith);
         }

@@ -1,20 +1,23 @@
 -- The rows of the deleted slots are taken, and their plans made, one after the other. Assumes nothing.
-use Prim.Native.Nat.{ℕ, ◌+◌, ◌*◌, ◌≤◌, ◌<◌}
+use Prim.Native.Nat.{ℕ, ◌+◌, ◌-◌, ◌*◌, ◌≤◌, ◌<◌}
 use mathlib.Core.Bool.{false}
 use mathlib.Core.Path.{◌≡◌, ap, ◌∙◌}
 use mathlib.Core.List.{List}
 use native.Mathlib.Omega.{arith}
 use borrow.Author.Count.{below_more}
-use lib.ListN.{length, get_or, set, length-set}
+use lib.ListN.{length, take, drop, get_or, set, length-set}
 use lib.Seq.{get_or-set_same, get_or-set_other}
-use Rattle.candidates.specs.Candidates.{ids}
+use Rattle.candidates.specs.Candidates.{Candidate, ids}
+use Rattle.candidates.proofs.Parts.{part_length, cand_part, cands_written, written_length, outside_written}
+use borrow.Rule.Slice.PartMut.{put_mid}
+use lib.Ieee.{Float}
 use Rattle.candidates.specs.Inner.Words.{cand, cands}
 use Rattle.candidates.proofs.Words.{cands_agree, cands_each}
 use Rattle.candidates.proofs.Scored.{ids_scored}
 use Rattle.slots.specs.Scratch.{work_at}
 use Rattle.slots.specs.View.{live_neighbors}
 use Rattle.slots.specs.Store.{Arrays, is_valid, store_view}
-use Rattle.row.specs.Row.{index_of, LiveScored}
+use Rattle.row.specs.Row.{index_of, live_scored, LiveScored}
 use Rattle.links.specs.Inner.Planning.{Attempted, count_at}
 use Rattle.deletion.specs.declared.layout.Layout.{Layout}
 use Rattle.deletion.specs.declared.plans.Repair.{Repair}
@@ -38,19 +41,46 @@ row_stays {w = w} {w' = w'} {at = at} {j = j} f l e h =
       few = omega (arith, e, f.few);
     }
 
+-- a row that was worked out in the words from p on, as it lies in all words
+record RowAt (a : Arrays) (s : ℕ) (w : List ℕ) (p r : ℕ) (w' : List ℕ) : Type 0 where
+  pub list : (alpha : Float) (entry : ℕ) → cands w' p r ≡ live_scored (store_view (index_of alpha entry a)) s
+  pub few : r ≤ a.degree
+  pub size : length w' ≡ length w
+  pub same : (j : ℕ) → (p ≤ j → p + 640 ≤ j) → get_or w' j 0 ≡ get_or w j 0
+
+row_at : {a : Arrays} {s r : ℕ} (w : List ℕ) (p n : ℕ) (v : List ℕ) → p + n ≤ length w → length v ≡ n → 2 * r ≤ n → n ≤ 640 → LiveScored a s r v → RowAt a s w p r (put_mid p n w v)
+row_at {r = r} w p n v h e l m g =
+    let z : p + 0 ≡ p = omega arith in
+    record {
+      list = λ alpha entry. (rw z at (cands_written w v p n h e 0 r (omega arith))) ∙ g.list alpha entry;
+      few = g.few;
+      size = written_length w v p n h e;
+      same = λ j o. outside_written w v p n h e j (λ q. omega (arith, o q));
+    }
+
+-- a slot as it is read of the words from p on
+pub slot_part : (w : List ℕ) (p k : ℕ) → p + 2 * k + 1 < length w → (cand (take (length w - p) (drop p w)) (2 * k)).id ≡ (cand w (p + 2 * k)).id
+slot_part w p k h = ap (λ (c : Candidate). c.id) (cand_part w p (length w - p) k (omega arith))
+
 module _ {a : Arrays} {w₀ : List ℕ} {at : Layout} {w : List ℕ} {k : ℕ} (f : TakingRows a w₀ at w k)
     (b : Inside (length a.marks) w₀ at.from at.count) (t : Table a.degree w₀ at) where
   module _ (h : k < at.count) {s : ℕ} (e : s ≡ (cand w (at.from + 2 * k)).id) where
     taken_slot : s ≡ (cand w₀ (at.from + 2 * k)).id
     taken_slot = e ∙ f.same (at.from + 2 * k + 1) (omega (arith, t.first))
 
-    pub taking_asks : (s < length a.marks) × (at.plans + 640 * k + 2 * a.degree ≤ length w)
+    pub taking_asks : (s < length a.marks) × (2 * a.degree ≤ length (take (at.plans + 640 * k + 640 - (at.plans + 640 * k)) (drop (at.plans + 640 * k) w)))
     taking_asks =
         let r = cands_each (λ c. c.id < length a.marks) w₀ at.from at.count b.each k h in
-        (omega (arith, r, taken_slot), omega (arith, f.size, t.third, t.low))
+        (omega (arith, r, taken_slot), omega (arith, part_length w (at.plans + 640 * k) (at.plans + 640 * k + 640 - (at.plans + 640 * k)) (omega (arith, f.size, t.third)), t.low))
 
-    pub taking_more : {r : ℕ} {w₁ : List ℕ} → LiveScored a s w (at.plans + 640 * k) r w₁ → TakingRows a w₀ at (set w₁ (at.stats + 4 * k) r) (k + 1)
-    taking_more {r} {w₁} g =
+    pub taking_more : {r : ℕ} (v : List ℕ) → length v ≡ length (take (at.plans + 640 * k + 640 - (at.plans + 640 * k)) (drop (at.plans + 640 * k) w)) → LiveScored a s r v
+        → TakingRows a w₀ at (set (put_mid (at.plans + 640 * k) (at.plans + 640 * k + 640 - (at.plans + 640 * k)) w v) (at.stats + 4 * k) r) (k + 1)
+    taking_more {r} v lv g' =
+        let p = at.plans + 640 * k in
+        let n = p + 640 - p in
+        let w₁ = put_mid p n w v in
+        let inside : p + n ≤ length w = omega (arith, f.size, t.third) in
+        let g : RowAt a s w p r w₁ = row_at w p n v inside (lv ∙ part_length w p n inside) (omega (arith, g'.few, t.low)) (omega arith) g' in
         let w₂ = set w₁ (at.stats + 4 * k) r in
         let off : (j : ℕ) → (j ≡ at.stats + 4 * k → ⊥) → get_or (set w₁ (at.stats + 4 * k) r) j 0 ≡ get_or w₁ j 0 = λ j o. get_or-set_other w₁ (at.stats + 4 * k) j r 0 o in
         let on : get_or (set w₁ (at.stats + 4 * k) r) (at.stats + 4 * k) 0 ≡ r = get_or-set_same w₁ (at.stats + 4 * k) r 0 (omega (arith, g.size, f.size, t.second, t.third)) in

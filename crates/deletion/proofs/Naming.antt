@@ -1,5 +1,5 @@
 -- The slots that a delete empties: gathered, made a rising list in which each stands once, and marked dead; the entry after it. Assumes nothing.
-use Prim.Native.Nat.{ℕ, zero, suc, ◌+◌, ◌-◌, ◌*◌, ◌≤◌, ◌<◌}
+use Prim.Native.Nat.{ℕ, zero, suc, ◌+◌, ◌-◌, ◌*◌, ◌/◌, ◌≤◌, ◌<◌}
 use mathlib.Core.Bool.{Bool, true, false, cond, not}
 use mathlib.Core.Path.{◌≡◌, refl, ap, sym, ◌∙◌}
 use mathlib.Core.List.{List, [], ◌∷◌, ◌++◌, map-append, append_assoc, append-nil}
@@ -9,76 +9,76 @@ use borrow.Author.Tests.{ne_eqb}
 use lib.Dec.{eqb, ltb}
 use lib.ListN.{length, get_or, set, take, drop, length-set, drop_of_length-le}
 use lib.Seq.{drop-cons, take_all}
-use Rattle.lists.specs.Lists.{filter, range, insert_by, sort_by, distinct_by, sorted_set}
+use Rattle.lists.specs.Lists.{All, filter, range, insert_by, sort_by, distinct_by, sorted_set}
 use Rattle.lists.proofs.Filter.{filter_length}
 use Rattle.candidates.specs.Candidates.{Candidate, nearer, scored, ids}
-use Rattle.candidates.specs.Inner.Words.{pair, cand, cands, put, Outside, Left, Holds}
-use Rattle.candidates.proofs.Words.{cands_length, cands_none, cands_cons, cands_push, cands_snoc, cands_each, put_length, outside_none, outside_put, outside_wide}
+use Rattle.candidates.specs.Inner.Words.{pair, cand, cands, cands_of, put, Remain}
+use Rattle.candidates.proofs.Parts.{part_length, cands_front, cands_written, written_length, outside_written}
+use borrow.Rule.Slice.PartMut.{put_mid}
+use Rattle.candidates.proofs.Words.{cands_length, cands_none, put_length, put_outside, front_cons, front_push, front_snoc, front_each}
 use Rattle.candidates.proofs.Scored.{ids_scored, scored_append}
 use Rattle.slots.specs.Store.{is_valid}
 use Rattle.slots.specs.Inner.Writing.{Killed}
 use Rattle.slots.proofs.Done.{killed_marks}
 use Rattle.repair.specs.Delete.{first_or}
 use Rattle.links.proofs.Planning.{filter_scored}
-use Rattle.deletion.specs.Inner.Naming.{Gathered, Keyed, Risen, Emptied, Inside, cleared, lowest_live}
+use Rattle.deletion.specs.Inner.Naming.{Gathered, Risen, Listed, Emptied, cleared, lowest_live}
 
-pub ids_push : (w : List ℕ) (d s at n : ℕ) → at + 2 * n + 1 < length w → ids (cands (put w (at + 2 * n) d s) at (n + 1)) ≡ ids (cands w at n) ++ (s ∷ [])
-ids_push w d s at n h = ap ids (cands_push w d s at n h) ∙ map-append (λ c. c.id) (cands w at n) (pair d s ∷ [])
+pub ids_push : (w : List ℕ) (d s n : ℕ) → 2 * n + 1 < length w → ids (cands (put w (2 * n) d s) 0 (n + 1)) ≡ ids (cands w 0 n) ++ (s ∷ [])
+ids_push w d s n h = ap ids (front_push w d s n h) ∙ map-append (λ c. c.id) (cands w 0 n) (pair d s ∷ [])
 
 -- ---- the ids
-pub record Gathering (marks named w₀ : List ℕ) (at : ℕ) (w : List ℕ) (n k : ℕ) : Type 0 where
+pub record Gathering (marks named w₀ w : List ℕ) (n k : ℕ) : Type 0 where
   pub few : n ≤ k
-  pub goes : ids (cands w at n) ++ filter (is_valid marks) (drop k named) ≡ filter (is_valid marks) named
+  pub goes : ids (cands w 0 n) ++ filter (is_valid marks) (drop k named) ≡ filter (is_valid marks) named
   pub size : length w ≡ length w₀
-  pub same : Outside at (2 * length named) w₀ w
 
-pub gathering_none : (marks named w : List ℕ) (at : ℕ) → Gathering marks named w at w 0 0
+pub gathering_none : (marks named w : List ℕ) → Gathering marks named w w 0 0
 unfolding cands
-gathering_none marks named w at = record { few = omega arith; goes = refl; size = refl; same = outside_none at (2 * length named) w }
+gathering_none marks named w = record { few = omega arith; goes = refl; size = refl }
 
-module _ {marks named w₀ : List ℕ} {at : ℕ} {w : List ℕ} {n k : ℕ} (g : Gathering marks named w₀ at w n k) where
+module _ {marks named w₀ w : List ℕ} {n k : ℕ} (g : Gathering marks named w₀ w n k) where
   module _ (h : k < length named) where
-    pub gathering_more : is_valid marks (get_or named k 0) ≡ true → at + 2 * length named ≤ length w₀ → Gathering marks named w₀ at (put w (at + 2 * n) (get_or named k 0) (get_or named k 0)) (n + 1) (k + 1)
+    pub gathering_more : is_valid marks (get_or named k 0) ≡ true → 2 * length named ≤ length w₀ → Gathering marks named w₀ (put w (2 * n) (get_or named k 0) (get_or named k 0)) (n + 1) (k + 1)
     gathering_more v l =
         let x : ℕ = get_or named k 0 in
         record {
           few = omega (arith, g.few);
-          goes = rw (ids_push w (get_or named k 0) (get_or named k 0) at n (omega (arith, g.size, g.few)), append_assoc, add-one k) (rw (drop-cons named k 0 h, v) at g.goes);
-          size = put_length w (at + 2 * n) x x ∙ g.size;
-          same = outside_put at (2 * length named) w₀ w (at + 2 * n) x x g.same (omega arith) (omega (arith, g.few));
+          goes = rw (ids_push w (get_or named k 0) (get_or named k 0) n (omega (arith, g.size, g.few)), append_assoc, add-one k) (rw (drop-cons named k 0 h, v) at g.goes);
+          size = put_length w (2 * n) x x ∙ g.size;
         }
 
-    pub gathering_skip : is_valid marks (get_or named k 0) ≡ false → Gathering marks named w₀ at w n (k + 1)
-    gathering_skip v =
-        record { few = omega (arith, g.few); goes = rw (add-one k) (rw (drop-cons named k 0 h, v) at g.goes); size = g.size; same = g.same }
+    pub gathering_skip : is_valid marks (get_or named k 0) ≡ false → Gathering marks named w₀ w n (k + 1)
+    gathering_skip v = record { few = omega (arith, g.few); goes = rw (add-one k) (rw (drop-cons named k 0 h, v) at g.goes); size = g.size }
 
-  pub gathering_done : k ≡ length named → Gathered marks named w₀ at n w
-  gathering_done h = let e : length named ≤ k = omega arith in record { list = rw (drop_of_length-le named e, append-nil) at g.goes; few = omega (arith, g.few); size = g.size; same = g.same }
+  pub gathering_done : k ≡ length named → Gathered marks named n w
+  gathering_done h = let e : length named ≤ k = omega arith in record { list = rw (drop_of_length-le named e, append-nil) at g.goes; few = omega (arith, g.few) }
 
 -- ---- slots as distances
-pub record Keying (w₀ : List ℕ) (at n : ℕ) (w : List ℕ) (k : ℕ) : Type 0 where
-  pub list : cands w at k ≡ scored (λ x. x) (ids (cands w₀ at k))
+pub record Keying (w₀ w : List ℕ) (k : ℕ) : Type 0 where
+  pub list : cands w 0 k ≡ scored (λ x. x) (ids (cands w₀ 0 k))
   pub size : length w ≡ length w₀
-  pub same : Outside at (2 * k) w₀ w
+  pub same : (j : ℕ) → 2 * k ≤ j → get_or w j 0 ≡ get_or w₀ j 0
 
-pub keying_none : (w : List ℕ) (at n : ℕ) → Keying w at n w 0
+pub keying_none : (w : List ℕ) → Keying w w 0
 unfolding cands
-keying_none w at n = record { list = refl; size = refl; same = outside_none at (2 * 0) w }
+keying_none w = record { list = refl; size = refl; same = λ j h. refl }
 
-module _ {w₀ : List ℕ} {at n : ℕ} {w : List ℕ} {k : ℕ} (f : Keying w₀ at n w k) where
-  pub keying_more : at + 2 * n ≤ length w₀ → k < n → {x : ℕ} → x ≡ (cand w (at + 2 * k)).id → Keying w₀ at n (put w (at + 2 * k) x x) (k + 1)
-  keying_more l h {x} e =
-      let i : x ≡ (cand w₀ (at + 2 * k)).id = e ∙ f.same (at + 2 * k + 1) (λ q. omega arith) in
-      let z : ids (cands w₀ at (k + 1)) ≡ ids (cands w₀ at k) ++ (x ∷ []) = ap ids (cands_snoc w₀ at k) ∙ map-append (λ c. c.id) (cands w₀ at k) (cand w₀ (at + 2 * k) ∷ []) ∙ rw i in
+module _ {w₀ w : List ℕ} {k : ℕ} (f : Keying w₀ w k) where
+  pub keying_more : k < length w₀ / 2 → {x : ℕ} → x ≡ (cand w (2 * k)).id → Keying w₀ (put w (2 * k) x x) (k + 1)
+  keying_more h {x} e =
+      let i : x ≡ (cand w₀ (2 * k)).id = e ∙ f.same (2 * k + 1) (omega arith) in
+      let z : ids (cands w₀ 0 (k + 1)) ≡ ids (cands w₀ 0 k) ++ (x ∷ []) = ap ids (front_snoc w₀ k) ∙ map-append (λ c. c.id) (cands w₀ 0 k) (cand w₀ (2 * k) ∷ []) ∙ rw i in
       record {
-        list = cands_push w x x at k (omega (arith, f.size)) ∙ rw (f.list, z) (sym (scored_append (λ y. y) (ids (cands w₀ at k)) (x ∷ [])));
-        size = put_length w (at + 2 * k) x x ∙ f.size;
-        same = outside_put at (2 * (k + 1)) w₀ w (at + 2 * k) x x (outside_wide at (2 * k) at (2 * (k + 1)) w₀ w f.same (omega arith) (omega arith)) (omega arith) (omega arith);
+        list = front_push w x x k (omega (arith, f.size)) ∙ rw (f.list, z) (sym (scored_append (λ y. y) (ids (cands w₀ 0 k)) (x ∷ [])));
+        size = put_length w (2 * k) x x ∙ f.size;
+        same = λ j l. put_outside w (2 * k) x x j (λ _. omega arith) ∙ f.same j (omega arith);
       }
 
-  pub keying_done : k ≡ n → Keyed w₀ at n w
+  pub keying_done : k ≡ length w₀ / 2 → cands_of w ≡ scored (λ x. x) (ids (cands_of w₀))
   keying_done e =
-      record { list = rw e at f.list; size = f.size; same = outside_wide at (2 * k) at (2 * n) w₀ w f.same (omega arith) (omega arith) }
+      let u : length w / 2 ≡ k = omega (arith, f.size) in
+      ap (λ (j : ℕ). cands w 0 j) u ∙ f.list ∙ ap (λ (j : ℕ). scored (λ x. x) (ids (cands w₀ 0 j))) e
 
 -- ---- a rising list in which each slot stands once
 abbrev slots_as : List ℕ → List Candidate
@@ -107,46 +107,67 @@ distinct_few : (k : List Candidate) → length (distinct_by (λ c. c.id) k) ≤ 
 distinct_few [] = omega arith
 distinct_few (c ∷ k) = let t = distinct_few k in let u = filter_length (λ y. not (eqb c.id y.id)) (distinct_by (λ c. c.id) k) in omega arith
 
-pub risen : {w : List ℕ} {at n : ℕ} {w₁ : List ℕ} → Keyed w at n w₁ → {w₂ : List ℕ} → Holds w₁ at n (sort_by nearer (cands w₁ at n)) w₂ → {r : ℕ} {w₃ : List ℕ}
-    → Left w₂ at n (take n (distinct_by (λ c. c.id) (cands w₂ at n))) r w₃ → Risen w at n r w₃
-risen {w} {at} {n} {w₁} f {w₂} h l =
-    let xs = ids (cands w at n) in
-    let k : length (distinct_by (λ c. c.id) (cands w₂ at n)) ≤ n = omega (arith, distinct_few (cands w₂ at n), cands_length w₂ at n) in
-    let s : cands w₂ at n ≡ slots_as (sort_by ltb xs) = h.list ∙ ap (sort_by nearer) f.list ∙ sort_slots xs in
+pub risen : (w w₁ w₂ : List ℕ) → length w₂ ≡ length w → cands_of w₁ ≡ scored (λ x. x) (ids (cands_of w)) → cands_of w₂ ≡ sort_by nearer (cands_of w₁) → {r : ℕ} {w₃ : List ℕ}
+    → Remain w₂ (take (length w₂ / 2) (distinct_by (λ c. c.id) (cands_of w₂))) r w₃ → Risen w r w₃
+risen w w₁ w₂ e f h l =
+    let xs = ids (cands_of w) in
+    let n = length w₂ / 2 in
+    let k : length (distinct_by (λ c. c.id) (cands_of w₂)) ≤ n = omega (arith, distinct_few (cands_of w₂), cands_length w₂ 0 n) in
+    let s : cands_of w₂ ≡ slots_as (sort_by ltb xs) = h ∙ ap (sort_by nearer) f ∙ sort_slots xs in
     record {
       list =
-          ap ids (l.list ∙ take_all n (distinct_by (λ c. c.id) (cands w₂ at n)) k ∙ ap (distinct_by (λ c. c.id)) s ∙ distinct_slots (sort_by ltb xs))
+          ap ids (l.list ∙ take_all n (distinct_by (λ c. c.id) (cands_of w₂)) k ∙ ap (distinct_by (λ c. c.id)) s ∙ distinct_slots (sort_by ltb xs))
           ∙ ids_scored (λ x. x) (sorted_set xs);
-      few = l.within;
-      size = l.size ∙ h.size ∙ f.size;
-      same = λ j x. l.same j x ∙ h.same j x ∙ f.same j x;
+      few = omega (arith, l.within, e);
     }
 
-pub emptied_by : {marks named w : List ℕ} {at n : ℕ} {w₁ : List ℕ} → Gathered marks named w at n w₁ → {r : ℕ} {w₂ : List ℕ} → Risen w₁ at n r w₂ → Emptied marks named w at r w₂
-emptied_by f g =
+-- the list of those gathered is sorted
+pub listed : {marks named w₁ : List ℕ} {n : ℕ} → 2 * n ≤ length w₁ → Gathered marks named n w₁ → {r : ℕ} (v : List ℕ) → length v ≡ length (take (2 * n) w₁) → Risen (take (2 * n) w₁) r v
+    → Listed marks named r (v ++ drop (2 * n) w₁)
+listed {w₁ = w₁} {n} h f {r} v e g =
+    let long : length (take (2 * n) w₁) ≡ 2 * n = part_length w₁ 0 (2 * n) (omega arith) in
+    let few : r ≤ n = omega (arith, g.few) in
     record {
-      list = g.list ∙ ap sorted_set f.list;
-      few = omega (arith, f.few, g.few);
-      size = g.size ∙ f.size;
-      same = λ j x. g.same j (λ u. omega (arith, x u, f.few)) ∙ f.same j x;
+      list = ap ids (cands_written w₁ v 0 (2 * n) (omega arith) (e ∙ long) 0 r (omega arith)) ∙ g.list ∙ ap sorted_set (ap ids (cands_front w₁ n h) ∙ f.list);
+      few = omega (arith, f.few);
+    }
+
+-- beside all words
+pub emptied_by : {marks named : List ℕ} (w : List ℕ) (at : ℕ) {r : ℕ} (v : List ℕ) → at + 2 * length named ≤ length w → length v ≡ length (take (at + 2 * length named - at) (drop at w))
+    → Listed marks named r v → Emptied marks named w at r (put_mid at (at + 2 * length named - at) w v)
+emptied_by {named = named} w at {r} v h e f =
+    let k = at + 2 * length named - at in
+    let long : length v ≡ k = e ∙ part_length w at k (omega arith) in
+    let z : at + 0 ≡ at = omega arith in
+    record {
+      list = ap ids (rw z at (cands_written w v at k (omega arith) long 0 r (omega (arith, f.few)))) ∙ f.list;
+      few = f.few;
+      size = written_length w v at k (omega arith) long;
+      same = λ j o. outside_written w v at k (omega arith) long j (λ q. omega (arith, o q));
     }
 
 -- ---- marks are cleared
-pub record Clearing (marks₀ w : List ℕ) (at n : ℕ) (marks : List ℕ) (k : ℕ) : Type 0 where
-  pub goes : cleared marks (ids (cands w (at + 2 * k) (n - k))) ≡ cleared marks₀ (ids (cands w at n))
+pub record Clearing (marks₀ w marks : List ℕ) (k : ℕ) : Type 0 where
+  pub goes : cleared marks (ids (cands w (2 * k) (length w / 2 - k))) ≡ cleared marks₀ (ids (cands_of w))
   pub size : length marks ≡ length marks₀
 
-module _ {marks₀ w : List ℕ} {at n : ℕ} {marks : List ℕ} {k : ℕ} (f : Clearing marks₀ w at n marks k) where
-  pub clearing_inside : Inside (length marks₀) w at n → k < n → {u : ℕ} → u ≡ (cand w (at + 2 * k)).id → u < length marks
-  clearing_inside b h e = let r = cands_each (λ c. c.id < length marks₀) w at n b.each k h in omega (arith, r, f.size, e)
+pub clearing_none : (marks w : List ℕ) → Clearing marks w marks 0
+clearing_none marks w =
+    let e : 2 * 0 ≡ 0 = omega arith in
+    let z : length w / 2 - 0 ≡ length w / 2 = omega arith in
+    record { goes = rw (e, z); size = refl }
 
-  pub clearing_more : k < n → {u : ℕ} → u ≡ (cand w (at + 2 * k)).id → {marks' : List ℕ} → Killed marks u marks' → Clearing marks₀ w at n marks' (k + 1)
+module _ {marks₀ w marks : List ℕ} {k : ℕ} (f : Clearing marks₀ w marks k) where
+  pub clearing_inside : All (λ c. c.id < length marks₀) (cands_of w) → k < length w / 2 → {u : ℕ} → u ≡ (cand w (2 * k)).id → u < length marks
+  clearing_inside b h e = let r = front_each (λ c. c.id < length marks₀) w (length w / 2) b k h in omega (arith, r, f.size, e)
+
+  pub clearing_more : k < length w / 2 → {u : ℕ} → u ≡ (cand w (2 * k)).id → {marks' : List ℕ} → Killed marks u marks' → Clearing marks₀ w marks' (k + 1)
   clearing_more h {u} t {marks'} d =
       let s : marks' ≡ set marks u 0 = killed_marks d in
-      record { goes = rw (s, t) (rw (cands_cons w at n k h) at f.goes); size = rw s (length-set marks u 0) ∙ f.size }
+      record { goes = rw (s, t) (rw (front_cons w (length w / 2) k h) at f.goes); size = rw s (length-set marks u 0) ∙ f.size }
 
-  pub clearing_done : k ≡ n → marks ≡ cleared marks₀ (ids (cands w at n))
-  clearing_done h = let z : n - k ≡ 0 = omega arith in rw (cands_none w (at + 2 * k) (n - k) z) at f.goes
+  pub clearing_done : length w / 2 ≤ k → marks ≡ cleared marks₀ (ids (cands_of w))
+  clearing_done h = let z : length w / 2 - k ≡ 0 = omega arith in rw (cands_none w (2 * k) (length w / 2 - k) z) at f.goes
 
 -- ---- the lowest live slot
 -- dead slots are passed over

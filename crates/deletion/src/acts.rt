@@ -24,25 +24,30 @@ pub fn take_slots(graph: &Graph<'_>, ids: &[u32], scratch: &mut [u32]) -> Layout
     ensures { Taken (graph_of graph.now) ids.now scratch.old result scratch.new }
 {
     let mut at = lay_out(graph.rows.marks.len());
-    at.count = take_ids(ids, graph.rows.marks, scratch, at.from);
+    at.count = take_ids(
+        ids,
+        graph.rows.marks,
+        &mut scratch[at.from..at.from + 2 * ids.len()],
+    );
     take_rows(graph, scratch, at);
     at
 }
 
 impl GraphMut<'_> {
-    ghost use Rattle.std.specs.Prelude.{length};
+    ghost use Rattle.std.specs.Prelude.{◌<◌, length};
+    ghost use Rattle.lists.specs.Lists.{All};
+    ghost use Rattle.candidates.specs.Inner.Words.{cands_of};
     ghost use Rattle.row.specs.Row.{Together};
     ghost use Rattle.deletion.specs.Lent.{graph_mut_of, SameGraph};
-    ghost use Rattle.deletion.specs.Inner.Naming.{Inside};
     ghost use Rattle.deletion.specs.Inner.Acts.{AllFinished};
 
-    // The last act on the slots of the layout: the next version, and an empty row.
-    fn finish_all(&mut self, scratch: &[u32], at: Layout)
-        requires { Together (graph_mut_of self.old) × Inside (length self.old.marks.now) scratch.now at.from at.count }
-        ensures { AllFinished (graph_mut_of self.old) scratch.now at.from at.count (graph_mut_of self.new) × SameGraph self.old self.new }
+    // The last act on the slots of a list: the next version, and an empty row.
+    fn finish_all(&mut self, list: &[u32])
+        requires { Together (graph_mut_of self.old) × All (λ c. c.id < length self.old.marks.now) (cands_of list.now) }
+        ensures { AllFinished (graph_mut_of self.old) (cands_of list.now) (graph_mut_of self.new) × SameGraph self.old self.new }
     {
-        for k in 0..at.count {
-            let s = id_at(scratch, at.from, k) as usize;
+        for k in 0..list.len() / 2 {
+            let s = id_at(list, k) as usize;
             let targets = &mut *self.targets;
             let edges = &mut *self.edges;
             let versions = &mut *self.versions;
@@ -104,5 +109,5 @@ pub fn repair_rows(graph: &mut GraphMut<'_>, how: Repair, scratch: &mut [u32], a
         versions,
     };
     link_rows(&space, &mut rows, marks, how, scratch, at);
-    graph.finish_all(scratch, at);
+    graph.finish_all(&scratch[at.from..at.from + 2 * at.count]);
 }

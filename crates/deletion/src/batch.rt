@@ -28,8 +28,9 @@ pub fn delete_batch(
     let read = graph.read();
     let at = take_slots(&read, ids, scratch);
     let marks = &mut *graph.marks;
-    clear(marks, scratch, at);
-    let entry = new_entry(marks, how.entry, scratch, at);
+    let list = &scratch[at.from..at.from + 2 * at.count];
+    clear(marks, list);
+    let entry = new_entry(marks, how.entry, list);
     let how = Repair {
         entry,
         degree: how.degree.max(1),

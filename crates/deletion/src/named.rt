@@ -1,67 +1,66 @@
-// The slots that a delete empties, and what becomes of their marks and the entry. Candidates lie in words that C lends, so a list is a place and a number.
-ghost use Rattle.std.specs.Prelude.{◌≡◌, ◌+◌, ◌*◌, ◌≤◌, length};
+// The slots that a delete empties, and what becomes of their marks and the entry.
+ghost use Rattle.std.specs.Prelude.{◌≡◌, ◌*◌, ◌<◌, ◌≤◌, length};
+ghost use Rattle.lists.specs.Lists.{All};
 ghost use Rattle.candidates.specs.Candidates as Candidates;
-ghost use Rattle.candidates.specs.Inner.Words.{cands};
-ghost use Rattle.deletion.specs.Inner.Naming.{Gathered, Keyed, Risen, Emptied, Inside, cleared, lowest_live, entry_after};
+ghost use Rattle.candidates.specs.Candidates.{scored};
+ghost use Rattle.candidates.specs.Inner.Words.{cands_of};
+ghost use Rattle.deletion.specs.Inner.Naming.{Gathered, Risen, Listed, cleared, lowest_live, entry_after};
 
-use super::layout::Layout;
 use candidates::{has_id, id_at, keep_first, put, sort_by_distance};
 use slots::kill;
 use slots::marks::is_valid;
 
-// The live ones of `ids`, as candidates at `at`. Returns how many they are. Written by hand: with `filter` and `zip` over the words their number would still have to
-// be counted, so that is no plainer.
-fn gather(ids: &[u32], marks: &[u8], scratch: &mut [u32], at: usize) -> usize
-    requires { at + 2 * length ids.now ≤ length scratch.old }
-    ensures { Gathered marks.now ids.now scratch.old at result scratch.new }
+// The live ones of `ids`, as candidates at the front of a list. Returns how many they are. Written by hand: with `filter` and `zip` over the words their number would
+// still have to be counted, so that is no plainer.
+fn gather(ids: &[u32], marks: &[u8], list: &mut [u32]) -> usize
+    requires { 2 * length ids.now ≤ length list.old }
+    ensures { Gathered marks.now ids.now result list.new }
 {
     let mut n: usize = 0;
     for &id in ids {
         if is_valid(marks, id as usize) {
-            put(scratch, at + 2 * n, id, id);
+            put(list, n, id, id);
             n += 1;
         }
     }
     n
 }
 
-// Gives each of the `n` candidates at `at` its slot as its distance.
-fn key(words: &mut [u32], at: usize, n: usize)
-    requires { at + 2 * n ≤ length words.old }
-    ensures { Keyed words.old at n words.new }
+// Gives each candidate of a list its slot as its distance.
+fn key(list: &mut [u32])
+    ensures { cands_of list.new ≡ scored (λ x. x) (Candidates.ids (cands_of list.old)) }
 {
-    for k in 0..n {
-        let id = id_at(words, at, k);
-        put(words, at + 2 * k, id, id);
+    for k in 0..list.len() / 2 {
+        let id = id_at(list, k);
+        put(list, k, id, id);
     }
 }
 
-// Sorts the `n` candidates at `at` by their slots and keeps each slot once. Returns how many are left.
-pub fn sort_set(words: &mut [u32], at: usize, n: usize) -> usize
-    requires { at + 2 * n ≤ length words.old }
-    ensures { Risen words.old at n result words.new }
+// Sorts a list by its slots and keeps each slot once. Returns how many are left, at the front.
+pub fn sort_set(list: &mut [u32]) -> usize
+    ensures { Risen list.old result list.new }
 {
-    key(words, at, n);
-    sort_by_distance(words, at, n);
-    keep_first(words, at, n, n)
+    key(list);
+    sort_by_distance(list);
+    keep_first(list, list.len() / 2)
 }
 
-// The slots that a delete of `ids` empties: the live ones, rising, each once, as candidates at `at`. Returns how many they are.
-pub fn take_ids(ids: &[u32], marks: &[u8], scratch: &mut [u32], at: usize) -> usize
-    requires { at + 2 * length ids.now ≤ length scratch.old }
-    ensures { Emptied marks.now ids.now scratch.old at result scratch.new }
+// The slots that a delete of `ids` empties: the live ones, rising, each once, as candidates at the front of a list. Returns how many they are.
+pub fn take_ids(ids: &[u32], marks: &[u8], list: &mut [u32]) -> usize
+    requires { 2 * length ids.now ≤ length list.old }
+    ensures { Listed marks.now ids.now result list.new }
 {
-    let n = gather(ids, marks, scratch, at);
-    sort_set(scratch, at, n)
+    let n = gather(ids, marks, list);
+    sort_set(&mut list[..2 * n])
 }
 
-// Marks the slots of the layout dead.
-pub fn clear(marks: &mut [u8], scratch: &[u32], at: Layout)
-    requires { Inside (length marks.old) scratch.now at.from at.count }
-    ensures { marks.new ≡ cleared marks.old (Candidates.ids (cands scratch.now at.from at.count)) }
+// Marks the slots of a list dead.
+pub fn clear(marks: &mut [u8], list: &[u32])
+    requires { All (λ c. c.id < length marks.old) (cands_of list.now) }
+    ensures { marks.new ≡ cleared marks.old (Candidates.ids (cands_of list.now)) }
 {
-    for k in 0..at.count {
-        kill(marks, id_at(scratch, at.from, k) as usize);
+    for k in 0..list.len() / 2 {
+        kill(marks, id_at(list, k) as usize);
     }
 }
 
@@ -76,12 +75,12 @@ fn lowest(marks: &[u8], entry: u32) -> u32
     }
 }
 
-// The entry once the slots of the layout are dead.
-pub fn new_entry(marks: &[u8], entry: u32, scratch: &[u32], at: Layout) -> u32
-    requires { (length marks.now ≤ 65536) × (at.from + 2 * at.count ≤ length scratch.now) }
-    ensures { result ≡ entry_after marks.now entry (Candidates.ids (cands scratch.now at.from at.count)) }
+// The entry once the slots of a list are dead.
+pub fn new_entry(marks: &[u8], entry: u32, list: &[u32]) -> u32
+    requires { length marks.now ≤ 65536 }
+    ensures { result ≡ entry_after marks.now entry (Candidates.ids (cands_of list.now)) }
 {
-    if has_id(scratch, at.from, at.count, entry) {
+    if has_id(list, entry) {
         return lowest(marks, entry);
     }
     entry

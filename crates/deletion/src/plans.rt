@@ -1,5 +1,6 @@
-// The plans of a delete: the candidates of each, and its four counts. They lie in words that C lends, so a list is a place and a number.
+// The plans of a delete: the candidates of each, and its four counts.
 ghost use Rattle.std.specs.Prelude.{◌≡◌, ◌+◌, ◌<◌, ◌≤◌, length};
+ghost use Rattle.candidates.specs.Inner.Words.{cands_of};
 ghost use Rattle.slots.specs.Lent.{graph_of};
 ghost use Rattle.deletion.specs.Inner.Naming.{Inside};
 ghost use Rattle.deletion.specs.Inner.Plans.{Table, RowsTaken, refers, RowsIn, Passed, Collectable, Collects, counted, Makeable, PlansMade};
@@ -28,23 +29,24 @@ pub fn take_rows(graph: &Graph<'_>, scratch: &mut [u32], at: Layout)
     ensures { RowsTaken (graph_of graph.now) scratch.old at scratch.new }
 {
     for k in 0..at.count {
-        let s = id_at(scratch, at.from, k);
-        let n = live_scored(graph, s, scratch, at.plans + PLAN_WORDS * k);
+        let s = id_at(&scratch[at.from..], k);
+        let plan = at.plans + PLAN_WORDS * k;
+        let n = live_scored(graph, s, &mut scratch[plan..plan + PLAN_WORDS]);
         scratch[at.stats + COUNTS * k] = n as u32;
     }
 }
 
-// Of the `n` candidates at `at` the slots whose rows hold `id` in its present version, as candidates at `to`. Returns how many they are.
-// Written by hand: the words that are read are those that are written, so no iterator can go over them meanwhile.
-fn recover(graph: &Graph<'_>, id: u32, scratch: &mut [u32], at: usize, n: usize, to: usize) -> usize
-    requires { RowsIn (graph_of graph.now) scratch.old at n to }
-    ensures { Passed (refers (graph_of graph.now) id) scratch.old at n to result scratch.new }
+// The slots of a list whose rows hold `id` in its present version, as candidates of another list. Returns how many they are. Written by hand: with `filter` and `zip`
+// over the words their number would still have to be counted, so that is no plainer.
+fn recover(graph: &Graph<'_>, id: u32, list: &[u32], to: &mut [u32]) -> usize
+    requires { RowsIn (graph_of graph.now) (cands_of list.now) × (length list.now ≤ length to.old) }
+    ensures { Passed (refers (graph_of graph.now) id) (cands_of list.now) result to.new }
 {
     let mut m: usize = 0;
-    for k in 0..n {
-        let s = id_at(scratch, at, k);
+    for k in 0..list.len() / 2 {
+        let s = id_at(list, k);
         if graph.rows.holds(s as usize, id) {
-            put(scratch, to + 2 * m, s, s);
+            put(to, m, s, s);
             m += 1;
         }
     }
@@ -73,9 +75,10 @@ fn collect(
 {
     let query = graph.space.vector(s as usize);
     let n = search_pool(graph, query, how.entry, how.beam, scratch);
-    let q = recover(graph, s, scratch, 0, n, at + 2 * r);
-    let k = sort_set(scratch, at, r + q);
-    let m = keep_valid(scratch, at, k, graph.rows.marks, s);
+    let (found, plan) = scratch.split_at_mut(at);
+    let q = recover(graph, s, &found[..2 * n], &mut plan[2 * r..PLAN_WORDS]);
+    let k = sort_set(&mut plan[..2 * (r + q)]);
+    let m = keep_valid(&mut plan[..2 * k], graph.rows.marks, s);
     Collected {
         recovered: q,
         candidates: m,
@@ -98,7 +101,7 @@ pub fn make_plans(graph: &Graph<'_>, how: Repair, scratch: &mut [u32], at: Layou
     ensures { PlansMade (graph_of graph.now) how scratch.old at scratch.new }
 {
     for k in 0..at.count {
-        let s = id_at(scratch, at.from, k);
+        let s = id_at(&scratch[at.from..], k);
         let counts = at.stats + COUNTS * k;
         let r = scratch[counts] as usize;
         let c = collect(graph, s, how, scratch, at.plans + PLAN_WORDS * k, r);

@@ -14,6 +14,8 @@ use lib.ListN.{length, take, drop, get_or, set, replicate, length-set}
 use lib.Seq.{get_or-set_same, get_or-set_other}
 use Rattle.slots.specs.Scratch.{marks_at}
 use Rattle.candidates.specs.Inner.Words.{cand, cands, put, Outside}
+use Rattle.candidates.specs.Candidates.{Candidate}
+use Rattle.candidates.proofs.Parts.{cand_part, put_part}
 use Rattle.candidates.proofs.Words.{cands_push, put_length, put_outside, outside_none, outside_put}
 use Rattle.insertion.specs.declared.layout.Layout.{Layout}
 use Rattle.insertion.specs.Inner.Chains.{Repeated, head, at_slot, Chain, end, link, Chainable, Chained, incoming_at, Takeable, Took}
@@ -220,6 +222,10 @@ module _ {w₀ : List ℕ} {at : Layout} {n capacity : ℕ} {w : List ℕ} {k : 
       pub link_turn : Linking w₀ at n capacity (set (set w (at.nexts + j) (get_or w (marks_at + h) 0)) (marks_at + h) (k - 1)) (k - 1)
       link_turn = let z : k - 1 ≡ j = sym e in rw z (linking_more m j e h (q ∙ g))
 
+  -- the slot as it is read of the words from the plans on
+  pub plans_slot : 0 < k → (cand (take (length w - at.plans) (drop at.plans w)) (2 * (k - 1))).id ≡ (cand w (at.plans + 2 * (k - 1))).id
+  plans_slot m = ap (λ (c : Candidate). c.id) (cand_part w at.plans (length w - at.plans) (k - 1) (omega (arith, link_in m refl)))
+
   pub linking_done : k ≤ 0 → Chained w₀ at n capacity w
   linking_done h =
       let z : k ≡ 0 = omega arith in
@@ -290,6 +296,13 @@ module _ {w₀ : List ℕ} {at : Layout} {n t m : ℕ} {w : List ℕ} {r k : ℕ
     taking_in e =
         let o = q.spread in
         (omega (arith, o.plans_in, o.sources_in, o.nexts_in, o.ends_in), omega (arith, o.sources_in, o.nexts_in, o.ends_in), omega (arith, o.nexts_in, o.ends_in), omega (arith, f.size, q.room))
+
+    -- the words as they are read from the plans on, and written from the list on
+    pub plans_dist : {j : ℕ} → j ≡ k → (cand (take (length w - at.plans) (drop at.plans w)) (2 * j)).dist ≡ (cand w (at.plans + 2 * j)).dist
+    plans_dist {j} e = ap (λ (c : Candidate). c.dist) (cand_part w at.plans (length w - at.plans) j (omega (arith, (taking_in e).0, (taking_in e).3)))
+
+    pub list_put : (d s : ℕ) → put_mid at.list (length w - at.list) w (put (take (length w - at.list) (drop at.list w)) (2 * r) d s) ≡ put w (at.list + 2 * r) d s
+    list_put d s = put_part w at.list (length w - at.list) r d s (omega (arith, room_for)) (omega (arith, room_for))
 
     module _ {j d : ℕ} (e : j ≡ k) (y : d ≡ (cand w (at.plans + 2 * j)).dist) where
       abbrev appended : List ℕ

@@ -1,20 +1,22 @@
 -- The outgoing rows of a chunk, written one after the other. Assumes nothing.
-use Prim.Native.Nat.{ℕ, suc, ◌+◌, ◌-◌, ◌*◌, ◌≤◌, ◌<◌}
+use Prim.Native.Nat.{ℕ, suc, ◌+◌, ◌-◌, ◌*◌, ◌/◌, ◌≤◌, ◌<◌}
 use mathlib.Core.Path.{◌≡◌, refl, ap, ◌∙◌}
-use mathlib.Core.Logic.{inr}
-use mathlib.Core.List.{List}
+use mathlib.Core.List.{List, ◌++◌}
 use native.Mathlib.Numerals.{add-one}
 use native.Mathlib.Omega.{arith}
 use borrow.Author.Tests.{lt-ltb, le-ltb}
-use lib.ListN.{length, get_or}
+use Rattle.std.proofs.lemmas.List.{get_or-take, length-take-le, length-drop}
+use lib.ListN.{length, take, drop, get_or}
 use Rattle.lists.specs.Lists.{foldl, range}
 use Rattle.slots.specs.Scratch.{marks_at}
 use Rattle.slots.specs.Store.{Store, store_ops, arrays}
 use Rattle.slots.proofs.Places.{shape_fits}
 use Rattle.candidates.specs.Candidates.{ids}
-use Rattle.candidates.specs.Inner.Words.{cands}
+use Rattle.candidates.specs.Inner.Words.{cands, cands_of}
+use Rattle.candidates.proofs.Parts.{part_length, whole_part}
 use Rattle.candidates.proofs.Words.{cands_agree}
-use Rattle.row.specs.Row.{Together, index_of, Writable, WroteIds}
+use Rattle.row.specs.Row.{Together, index_of, Writable}
+use Rattle.slots.specs.Inner.Writing.{Wrote}
 use Rattle.row.specs.Lent.{held, SamePruner}
 use Rattle.row.specs.declared.pruner.Pruner.{Pruner}
 use Rattle.row.proofs.Kept.{pruner_none, pruner_then}
@@ -23,7 +25,7 @@ use Rattle.insertion.specs.Inner.Chains.{head}
 use Rattle.insertion.specs.Inner.Plans.{start_of, plan_cands}
 use Rattle.insertion.specs.Inner.Outgoing.{own_row, own_at, OwnRow, OutgoingRows}
 use Rattle.insertion.specs.Inner.Writing.{index_by, Written, Below}
-use Rattle.insertion.proofs.Same.{together_as, long_written, below_none, below_then}
+use Rattle.insertion.proofs.Same.{together_as, long_written, below_none, below_then, below_joined}
 
 -- ---- one slot; z is s as an index
 module _ (p : Pruner 0) (at : Layout) (n : ℕ) {s : ℕ} {w : List ℕ} (b e : ℕ) where
@@ -33,35 +35,40 @@ module _ (p : Pruner 0) (at : Layout) (n : ℕ) {s : ℕ} {w : List ℕ} (b e : 
   unnamed_not q h = let k : head w s < n = rw q at h in (λ entry. record { index = rw (lt-ltb _ _ k); same = pruner_none p }, below_none at.chosen w)
 
   module _ (h : s < length p.marks.now) (o : OwnRow p.rows.now.degree s w at b e) where
-    pub own_writable : Writable p.rows.now.degree p.rows.now.targets.now p.rows.now.edges.now s w (at.plans + 2 * b) (e - b) at.chosen
-    own_writable =
-        let r = shape_fits p.together.rows s h in
-        record {
-          targets_in = r.0;
-          edges_in = r.1;
-          inside = omega (arith, o.rising, o.plans_in, o.room);
-          ids_in = omega (arith, o.rising, o.few, o.room);
-          clear = inr (omega (arith, o.rising, o.plans_in));
-          below = omega (arith, o.rising, o.few, o.below);
-        }
+    pub own_bounds : (at.chosen ≤ length w) × (at.plans + 2 * e ≤ length (take at.chosen w)) × (e - b ≤ length (drop at.chosen w))
+    own_bounds = (omega (arith, o.room), omega (arith, o.plans_in, length-take-le at.chosen w (omega (arith, o.room))), omega (arith, o.few, o.room, length-drop at.chosen w))
 
-    module _ {targets edges w' : List ℕ}
-        (f : WroteIds p.rows.now.degree p.rows.now.targets.now p.rows.now.edges.now p.rows.now.versions.now s w (at.plans + 2 * b) (e - b) at.chosen targets edges w') where
+    pub own_list : (length (take (at.plans + 2 * e - (at.plans + 2 * b)) (drop (at.plans + 2 * b) (take at.chosen w))) / 2 ≡ e - b)
+        × (cands_of (take (at.plans + 2 * e - (at.plans + 2 * b)) (drop (at.plans + 2 * b) (take at.chosen w))) ≡ cands w (at.plans + 2 * b) (e - b))
+    own_list =
+        let k = at.plans + 2 * e - (at.plans + 2 * b) in
+        let l : length (take at.chosen w) ≡ at.chosen = length-take-le at.chosen w (omega (arith, o.room)) in
+        let m : at.plans + 2 * b + k ≤ length (take at.chosen w) = omega (arith, o.rising, o.plans_in) in (
+          omega (arith, part_length (take at.chosen w) (at.plans + 2 * b) k m, o.rising),
+          whole_part (take at.chosen w) (at.plans + 2 * b) k (e - b) m (omega (arith, o.rising))
+              ∙ cands_agree w (take at.chosen w) (at.plans + 2 * b) (e - b) (λ j x y. get_or-take at.chosen w j 0 (omega (arith, o.rising, o.plans_in))),
+        )
+
+    pub own_writable : Writable p.rows.now.degree p.rows.now.targets.now p.rows.now.edges.now s
+    own_writable = let r = shape_fits p.together.rows s h in record { targets_in = r.0; edges_in = r.1 }
+
+    module _ {targets edges : List ℕ}
+        (f : Wrote p.rows.now.degree p.rows.now.targets.now p.rows.now.edges.now p.rows.now.versions.now s (ids (cands_of (take (at.plans + 2 * e - (at.plans + 2 * b)) (drop (at.plans + 2 * b) (take at.chosen w))))) targets edges) where
       written : (entry : ℕ) → index_of p.alpha entry (arrays p.kept.now.space.dim p.rows.now.degree p.kept.now.space.vectors.now targets edges p.rows.now.versions.now p.marks.now)
           ≡ store_ops.write (index_by entry p) s (ids (cands w (at.plans + 2 * b) (e - b)))
-      written entry = (f.row.does p.kept.now.space.dim p.kept.now.space.vectors.now p.marks.now).does (index_by entry p) refl h
+      written entry = (f.does p.kept.now.space.dim p.kept.now.space.vectors.now p.marks.now).does (index_by entry p) refl h ∙ ap (λ cs. store_ops.write (index_by entry p) s (ids cs)) own_list.1
 
       pub unnamed_together : Together (arrays p.kept.now.space.dim p.rows.now.degree p.kept.now.space.vectors.now targets edges p.rows.now.versions.now p.marks.now)
       unnamed_together = together_as (long_written (held p) s _ p.together (written 0)) p.together
 
-      pub unnamed_written : {z : ℕ} → z ≡ s → n ≤ get_or w (marks_at + z) 0 → (entry : ℕ)
+      pub unnamed_written : (u : List ℕ) {z : ℕ} → length u ≡ length (drop at.chosen w) → z ≡ s → n ≤ get_or w (marks_at + z) 0 → (entry : ℕ)
           → (index_of p.alpha entry (arrays p.kept.now.space.dim p.rows.now.degree p.kept.now.space.vectors.now targets edges p.rows.now.versions.now p.marks.now)
           ≡ own_row w n (cands w (at.plans + 2 * b) (e - b)) (index_by entry p) s)
-          × Below at.chosen w w'
+          × Below at.chosen w (take at.chosen w ++ u)
       unfolding own_row
-      unnamed_written q k entry =
+      unnamed_written u t q k entry =
           let l : n ≤ head w s = rw q at k in
-          (rw (le-ltb _ _ l) (written entry), record { size = f.size; same = λ j l. f.same j (λ (x : at.chosen ≤ j). absurd (omega arith)) })
+          (rw (le-ltb _ _ l) (written entry), below_joined w u at.chosen (omega (arith, o.room)) t)
 
 -- ---- one slot after the other; b is where the candidates of the i-th plan begin
 pub record OutgoingUpTo (slots w₀ : List ℕ) (at : Layout) (n : ℕ) (p₀ p : Pruner 0) (w : List ℕ) (b i : ℕ) : Type 0 where

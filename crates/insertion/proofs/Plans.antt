@@ -1,12 +1,13 @@
 -- The plans of a chunk in the words: one plan, and one after the other. Assumes nothing.
-use Prim.Native.Nat.{ℕ, zero, suc, ◌+◌, ◌-◌, ◌*◌, max, ◌≤◌, ◌<◌}
+use Prim.Native.Nat.{ℕ, zero, suc, ◌+◌, ◌-◌, ◌*◌, ◌/◌, max, ◌≤◌, ◌<◌}
 use mathlib.Core.Path.{◌≡◌, refl, ap, sym, ◌∙◌, subst}
-use mathlib.Core.Logic.{inl}
-use mathlib.Core.List.{List}
+use mathlib.Core.Bool.{Bool, true}
+use mathlib.Core.List.{List, ◌++◌}
 use native.Mathlib.Decide.{dec_lt}
 use native.Mathlib.Numerals.{add-one}
 use native.Mathlib.Omega.{arith}
-use lib.ListN.{length, get_or, set, length-set}
+use lib.Ieee.{Float}
+use lib.ListN.{length, take, drop, get_or, set, length-set}
 use lib.Seq.{get_or-set_same, get_or-set_other}
 use Rattle.lists.specs.Lists.{All, part}
 use Rattle.lists.proofs.Parts.{before_next, fits_in}
@@ -14,13 +15,19 @@ use Rattle.vectors.specs.Space.{slot_distance, space}
 use Rattle.vectors.proofs.Distances.{length_part}
 use Rattle.slots.specs.Store.{is_valid, store_view}
 use Rattle.slots.specs.Lent.{graph_of}
-use Rattle.candidates.specs.Inner.Words.{cands, Small}
+use Rattle.candidates.specs.Inner.Words.{cands, cands_of, Small}
 use Rattle.candidates.proofs.Words.{cands_agree}
 use Rattle.walk.specs.Inner.Scratch as Walk
 use Rattle.walk.specs.Inner.Scratch.{Pool}
 use Rattle.prune.specs.Prune.{prune_scored}
 use Rattle.prune.specs.Inner.Selecting.{Ready, Pruned}
-use Rattle.prune.proofs.Pruned.{pruned_view, pruned_inside}
+use Rattle.prune.proofs.Pruned.{pruned_view}
+use Rattle.prune.proofs.Chosen.{chosen, chosen_live}
+use Rattle.slots.proofs.Places.{live_inside}
+use Rattle.lists.proofs.All.{all_map}
+use Rattle.candidates.proofs.Parts.{part_length, cands_front, cands_written, written_length, outside_written, both_written}
+use borrow.Rule.Slice.PartMut.{put_mid}
+use Rattle.std.proofs.lemmas.List.{get_or-take, length-take-le, length-drop}
 use Rattle.row.specs.Row.{index_of}
 use Rattle.insertion.specs.declared.layout.Layout.{Layout}
 use Rattle.insert.specs.Insert.{Plan, plan}
@@ -30,6 +37,39 @@ use Rattle.insertion.specs.Inner.Chains.{Repeated}
 use Rattle.insertion.specs.Inner.Plans.{Planned, start_of, Lies, Laid, AllPlanned}
 use Rattle.insertion.specs.Inner.Planning.{plan_by}
 use Rattle.insertion.proofs.Chaining.{Agrees}
+
+-- ---- a selection: r candidates that a slot selects from the k at word 0 lie at `to`, whose words and room for the degree change
+record Chose (degree : ℕ) (alpha : Float) (live : ℕ → Bool) (d : ℕ → ℕ → ℕ) (source : ℕ) (w : List ℕ) (k to r : ℕ) (w' : List ℕ) : Type 0 where
+  pub list : cands w' to r ≡ prune_scored degree alpha live d source (cands w 0 k)
+  pub count : r ≡ length (prune_scored degree alpha live d source (cands w 0 k))
+  pub few : r ≤ degree
+  pub size : length w' ≡ length w
+  pub same : (j : ℕ) → 2 * k ≤ j → (to ≤ j → to + 2 * degree ≤ j) → get_or w' j 0 ≡ get_or w j 0
+
+found_list : (w : List ℕ) (k to : ℕ) → 2 * k ≤ to → to ≤ length w → cands_of (take (2 * k) (take to w)) ≡ cands w 0 k
+found_list w k to h l =
+    let e : length (take to w) ≡ to = length-take-le to w l in
+    cands_front (take to w) k (omega arith) ∙ cands_agree w (take to w) 0 k (λ j _ m. get_or-take to w j 0 (omega arith))
+
+chose : {degree : ℕ} {alpha : Float} {live : ℕ → Bool} {d : ℕ → ℕ → ℕ} {source r : ℕ} (w : List ℕ) (k to : ℕ) (v u : List ℕ) → 2 * k ≤ to → to + 2 * degree ≤ length w
+    → length v ≡ length (take (2 * k) (take to w)) → length u ≡ length (take (2 * degree) (drop to w))
+    → Pruned (length (take (2 * degree) (drop to w)) / 2) alpha live d source (cands_of (take (2 * k) (take to w))) r u
+    → Chose degree alpha live d source w k to r (v ++ drop (2 * k) (take to w) ++ (u ++ drop (2 * degree) (drop to w)))
+chose {degree} {alpha} {live} {d} {source} {r} w k to v u h l m o f =
+    let e : length v ≡ 2 * k = omega (arith, m, length-take-le to w (omega arith), length-take-le (2 * k) (take to w) (omega (arith, length-take-le to w (omega arith)))) in
+    let q : length u ≡ 2 * degree = o ∙ part_length w to (2 * degree) l in
+    let n : length (take (2 * degree) (drop to w)) / 2 ≡ degree = omega (arith, part_length w to (2 * degree) l) in
+    let p : Pruned degree alpha live d source (cands w 0 k) r u = rw (n, found_list w k to h (omega arith)) at f in
+    let x = put_mid 0 (2 * k) w v in
+    let x_long : length x ≡ length w = written_length w v 0 (2 * k) (omega arith) e in
+    let z : to + 0 ≡ to = omega arith in
+    rw (both_written w to 0 (2 * k) (2 * degree) v u (omega arith) (omega arith) e) (record {
+      list = (rw z at (cands_written x u to (2 * degree) (omega arith) q 0 r (omega (arith, p.few)))) ∙ p.list;
+      count = p.count;
+      few = p.few;
+      size = written_length x u to (2 * degree) (omega arith) q ∙ x_long;
+      same = λ j a b. outside_written x u to (2 * degree) (omega arith) q j b ∙ outside_written w v 0 (2 * k) (omega arith) e j (λ _. omega arith);
+    })
 
 -- ---- one plan, of the slot at i, behind n candidates of the plans before
 module _ (p : Planner) {i n : ℕ} (w : List ℕ) (h : i < length p.slots.now) (few : n ≤ i * p.graph.rows.degree) (enough : Enough p.graph.rows.degree (length p.graph.rows.marks.now) w) where
@@ -75,20 +115,32 @@ module _ (p : Planner) {i n : ℕ} (w : List ℕ) (h : i < length p.slots.now) (
     found : k ≤ 1024
     found = omega (arith, f.few, e, p.beam_most, p.degree_most)
 
-    pub plan_ready : Ready p.graph.rows.degree p.graph.space.dim p.graph.space.vectors.now p.graph.rows.marks.now w₁ 0 k (p.at.plans + 2 * n)
-    plan_ready =
+    to_in : (2 * k ≤ p.at.plans + 2 * n) × (p.at.plans + 2 * n + 2 * p.graph.rows.degree ≤ length w₁)
+    to_in =
         let s = next_spread in
+        (omega (arith, found, p.parts.heads_in), omega (arith, f.size, s.plans_in, s.sources_in, s.nexts_in, s.ends_in, room))
+
+    pub plan_bounds : (p.at.plans + 2 * n ≤ length w₁) × (2 * k ≤ length (take (p.at.plans + 2 * n) w₁)) × (2 * p.graph.rows.degree ≤ length (drop (p.at.plans + 2 * n) w₁))
+    plan_bounds = let t = to_in in (omega arith, omega (arith, length-take-le (p.at.plans + 2 * n) w₁ (omega arith)), omega (arith, length-drop (p.at.plans + 2 * n) w₁))
+
+    pub plan_ready : Ready p.graph.space.dim p.graph.space.vectors.now p.graph.rows.marks.now (take (2 * k) (take (p.at.plans + 2 * n) w₁))
+    plan_ready =
         record {
           bytes = p.graph.bytes.long;
           few = p.graph.shape.few;
           short = p.graph.bytes.small;
-          inside = omega (arith, found, f.size, enough);
-          small = f.small;
-          room = record { inside = omega (arith, f.size, s.plans_in, s.sources_in, s.nexts_in, s.ends_in, room); apart = inl (omega (arith, found, p.parts.heads_in)) };
+          small = rw (found_list w₁ k (p.at.plans + 2 * n) to_in.0 (omega (arith, to_in.1))) f.small;
         }
 
-    module _ {id : ℕ} (d : id ≡ get_or p.slots.now i 0) {r : ℕ} {w₂ : List ℕ}
-        (g : Pruned p.graph.rows.degree p.how.alpha (is_valid p.graph.rows.marks.now) (slot_distance (space p.graph.space.dim p.graph.space.vectors.now)) id w₁ 0 k (p.at.plans + 2 * n) r w₂) where
+    module _ {id : ℕ} (d : id ≡ get_or p.slots.now i 0) {r : ℕ} (v u : List ℕ) (m : length v ≡ length (take (2 * k) (take (p.at.plans + 2 * n) w₁)))
+        (o : length u ≡ length (take (2 * p.graph.rows.degree) (drop (p.at.plans + 2 * n) w₁)))
+        (a : Pruned (length (take (2 * p.graph.rows.degree) (drop (p.at.plans + 2 * n) w₁)) / 2) p.how.alpha (is_valid p.graph.rows.marks.now) (slot_distance (space p.graph.space.dim p.graph.space.vectors.now)) id (cands_of (take (2 * k) (take (p.at.plans + 2 * n) w₁))) r u) where
+      abbrev w₂ : List ℕ
+      w₂ = v ++ drop (2 * k) (take (p.at.plans + 2 * n) w₁) ++ (u ++ drop (2 * p.graph.rows.degree) (drop (p.at.plans + 2 * n) w₁))
+
+      g : Chose p.graph.rows.degree p.how.alpha (is_valid p.graph.rows.marks.now) (slot_distance (space p.graph.space.dim p.graph.space.vectors.now)) id w₁ k (p.at.plans + 2 * n) r w₂
+      g = chose w₁ k (p.at.plans + 2 * n) v u to_in.0 to_in.1 m o a
+
       pub plan_fits : (p.at.sources + n + r ≤ length w₂) × (n + r ≤ 8388608)
       plan_fits =
           let s = next_spread in
@@ -129,8 +181,9 @@ module _ (p : Planner) {i n : ℕ} (w : List ℕ) (h : i < length p.slots.now) (
               count = ap (λ (x : ℕ). n + x) many;
               list = ap (cands w' (p.at.plans + 2 * n)) (sym many) ∙ new ∙ whole;
               few = omega (arith, g.few);
-              small = subst Small whole g.small;
-              inside = subst (All (λ c. c.id < length p.graph.rows.marks.now)) whole (pruned_inside p.graph.rows.marks.now g);
+              small = subst Small selected (chosen _ _ _ _ _ (cands w₁ 0 k) (λ c. c.dist ≤ 16777216) f.small);
+              inside = subst (All (λ c. c.id < length p.graph.rows.marks.now)) selected
+                  (all_map (λ c. is_valid p.graph.rows.marks.now c.id ≡ true) (λ c. c.id < length p.graph.rows.marks.now) (λ c. live_inside p.graph.rows.marks.now c.id) _ (chosen_live _ _ _ _ _ (cands w₁ 0 k)));
               owned = λ j l m.
                   let y : p.at.sources + n + (j - n) ≡ p.at.sources + j = omega arith in
                   get_or-set_other w₃ (p.at.ends + i) (p.at.sources + j) (n + r) 0 (λ (z : p.at.sources + j ≡ p.at.ends + i). absurd (omega (arith, g.few, s.sources_in, s.nexts_in)))
@@ -141,7 +194,7 @@ module _ (p : Planner) {i n : ℕ} (w : List ℕ) (h : i < length p.slots.now) (
               same = λ j x y u z.
                   get_or-set_other w₃ (p.at.ends + i) j (n + r) 0 z
                   ∙ c.same j (λ (t : p.at.sources + n ≤ j). omega (arith, g.few, u t))
-                  ∙ g.same j (λ _. omega (arith, found)) (λ (t : p.at.plans + 2 * n ≤ j). omega (arith, y t))
+                  ∙ g.same j (omega (arith, found)) (λ (t : p.at.plans + 2 * n ≤ j). omega (arith, y t))
                   ∙ f.same j (λ _. omega (arith, x));
             }
 

@@ -1,9 +1,10 @@
 -- What stays the same: the lengths of slices that are written, an inserter's slices, a pruner, words below one. Assumes nothing.
 use Prim.Native.Nat.{ℕ, ◌≤◌, ◌<◌}
 use mathlib.Core.Path.{◌≡◌, refl, sym, ◌∙◌, subst}
-use mathlib.Core.List.{List, []}
+use mathlib.Core.List.{List, [], ◌++◌}
 use native.Mathlib.Omega.{arith}
-use lib.ListN.{length}
+use Rattle.std.proofs.lemmas.List.{get_or_append_left, get_or-take, length-take-le, length-append, length-drop}
+use lib.ListN.{length, take, drop}
 use lib.Ieee.{Float}
 use Rattle.slots.specs.Store.{Arrays, Shaped, arrays, write_vector, write_neighbors, filled, store_ops}
 use Rattle.slots.specs.Inner.Writing.{Filled}
@@ -92,6 +93,15 @@ below_none e w = record { size = refl; same = λ j l. refl }
 
 pub below_then : {e : ℕ} {w w' w'' : List ℕ} → Below e w w' → Below e w' w'' → Below e w w''
 below_then f g = record { size = g.size ∙ f.size; same = λ j l. g.same j l ∙ f.same j l }
+
+-- what lies behind word m is written
+pub below_joined : (w u : List ℕ) (m : ℕ) → m ≤ length w → length u ≡ length (drop m w) → Below m w (take m w ++ u)
+below_joined w u m h e =
+    let l : length (take m w) ≡ m = length-take-le m w h in
+    record {
+      size = length-append (take m w) u ∙ omega (arith, l, e, length-drop m w);
+      same = λ j k. get_or_append_left (take m w) u 0 j (omega arith) ∙ get_or-take m w j 0 k;
+    }
 
 pub below_less : {d e : ℕ} {w w' : List ℕ} → d ≤ e → Below e w w' → Below d w w'
 below_less h f = record { size = f.size; same = λ j l. f.same j (omega arith) }

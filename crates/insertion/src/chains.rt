@@ -13,7 +13,7 @@ fn link(scratch: &mut [u32], at: Layout, n: u32, capacity: usize)
 {
     for k in (0..n).rev() {
         let j = k as usize;
-        let head = MARKS + candidates::id_at(scratch, at.plans, j) as usize;
+        let head = MARKS + candidates::id_at(&scratch[at.plans..], j) as usize;
         scratch[at.nexts + j] = scratch[head];
         scratch[head] = k;
     }
@@ -39,9 +39,9 @@ pub fn take_incoming(scratch: &mut [u32], at: Layout, n: u32, t: usize, m: usize
     // A `for` is no plainer: the chain is followed from one candidate to the next, not counted.
     while k < n {
         let j = k as usize;
-        let dist = candidates::dist_at(scratch, at.plans, j);
+        let dist = candidates::dist_at(&scratch[at.plans..], j);
         let source = scratch[at.sources + j];
-        candidates::put(scratch, at.list + 2 * r, dist, source);
+        candidates::put(&mut scratch[at.list..], r, dist, source);
         r += 1;
         k = scratch[at.nexts + j];
     }

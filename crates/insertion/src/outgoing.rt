@@ -23,7 +23,13 @@ fn write_unnamed(
 {
     let at = plans.at;
     if plans.n <= scratch[MARKS + s as usize] {
-        write_ids(pruner.rows, s, scratch, at.plans + 2 * b, e - b, at.chosen);
+        let (words, to) = scratch.split_at_mut(at.chosen);
+        write_ids(
+            pruner.rows,
+            s,
+            &words[at.plans + 2 * b..at.plans + 2 * e],
+            to,
+        );
     }
 }
 

@@ -49,17 +49,10 @@ impl Planner<'_, '_, '_> {
         let id = self.slots[i];
         let k = search_pool(graph, given.vector(i), self.how.entry, width, scratch);
         let mut kept = Kept::<0>::new(graph.space);
-        let r = prune::prune_scored(
-            graph.rows.degree,
-            self.how.alpha,
-            &mut kept,
-            graph.rows.marks,
-            id,
-            scratch,
-            0,
-            k,
-            at.plans + 2 * n,
-        );
+        let (words, plans) = scratch.split_at_mut(at.plans + 2 * n);
+        let found = &mut words[..2 * k];
+        let out = &mut plans[..2 * graph.rows.degree];
+        let r = prune::prune_scored(self.how.alpha, &mut kept, graph.rows.marks, id, found, out);
         let end = n + r;
         scratch[at.sources + n..at.sources + end].fill(id);
         scratch[at.ends + i] = end as u32;

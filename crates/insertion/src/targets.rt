@@ -20,13 +20,18 @@ fn renew(pruner: &mut Pruner<'_, '_, '_, '_, '_, 0>, plans: &Plans<'_>, s: u32, 
     }
     let at = plans.at;
     let graph = pruner.graph();
-    let k = live_scored(&graph, s, scratch, at.list);
+    let k = live_scored(&graph, s, &mut scratch[at.list..at.chosen]);
     let m = take_incoming(scratch, at, plans.n, t, k);
-    pruner.write_pruned(s, scratch, at.list, m, at.chosen);
+    let (front, out) = scratch.split_at_mut(at.chosen);
+    pruner.write_pruned(s, &mut front[at.list..at.list + 2 * m], out);
 }
 
 // Works out and writes the row of each slot that a plan names, in one sweep over the slots.
-pub fn write_named(pruner: &mut Pruner<'_, '_, '_, '_, '_, 0>, plans: &Plans<'_>, scratch: &mut [u32])
+pub fn write_named(
+    pruner: &mut Pruner<'_, '_, '_, '_, '_, 0>,
+    plans: &Plans<'_>,
+    scratch: &mut [u32],
+)
     requires { Renewable pruner.old.rows.now.degree (length pruner.old.marks.now) scratch.old plans.now.at plans.now.n }
     ensures { (entry : ℕ) → Written entry pruner.old (foldl (renewed_at scratch.old plans.now.at plans.now.n) (index_by entry pruner.old) (range 0 (length pruner.old.marks.now))) pruner.new }
 {

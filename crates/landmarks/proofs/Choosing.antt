@@ -12,7 +12,7 @@ use Rattle.lists.proofs.All.{by_cases}
 use Rattle.lists.proofs.Front.{front_snoc}
 use Rattle.candidates.specs.Candidates.{Candidate}
 use Rattle.candidates.specs.Inner.Words.{pair, cand, cands}
-use Rattle.candidates.proofs.Words.{cands_none, cands_cons, cands_length}
+use Rattle.candidates.proofs.Words.{cands_none, front_cons, cands_length}
 use Rattle.vectors.specs.Lent.{HasVector}
 use Rattle.vectors.specs.declared.Space.{Space}
 use Rattle.landmarks.specs.Inner.Choices.{farthest_from, farthest, drawn, chosen, Listed, Drew, Fronted}
@@ -20,7 +20,7 @@ use Rattle.landmarks.proofs.Drawing.{all_drawn, drew_listed}
 
 -- ---- the farthest: of the candidates before place i it is the pair of best and id
 pub record Comparing (w : List ℕ) (n best id i : ℕ) : Type 0 where
-  pub goes : (farthest_from (pair best id) (cands w (0 + 2 * i) (n - i))).id ≡ farthest (cands w 0 n)
+  pub goes : (farthest_from (pair best id) (cands w (2 * i) (n - i))).id ≡ farthest (cands w 0 n)
 
 pub step_farther : (a c : Candidate) (cs : List Candidate) → ltb c.dist a.dist ≡ false → farthest_from a (c ∷ cs) ≡ farthest_from c cs
 step_farther a c cs e = ap (λ (b : Bool). farthest_from (cond b a c) cs) e
@@ -29,27 +29,27 @@ step_nearer : (a c : Candidate) (cs : List Candidate) → ltb c.dist a.dist ≡ 
 step_nearer a c cs e = ap (λ (b : Bool). farthest_from (cond b a c) cs) e
 
 module _ {w : List ℕ} {n best id i : ℕ} (f : Comparing w n best id i) where
-  later : i < n → (farthest_from (pair best id) (cand w (0 + 2 * i) ∷ cands w (0 + 2 * (i + 1)) (n - (i + 1)))).id ≡ farthest (cands w 0 n)
-  later h = ap (λ (cs : List Candidate). (farthest_from (pair best id) cs).id) (sym (cands_cons w 0 n i h)) ∙ f.goes
+  later : i < n → (farthest_from (pair best id) (cand w (2 * i) ∷ cands w (2 * (i + 1)) (n - (i + 1)))).id ≡ farthest (cands w 0 n)
+  later h = ap (λ (cs : List Candidate). (farthest_from (pair best id) cs).id) (sym (front_cons w n i h)) ∙ f.goes
 
-  pub comparing_farther : {d s : ℕ} → i < n → d ≡ get_or w (0 + 2 * i) 0 → s ≡ get_or w (0 + 2 * i + 1) 0 → best ≤ d → Comparing w n d s (i + 1)
+  pub comparing_farther : {d s : ℕ} → i < n → d ≡ get_or w (2 * i) 0 → s ≡ get_or w (2 * i + 1) 0 → best ≤ d → Comparing w n d s (i + 1)
   comparing_farther {d} {s} h e g l =
-      let k : best ≤ get_or w (0 + 2 * i) 0 = omega arith in
+      let k : best ≤ get_or w (2 * i) 0 = omega arith in
       record {
-        goes = rw (e, g) (ap (λ (c : Candidate). c.id) (sym (step_farther (pair best id) (cand w (0 + 2 * i)) (cands w (0 + 2 * (i + 1)) (n - (i + 1))) (le-ltb (get_or w (0 + 2 * i) 0) best k))) ∙ later h);
+        goes = rw (e, g) (ap (λ (c : Candidate). c.id) (sym (step_farther (pair best id) (cand w (2 * i)) (cands w (2 * (i + 1)) (n - (i + 1))) (le-ltb (get_or w (2 * i) 0) best k))) ∙ later h);
       }
 
-  pub comparing_nearer : {d : ℕ} → i < n → d ≡ get_or w (0 + 2 * i) 0 → d < best → Comparing w n best id (i + 1)
+  pub comparing_nearer : {d : ℕ} → i < n → d ≡ get_or w (2 * i) 0 → d < best → Comparing w n best id (i + 1)
   comparing_nearer {d} h e l =
-      let k : get_or w (0 + 2 * i) 0 < best = omega arith in
+      let k : get_or w (2 * i) 0 < best = omega arith in
       record {
-        goes = ap (λ (c : Candidate). c.id) (sym (step_nearer (pair best id) (cand w (0 + 2 * i)) (cands w (0 + 2 * (i + 1)) (n - (i + 1))) (lt-ltb (get_or w (0 + 2 * i) 0) best k))) ∙ later h;
+        goes = ap (λ (c : Candidate). c.id) (sym (step_nearer (pair best id) (cand w (2 * i)) (cands w (2 * (i + 1)) (n - (i + 1))) (lt-ltb (get_or w (2 * i) 0) best k))) ∙ later h;
       }
 
   pub comparing_done : n ≤ i → id ≡ farthest (cands w 0 n)
   comparing_done h =
       let z : n - i ≡ 0 = omega arith in
-      rw (cands_none w (0 + 2 * i) (n - i) z) at f.goes
+      rw (cands_none w (2 * i) (n - i) z) at f.goes
 
 farthest_all : (P : Candidate → Type 0) (c : Candidate) (cs : List Candidate) → P c → All P cs → P (farthest_from c cs)
 farthest_all P c [] h k = h

@@ -16,11 +16,10 @@ use Rattle.std.proofs.lemmas.List.{at_drop_more, drop_all}
 use Rattle.vectors.specs.Space.{Measured}
 use Rattle.candidates.specs.Candidates.{Candidate, scored}
 use Rattle.candidates.specs.Inner.Words.{pair, cands, put}
-use Rattle.candidates.proofs.Words.{cands_none, cands_cons, cands_put, put_length}
+use Rattle.candidates.proofs.Words.{cands_none, front_cons, cands_put, put_length, front_push}
 use Rattle.landmarks.specs.Inner.Samples.{far}
 use Rattle.vectors.specs.Lent.{HasVector}
 use Rattle.vectors.specs.declared.Space.{Space}
-use Rattle.landmarks.proofs.Sampling.{push}
 use Rattle.landmarks.specs.Inner.Choices.{drawn, drawn_all, Listed, Drew}
 
 pub all_drawn : (P : ℕ → Type 0) (d : ℕ → ℕ → ℕ) (next : ℕ) (cs : List Candidate) → All (λ c. P c.id) cs → All (λ c. P c.id) (drawn d next cs)
@@ -32,8 +31,8 @@ all_drawn P d next (c ∷ cs) h =
 -- ---- one reference: k candidates are looked at, m of them kept
 pub record Drawing (space : Space) (d : ℕ → ℕ → ℕ) (next : ℕ) (w₀ : List ℕ) (n : ℕ) (w : List ℕ) (m k : ℕ) : Type 0 where
   pub within : m ≤ k
-  pub goes : cands w 0 m ++ drawn d next (cands w (0 + 2 * k) (n - k)) ≡ drawn d next (cands w₀ 0 n)
-  pub inside : All (λ c. HasVector space c.id) (cands w (0 + 2 * k) (n - k))
+  pub goes : cands w 0 m ++ drawn d next (cands w (2 * k) (n - k)) ≡ drawn d next (cands w₀ 0 n)
+  pub inside : All (λ c. HasVector space c.id) (cands w (2 * k) (n - k))
   pub near : All (λ c. c.dist ≤ 16646400) (cands w 0 m)
   pub size : length w ≡ length w₀
 
@@ -41,37 +40,37 @@ pub drawing_none : {space : Space} (d : ℕ → ℕ → ℕ) (next : ℕ) {w : L
     → Drawing space d next w n w 0 0
 drawing_none d next {w} {n} f =
     let e : n - 0 ≡ n = omega arith in
-    let g : 0 + 2 * 0 ≡ 0 = omega arith in
+    let g : 2 * 0 ≡ 0 = omega arith in
     record { within = omega arith; goes = rw (cands_none w 0 0 refl, e, g); inside = rw (e, g) f.inside; near = rw (cands_none w 0 0 refl) tt; size = refl }
 
 module _ {space : Space} {d : ℕ → ℕ → ℕ} {next : ℕ} {w₀ : List ℕ} {n : ℕ} {w : List ℕ} {m k : ℕ} (f : Drawing space d next w₀ n w m k) where
-  pub drawing_inside : {id : ℕ} → k < n → id ≡ get_or w (0 + 2 * k + 1) 0 → HasVector space id
-  drawing_inside h e = rw e (rw (cands_cons w 0 n k h) at f.inside).0
+  pub drawing_inside : {id : ℕ} → k < n → id ≡ get_or w (2 * k + 1) 0 → HasVector space id
+  drawing_inside h e = rw e (rw (front_cons w n k h) at f.inside).0
 
-  pub drawing_take : {dist id y x : ℕ} → 2 * n ≤ length w₀ → k < n → dist ≡ get_or w (0 + 2 * k) 0 → id ≡ get_or w (0 + 2 * k + 1) 0 → (id ≡ next → ⊥)
+  pub drawing_take : {dist id y x : ℕ} → 2 * n ≤ length w₀ → k < n → dist ≡ get_or w (2 * k) 0 → id ≡ get_or w (2 * k + 1) 0 → (id ≡ next → ⊥)
       → Measured (d id next) y → x ≡ min dist y → Drawing space d next w₀ n (put w (2 * m) x id) (m + 1) (k + 1)
   drawing_take {dist} {id} {y} {x} l h e g q p r =
       let i : 2 * m + 1 < length w = omega (arith, f.within, f.size) in
-      let z : eqb (get_or w (0 + 2 * k + 1) 0) next ≡ false = ne_eqb _ next (λ o. q (g ∙ o)) in
-      let y_is : y ≡ d (get_or w (0 + 2 * k + 1) 0) next = p.equals ∙ rw g in
-      let x_is : x ≡ min (get_or w (0 + 2 * k) 0) (d (get_or w (0 + 2 * k + 1) 0) next) = rw (r, y_is, e) in
+      let z : eqb (get_or w (2 * k + 1) 0) next ≡ false = ne_eqb _ next (λ o. q (g ∙ o)) in
+      let y_is : y ≡ d (get_or w (2 * k + 1) 0) next = p.equals ∙ rw g in
+      let x_is : x ≡ min (get_or w (2 * k) 0) (d (get_or w (2 * k + 1) 0) next) = rw (r, y_is, e) in
       let small : x ≤ 16646400 = omega (arith, p.bound) in
-      let o : cands (put w (2 * m) x id) (0 + 2 * (k + 1)) (n - (k + 1)) ≡ cands w (0 + 2 * (k + 1)) (n - (k + 1)) = cands_put w (2 * m) x id (0 + 2 * (k + 1)) (n - (k + 1)) (λ _. omega (arith, f.within)) in
+      let o : cands (put w (2 * m) x id) (2 * (k + 1)) (n - (k + 1)) ≡ cands w (2 * (k + 1)) (n - (k + 1)) = cands_put w (2 * m) x id (2 * (k + 1)) (n - (k + 1)) (λ _. omega (arith, f.within)) in
       record {
         within = omega (arith, f.within);
-        goes = rw (push w x id m i, append_assoc, o, x_is, g) (rw (cands_cons w 0 n k h, z) at f.goes);
-        inside = rw o (rw (cands_cons w 0 n k h) at f.inside).1;
-        near = rw (push w x id m i) (all_append (λ c. c.dist ≤ 16646400) (cands w 0 m) (pair x id ∷ []) f.near (small, tt));
+        goes = rw (front_push w x id m i, append_assoc, o, x_is, g) (rw (front_cons w n k h, z) at f.goes);
+        inside = rw o (rw (front_cons w n k h) at f.inside).1;
+        near = rw (front_push w x id m i) (all_append (λ c. c.dist ≤ 16646400) (cands w 0 m) (pair x id ∷ []) f.near (small, tt));
         size = put_length w (2 * m) x id ∙ f.size;
       }
 
-  pub drawing_skip : {id : ℕ} → k < n → id ≡ get_or w (0 + 2 * k + 1) 0 → id ≡ next → Drawing space d next w₀ n w m (k + 1)
+  pub drawing_skip : {id : ℕ} → k < n → id ≡ get_or w (2 * k + 1) 0 → id ≡ next → Drawing space d next w₀ n w m (k + 1)
   drawing_skip {id} h g q =
-      let z : eqb (get_or w (0 + 2 * k + 1) 0) next ≡ true = eq-eqb _ next (sym g ∙ q) in
+      let z : eqb (get_or w (2 * k + 1) 0) next ≡ true = eq-eqb _ next (sym g ∙ q) in
       record {
         within = omega (arith, f.within);
-        goes = rw (cands_cons w 0 n k h, z) at f.goes;
-        inside = (rw (cands_cons w 0 n k h) at f.inside).1;
+        goes = rw (front_cons w n k h, z) at f.goes;
+        inside = (rw (front_cons w n k h) at f.inside).1;
         near = f.near;
         size = f.size;
       }
@@ -79,7 +78,7 @@ module _ {space : Space} {d : ℕ → ℕ → ℕ} {next : ℕ} {w₀ : List ℕ
   pub drawing_done : k ≤ n → n ≤ k → Drew w₀ n (drawn d next (cands w₀ 0 n)) w m
   drawing_done b h =
       let z : n - k ≡ 0 = omega arith in
-      record { list = rw (cands_none w (0 + 2 * k) (n - k) z, append-nil) at f.goes; within = omega (arith, f.within); near = f.near; size = f.size }
+      record { list = rw (cands_none w (2 * k) (n - k) z, append-nil) at f.goes; within = omega (arith, f.within); near = f.near; size = f.size }
 
 -- what is left can be drawn to the next one
 pub drew_listed : {space : Space} (d : ℕ → ℕ → ℕ) (next : ℕ) {w : List ℕ} {n : ℕ} {w' : List ℕ} {r : ℕ} → Listed space w n

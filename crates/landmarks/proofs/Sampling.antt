@@ -2,7 +2,7 @@
 use Prim.Native.Nat.{ℕ, ◌+◌, ◌-◌, ◌*◌, ◌≤◌, ◌<◌}
 use mathlib.Core.Bool.{Bool, true, false, ◌&&◌, cond}
 use mathlib.Core.Path.{◌≡◌, refl, ap, sym, ◌∙◌}
-use mathlib.Core.List.{List, [], ◌∷◌, ◌++◌, append_assoc, append-nil}
+use mathlib.Core.List.{List, [], ◌++◌, append_assoc, append-nil}
 use native.Mathlib.Omega.{arith}
 use borrow.Author.Tests.{lt-ltb, le-ltb}
 use lib.Dec.{ltb}
@@ -11,16 +11,10 @@ use Rattle.lists.specs.Lists.{All, filter, range}
 use Rattle.lists.proofs.All.{by_cases, all_append}
 use Rattle.lists.proofs.Ranges.{range_cons, range_none, filtered_below}
 use Rattle.candidates.specs.Candidates.{scored}
-use Rattle.candidates.specs.Inner.Words.{pair, cands, put}
-use Rattle.candidates.proofs.Words.{cands_none, cands_length, cands_push, put_length}
+use Rattle.candidates.specs.Inner.Words.{cands, put}
+use Rattle.candidates.proofs.Words.{cands_none, cands_length, front_push, put_length}
 use Rattle.candidates.proofs.Scored.{scored_append, scored_length}
 use Rattle.landmarks.specs.Inner.Samples.{far, sampled, sample_by, sample_words, Sampled, Taken}
-
--- ---- one candidate more
-pub push : (w : List ℕ) (d s m : ℕ) → 2 * m + 1 < length w → cands (put w (2 * m) d s) 0 (m + 1) ≡ cands w 0 m ++ (pair d s ∷ [])
-push w d s m h =
-    let e : 2 * m ≡ 0 + 2 * m = omega arith in
-    rw e (cands_push w d s 0 m (omega (arith, h)))
 
 -- ---- two tests of a slot
 pub both_hold : {t r u v : Bool} → t ≡ r → t ≡ true → u ≡ v → u ≡ true → (r && v) ≡ true
@@ -44,7 +38,7 @@ module _ {p : ℕ → Bool} {capacity : ℕ} {w₀ : List ℕ} {n : ℕ} {w : Li
       let k : 2 * m + 1 < length w = omega (arith, f.within, f.size) in
       record {
         within = omega (arith, f.within);
-        goes = rw (push w 4294967295 s m k, append_assoc) (rw (range_cons capacity s h, e) at f.goes);
+        goes = rw (front_push w 4294967295 s m k, append_assoc) (rw (range_cons capacity s h, e) at f.goes);
         size = put_length w (2 * m) 4294967295 s ∙ f.size;
       }
 

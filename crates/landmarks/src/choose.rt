@@ -21,10 +21,10 @@ fn farthest_id(words: &[u32], n: usize) -> u32
     let mut best: u32 = 0;
     let mut id: u32 = 0;
     for i in 0..n {
-        let dist = dist_at(words, 0, i);
+        let dist = dist_at(words, i);
         if best <= dist {
             best = dist;
-            id = id_at(words, 0, i);
+            id = id_at(words, i);
         }
     }
     id
@@ -37,11 +37,11 @@ fn draw_near(space: &Space<'_>, next: u32, words: &mut [u32], n: usize) -> usize
 {
     let mut m: usize = 0;
     for k in 0..n {
-        let dist = dist_at(words, 0, k);
-        let id = id_at(words, 0, k);
+        let dist = dist_at(words, k);
+        let id = id_at(words, k);
         if id != next {
             let d = slot_distance(space, id as usize, next as usize);
-            put(words, 2 * m, dist.min(d), id);
+            put(words, m, dist.min(d), id);
             m += 1;
         }
     }

@@ -37,7 +37,7 @@ where
     let mut m = n;
     for s in 0..free.marks.len() {
         if takes(s) && free.has(s as u32) {
-            put(words, 2 * m, FAR, s as u32);
+            put(words, m, FAR, s as u32);
             m += 1;
         }
     }

@@ -1,5 +1,5 @@
 -- Links applied to the stored rows: a row is read with distances, takes a target, is pruned and written; link follows link. Assumes nothing.
-use Prim.Native.Nat.{ℕ, ◌+◌, ◌*◌, ◌≤◌, ◌<◌}
+use Prim.Native.Nat.{ℕ, ◌+◌, ◌*◌, ◌/◌, ◌≤◌, ◌<◌}
 use mathlib.Core.Bool.{Bool, true, false, cond}
 use mathlib.Core.Path.{◌≡◌, refl, ap, sym, ◌∙◌, subst}
 use mathlib.Core.List.{List, [], ◌∷◌, ◌++◌, map-append, append_assoc, append-nil}
@@ -12,8 +12,10 @@ use Rattle.lists.proofs.Places.{all_at}
 use Rattle.lists.proofs.Ranges.{foldl_append}
 use Rattle.vectors.specs.Space.{Measured, slot_distance, space}
 use Rattle.candidates.specs.Candidates.{Candidate, scored, ids}
-use Rattle.candidates.specs.Inner.Words.{pair, cand, cands, put}
-use Rattle.candidates.proofs.Words.{cands_snoc, cands_push, put_length, put_outside, outside_none, outside_then}
+use Rattle.candidates.specs.Inner.Words.{pair, cand, cands, cands_of, put, Small, Outside}
+use Rattle.candidates.proofs.Parts.{cands_front}
+use Rattle.lists.proofs.All.{all_append}
+use Rattle.candidates.proofs.Words.{front_snoc, front_push}
 use Rattle.candidates.proofs.Scored.{ids_scored, scored_append}
 use Rattle.slots.specs.View.{live_neighbors}
 use Rattle.slots.specs.Store.{Arrays, Store, vector_of, store_view, store_ops, write_neighbors}
@@ -27,18 +29,24 @@ use Rattle.repair.specs.Repair.{Link, insert_and_prune}
 use Rattle.repair.proofs.Sources.{both_ways}
 use Rattle.std.proofs.lemmas.List.{take_more}
 use Rattle.links.specs.declared.span.Pair.{Pair}
-use Rattle.links.specs.Inner.Linking.{between, apply_link, link, from, from_each, by_source, pairs_of, link_words, Room, Pairs, Joined, Applied, Made}
+use Rattle.links.specs.Inner.Linking.{between, apply_link, link, from, from_each, by_source, pairs_of, link_words, Pairs, Joined, Linked, Applied, Made}
 
 -- ---- a target is added
-module _ {dim : ℕ} {vectors : List ℕ} {s t d : ℕ} (m : Measured (between dim vectors s t) d) {w : List ℕ} {at n : ℕ} {b : Bool} (k : b ≡ elem t (ids (cands w at n))) where
-  pub joined_new : b ≡ false → at + 2 * n + 2 ≤ length w → Joined dim vectors s t w at n (n + 1) (put w (at + 2 * n) d t)
-  joined_new h l =
+-- to the n candidates that were looked through
+found : (t : ℕ) (w : List ℕ) (n : ℕ) {b : Bool} → 2 * n + 2 ≤ length w → b ≡ elem t (ids (cands_of (take (2 * n) w))) → b ≡ elem t (ids (cands w 0 n))
+found t w n l k = k ∙ ap (λ (cs : List Candidate). elem t (ids cs)) (cands_front w n (omega arith))
+
+module _ {dim : ℕ} {vectors : List ℕ} {s t d : ℕ} (m : Measured (between dim vectors s t) d) (w : List ℕ) (n : ℕ) {b : Bool} (l : 2 * n + 2 ≤ length w) (k : b ≡ elem t (ids (cands_of (take (2 * n) w)))) where
+  pub joined_old : b ≡ true → Joined dim vectors s t w n n w
+  joined_old h =
+      record { list = rw (sym (found t w n l k) ∙ h); few = omega arith; near = omega (arith, m.equals, m.bound) }
+
+  pub joined_new : b ≡ false → Joined dim vectors s t w n (n + 1) (put w (2 * n) d t)
+  joined_new h =
       record {
-        list = rw (sym k ∙ h, cands_push w d t at n (omega arith), m.equals);
+        list = rw (sym (found t w n l k) ∙ h, front_push w d t n (omega arith), m.equals);
         few = omega arith;
         near = omega (arith, m.equals, m.bound);
-        size = put_length w (at + 2 * n) d t;
-        same = put_outside w (at + 2 * n) d t;
       }
 
 -- ---- a link is applied
@@ -57,45 +65,34 @@ pub view_between : (alpha : Float) (entry : ℕ) (a : Arrays) → between a.dim 
 unfolding slot_distance space store_view vector_of
 view_between alpha entry a = refl
 
-module _ {a : Arrays} {s : ℕ} {w : List ℕ} {at n : ℕ} {w₁ : List ℕ} (f : LiveScored a s w at n w₁) where
-  module _ {t m : ℕ} {w₂ : List ℕ} (j : Joined a.dim a.vectors s t w₁ at n m w₂) where
-    joined_list : (alpha : Float) (entry : ℕ) → let v = store_view (index_of alpha entry a) in cands w₂ at m ≡ scored (slot_distance v.space s) (with_target t (live_neighbors v s))
-    joined_list alpha entry =
-        let v = store_view (index_of alpha entry a) in
-        j.list
-        ∙ ap (λ (d : ℕ → ℕ → ℕ). cond (elem t (ids (cands w₁ at n))) (cands w₁ at n) (cands w₁ at n ++ (pair (d s t) t ∷ []))) (view_between alpha entry a)
-        ∙ rw (f.list alpha entry) (scored_with (slot_distance v.space s) t (live_neighbors v s))
+module _ {a : Arrays} {s n : ℕ} {w : List ℕ} (f : LiveScored a s n w) {t m : ℕ} {w' : List ℕ} (j : Joined a.dim a.vectors s t w n m w') (l : 2 * a.degree + 2 ≤ length w') where
+  joined_list : (alpha : Float) (entry : ℕ) → let v = store_view (index_of alpha entry a) in cands w' 0 m ≡ scored (slot_distance v.space s) (with_target t (live_neighbors v s))
+  joined_list alpha entry =
+      let v = store_view (index_of alpha entry a) in
+      j.list
+      ∙ ap (λ (d : ℕ → ℕ → ℕ). cond (elem t (ids (cands w 0 n))) (cands w 0 n) (cands w 0 n ++ (pair (d s t) t ∷ []))) (view_between alpha entry a)
+      ∙ rw (f.list alpha entry) (scored_with (slot_distance v.space s) t (live_neighbors v s))
 
-    pub applied_one : {alpha : Float} {a' : Arrays} {w₃ : List ℕ} → WrotePruned alpha a s w₂ at m (at + 2 * a.degree + 2) a' w₃ → Applied alpha a (link s t ∷ []) a' w at (link_words a.degree) w₃
-    unfolding apply_link insert_and_prune
-    applied_one {alpha} g =
-        record {
-          does = λ entry.
-              let b = index_of alpha entry a in
-              g.row entry ∙ ap (λ (cs : List Candidate). store_ops.write b s (ids (prune (store_view b) s cs))) (joined_list alpha entry);
-          size = g.size ∙ j.size ∙ f.size;
-          same = λ i h.
-              g.same i (λ k. omega (arith, h k, j.few, f.few)) (λ k. omega (arith, h (omega arith)))
-              ∙ j.same i (λ k. omega (arith, h (omega arith), f.few))
-              ∙ f.same i (λ k. omega (arith, h k));
-        }
+  pub joined_inside : 2 * m ≤ length w'
+  joined_inside = omega (arith, j.few, f.few)
+
+  joined_front : cands_of (take (2 * m) w') ≡ cands w' 0 m
+  joined_front = cands_front w' m joined_inside
+
+  pub joined_small : Small (cands_of (take (2 * m) w'))
+  joined_small = rw (joined_front, j.list) (go (elem t (ids (cands w 0 n))))
+    where
+      go : (b : Bool) → Small (cond b (cands w 0 n) (cands w 0 n ++ (pair (between a.dim a.vectors s t) t ∷ [])))
+      go true = f.small
+      go false = all_append (λ c. c.dist ≤ 16777216) (cands w 0 n) (pair (between a.dim a.vectors s t) t ∷ []) f.small (j.near, tt)
+
+  pub linked_one : {alpha : Float} {a' : Arrays} → WrotePruned alpha a s (cands_of (take (2 * m) w')) a' → (entry : ℕ) → index_of alpha entry a' ≡ foldl apply_link (index_of alpha entry a) (link s t ∷ [])
+  unfolding apply_link insert_and_prune
+  linked_one {alpha} g entry =
+      let b = index_of alpha entry a in
+      g.row entry ∙ ap (λ (cs : List Candidate). store_ops.write b s (ids (prune (store_view b) s cs))) (joined_front ∙ joined_list alpha entry)
 
 -- ---- link after link
-pub applied_then : {alpha : Float} {a a₁ a₂ : Arrays} {ls ls₁ : List Link} {w : List ℕ} {at k : ℕ} {w₁ w₂ : List ℕ}
-    → Applied alpha a ls a₁ w at k w₁ → Applied alpha a₁ ls₁ a₂ w₁ at k w₂ → Applied alpha a (ls ++ ls₁) a₂ w at k w₂
-applied_then {alpha} {a} {ls = ls} {ls₁ = ls₁} {w = w} {at = at} {k = k} {w₁ = w₁} {w₂ = w₂} f h =
-    record {
-      does = λ entry.
-          h.does entry
-          ∙ ap (λ (b : Store). foldl apply_link b ls₁) (f.does entry)
-          ∙ sym (foldl_append apply_link (index_of alpha entry a) ls ls₁);
-      size = h.size ∙ f.size;
-      same = outside_then at k w w₁ w₂ f.same h.same;
-    }
-
-pub applied_none : (alpha : Float) (a : Arrays) (w : List ℕ) (at k : ℕ) → Applied alpha a [] a w at k w
-applied_none alpha a w at k = record { does = λ entry. refl; size = refl; same = outside_none at k w }
-
 -- what links leave as it is: the sizes of all slices
 record Framed (a : Arrays) (b : Store) : Type 0 where
   whole : Whole b
@@ -137,28 +134,28 @@ applied_together {alpha} {a} {a'} {ls} o f =
       degree_most = rw g.degree o.degree_most;
     }
 
-pub made_none : {table : ℕ} (l : Pruner table) (w : List ℕ) (at : ℕ) (words : ℕ → ℕ) → Made l [] w at words l w
-made_none l w at words =
-    record {
-      applied = applied_none l.alpha (held l) w at (words l.rows.now.degree);
-      same = pruner_none l;
-    }
+pub linked_none : {table : ℕ} (p : Pruner table) → Linked p [] p
+linked_none p = record { does = λ entry. refl; same = pruner_none p }
 
-module _ {table : ℕ} {l l₁ : Pruner table} {ls : List Link} {w w₁ : List ℕ} {at : ℕ} {words : ℕ → ℕ} (f : Made l ls w at words l₁ w₁) where
-  pub made_then : {ks : List Link} {l₂ : Pruner table} {w₂ : List ℕ} → Made l₁ ks w₁ at words l₂ w₂ → Made l (ls ++ ks) w at words l₂ w₂
-  made_then {ks} {l₂} {w₂} g =
-      let h : Applied l₁.alpha (held l₁) ks (held l₂) w₁ at (words l.rows.now.degree) w₂ =
-      subst (λ (d : ℕ). Applied l₁.alpha (held l₁) ks (held l₂) w₁ at (words d) w₂) f.same.slices.degree g.applied in
+module _ {table : ℕ} {p p₁ : Pruner table} {ls : List Link} (f : Linked p ls p₁) where
+  pub linked_then : {ks : List Link} {p₂ : Pruner table} → Linked p₁ ks p₂ → Linked p (ls ++ ks) p₂
+  linked_then {ks} {p₂} g =
       record {
-        applied = applied_then f.applied (subst (λ (x : Float). Applied x (held l₁) ks (held l₂) w₁ at (words l.rows.now.degree) w₂) f.same.alpha h);
+        does = λ entry. (rw f.same.alpha at g.does entry)
+            ∙ ap (λ (b : Store). foldl apply_link b ks) (f.does entry)
+            ∙ sym (foldl_append apply_link (index_of p.alpha entry (held p)) ls ks);
         same = pruner_then f.same g.same;
       }
 
-  pub made_marks : length l₁.marks.now ≡ length l.marks.now
-  made_marks = rw f.same.marks
+  pub linked_marks : length p₁.marks.now ≡ length p.marks.now
+  linked_marks = rw f.same.marks
 
-pub made_room : {table : ℕ} {l l₁ : Pruner table} {ls : List Link} {w w₁ : List ℕ} {at : ℕ} → Made l ls w at link_words l₁ w₁ → Room l.rows.now.degree w at → Room l₁.rows.now.degree w₁ at
-made_room f o = record { inside = rw f.same.slices.degree (omega (arith, o.inside, f.applied.size)); below = rw f.same.slices.degree o.below }
+  pub linked_words : {n : ℕ} → link_words p.rows.now.degree ≤ n → link_words p₁.rows.now.degree ≤ n
+  linked_words h = rw f.same.slices.degree h
+
+  -- beside words of which k from `at` on were lent
+  pub linked_made : {w w' : List ℕ} {at : ℕ} {words : ℕ → ℕ} → length w' ≡ length w → Outside at (words p.rows.now.degree) w w' → Made p ls w at words p₁ w'
+  linked_made e o = record { applied = record { does = f.does; size = e; same = o }; same = f.same }
 
 -- ---- links of one source
 module _ (s : ℕ) where
@@ -186,11 +183,11 @@ pairs_more s ps i d h =
     ∙ ap (from s) (concat_snoc (λ p. both_ways p.slot p.parent) (take i ps) (get_or ps i d))
     ∙ from_append s (pairs_of (take i ps)) _
 
-pub sources_more : (ls : List Link) (w : List ℕ) (at i : ℕ) → from_each ls (ids (cands w at (i + 1))) ≡ from_each ls (ids (cands w at i)) ++ from (cand w (at + 2 * i)).id ls
-sources_more ls w at i =
-    ap (λ (c : List Candidate). from_each ls (ids c)) (cands_snoc w at i)
-    ∙ ap (from_each ls) (map-append (λ c. c.id) (cands w at i) (cand w (at + 2 * i) ∷ []))
-    ∙ concat_snoc (λ s. from s ls) (ids (cands w at i)) (cand w (at + 2 * i)).id
+sources_more : (ls : List Link) (w : List ℕ) (i : ℕ) → from_each ls (ids (cands w 0 (i + 1))) ≡ from_each ls (ids (cands w 0 i)) ++ from (cand w (2 * i)).id ls
+sources_more ls w i =
+    ap (λ (c : List Candidate). from_each ls (ids c)) (front_snoc w i)
+    ∙ ap (from_each ls) (map-append (λ c. c.id) (cands w 0 i) (cand w (2 * i) ∷ []))
+    ∙ concat_snoc (λ s. from s ls) (ids (cands w 0 i)) (cand w (2 * i)).id
 
 -- one source after the other
 pub by_each : (b : Store) (ls : List Link) (ss : List ℕ) → foldl apply_link b (from_each ls ss) ≡ foldl (by_source ls) b ss
@@ -198,24 +195,26 @@ by_each b ls [] = refl
 by_each b ls (s ∷ ss) = foldl_append apply_link b (from s ls) (from_each ls ss) ∙ by_each (by_source ls b s) ls ss
 
 -- ---- link after link, as the functions leave them
-pub from_both : (s x p : ℕ) → {table : ℕ} {l l₁ : Pruner table} {w w₁ : List ℕ} {at : ℕ} {words : ℕ → ℕ} → Made l (from s (link x p ∷ []) ++ from s (link p x ∷ [])) w at words l₁ w₁ → Made l (from s (both_ways x p)) w at words l₁ w₁
+pub from_both : (s x p : ℕ) → {table : ℕ} {l l₁ : Pruner table} → Linked l (from s (link x p ∷ []) ++ from s (link p x ∷ [])) l₁ → Linked l (from s (both_ways x p)) l₁
 from_both s x p f = rw (from_append s (link x p ∷ []) (link p x ∷ [])) f
 
 pub pair_inside : {slots : ℕ} (ps : List Pair) → Pairs slots ps → (i : ℕ) (d : Pair) → i < length ps → ((get_or ps i d).slot < slots) × ((get_or ps i d).parent < slots)
 pair_inside {slots} ps k i d h = all_at d (λ p. (p.slot < slots) × (p.parent < slots)) ps k i h
 
-pub source_then : (s : ℕ) (ps : List Pair) (i : ℕ) (d : Pair) → i < length ps → {table : ℕ} {l l₁ l₂ : Pruner table} {w w₁ w₂ : List ℕ} {at : ℕ} {words : ℕ → ℕ}
-    → Made l (from s (pairs_of (take i ps))) w at words l₁ w₁ → Made l₁ (from s (both_ways (get_or ps i d).slot (get_or ps i d).parent)) w₁ at words l₂ w₂
-    → Made l (from s (pairs_of (take (i + 1) ps))) w at words l₂ w₂
-source_then s ps i d h f g = rw (pairs_more s ps i d h) (made_then f g)
+pub source_then : (s : ℕ) (ps : List Pair) (i : ℕ) (d : Pair) → i < length ps → {table : ℕ} {l l₁ l₂ : Pruner table}
+    → Linked l (from s (pairs_of (take i ps))) l₁ → Linked l₁ (from s (both_ways (get_or ps i d).slot (get_or ps i d).parent)) l₂
+    → Linked l (from s (pairs_of (take (i + 1) ps))) l₂
+source_then s ps i d h f g = rw (pairs_more s ps i d h) (linked_then f g)
 
-pub each_none : (ls : List Link) (from : ℕ) {table : ℕ} (l : Pruner table) (w : List ℕ) {at : ℕ} {words : ℕ → ℕ} → Made l (from_each ls (ids (cands w from 0))) w at words l w
+pub each_none : (ls : List Link) {table : ℕ} (l : Pruner table) (w : List ℕ) → Linked l (from_each ls (ids (cands w 0 0))) l
 unfolding cands
-each_none ls from l w = made_none l w _ _
+each_none ls l w = linked_none l
 
-pub each_then : (ls : List Link) (from : ℕ) {m at i s : ℕ} → from + 2 * m ≤ at → i < m → {table : ℕ} {l l₁ l₂ : Pruner table} {w w₁ w₂ : List ℕ} {words : ℕ → ℕ} → s ≡ (cand w₁ (from + 2 * i)).id
-    → Made l (from_each ls (ids (cands w from i))) w at words l₁ w₁ → Made l₁ (filter (λ l. eqb l.source s) ls) w₁ at words l₂ w₂
-    → Made l (from_each ls (ids (cands w from (i + 1)))) w at words l₂ w₂
-each_then ls b {at = at} {i = i} o h {w = w} e f g =
-    let z = e ∙ f.applied.same (b + 2 * i + 1) (λ (k : at ≤ b + 2 * i + 1). absurd (omega arith)) in
-    rw (sources_more ls w b i, ← z) (made_then f g)
+pub each_then : (ls : List Link) (w : List ℕ) (i : ℕ) {s : ℕ} {table : ℕ} {l l₁ l₂ : Pruner table} → s ≡ (cand w (2 * i)).id
+    → Linked l (from_each ls (ids (cands w 0 i))) l₁ → Linked l₁ (filter (λ l. eqb l.source s) ls) l₂
+    → Linked l (from_each ls (ids (cands w 0 (i + 1)))) l₂
+each_then ls w i e f g = rw (sources_more ls w i, ← e) (linked_then f g)
+
+pub each_done : (ls : List Link) (w : List ℕ) (i : ℕ) {table : ℕ} {l l₁ : Pruner table} → i ≤ length w / 2 → length w / 2 ≤ i → Linked l (from_each ls (ids (cands w 0 i))) l₁
+    → Linked l (from_each ls (ids (cands_of w))) l₁
+each_done ls w i {l = l} {l₁} h k f = let e : i ≡ length w / 2 = omega arith in subst (λ (j : ℕ). Linked l (from_each ls (ids (cands w 0 j))) l₁) e f

@@ -1,6 +1,6 @@
 -- The candidates of a plan are connected one after the other: the nearest remaining one is linked with its nearest connected ones, and the last takes its
 -- place, until none remains. Assumes nothing.
-use Prim.Native.Nat.{ℕ, zero, suc, ◌+◌, ◌-◌, ◌*◌, ◌≤◌, ◌<◌, min}
+use Prim.Native.Nat.{ℕ, zero, suc, ◌+◌, ◌-◌, ◌*◌, ◌/◌, ◌≤◌, ◌<◌, min}
 use mathlib.Core.Bool.{Bool, true, false, cond, true≢false}
 use mathlib.Core.Path.{◌≡◌, refl, ap, sym, ◌∙◌, fun_ext, subst}
 use mathlib.Core.List.{List, [], ◌∷◌, ◌++◌, map, map-append, append_assoc, append-nil}
@@ -9,21 +9,24 @@ use lib.Dec.{ltb}
 use lib.ListN.{length, get_or, set, take, drop}
 use borrow.Rule.Slice.PartMut.{put_mid}
 use lib.Seq.{take-append_seam, take-append-add}
-use Rattle.std.proofs.lemmas.List.{take-map, map-set, get_or-map, take_min, take_more_set, take-append-le, length-take-le}
+use Rattle.std.proofs.Common.{rules}
+use Rattle.std.proofs.lemmas.Grind.{common_steps}
+use Rattle.std.proofs.lemmas.List.{places, take-map, map-set, get_or-map, take_min, take_more_set, take-append-le, length-take-le}
 use Rattle.lists.specs.Lists.{All, concat_map, least_from, least_of, sort_by}
 use Rattle.lists.proofs.All.{all_append, all_take}
 use Rattle.lists.proofs.Least.{least_cons, least_snoc}
 use Rattle.vectors.specs.Space.{slot_distance, space}
 use Rattle.vectors.proofs.Distances.{distance_sym}
 use Rattle.candidates.specs.Candidates.{Candidate, nearer, scored, ids}
-use Rattle.candidates.specs.Inner.Words.{pair, cand, cands, put, Holds, Outside}
-use Rattle.candidates.proofs.Words.{cands_length, cands_at, cands_take, cands_each, cands_kept, cands_put, cands_push, cands_snoc, put_cand, put_length, put_outside, outside_then}
+use Rattle.candidates.specs.Inner.Words.{pair, cand, cands, cands_of, put}
+use Rattle.candidates.proofs.Parts.{cands_front, cands_written, written_length}
+use Rattle.candidates.proofs.Words.{cands_length, cands_take, cands_put, put_cand, put_length, put_outside, front_at, front_each, front_push, front_snoc}
 use Rattle.candidates.proofs.Scored.{ids_length}
 use Rattle.repair.specs.Repair.{Link, swap_remove, links, span}
 use Rattle.repair.proofs.Sources.{both_ways}
 use Rattle.links.specs.declared.span.Pair.{Pair}
 use Rattle.links.specs.Inner.Linking.{between, links_at, pairs_of}
-use Rattle.links.specs.Inner.Planning.{Stored, Nearest, Scored, lower_to, Lowered, Distinct, Plot, PairedNearest, Planned, span_at, Connected, Spanned}
+use Rattle.links.specs.Inner.Planning.{Stored, Nearest, lower_to, Distinct, PairedNearest, Planned, span_at, Connected, Spanned}
 use Rattle.links.proofs.Linking.{concat_snoc, concat_append}
 use Rattle.links.proofs.Swapping.{swap_is, distinct_swap}
 
@@ -62,53 +65,54 @@ cands_set w a (suc n) (suc i) d s h l =
     let r : cands (put w (a + 2 + 2 * i) d s) (a + 2) n ≡ set (cands w (a + 2) n) i (pair d s) = cands_set w (a + 2) n i d s (omega arith) (omega arith) in
     subst (λ (z : ℕ). cands (put w z d s) a (suc n) ≡ set (cands w a (suc n)) (suc i) (pair d s)) (sym e) (rw (p, q, r))
 
+front_set : (w : List ℕ) (n i d s : ℕ) → i < n → 2 * n ≤ length w → cands (put w (2 * i) d s) 0 n ≡ set (cands w 0 n) i (pair d s)
+front_set w n i d s h l = let z : 0 + 2 * i ≡ 2 * i = omega arith in rw z at (cands_set w 0 n i d s h (omega arith))
+
 -- ---- the links of one
 between_sym : (dim : ℕ) (vectors : List ℕ) (x y : ℕ) → between dim vectors x y ≡ between dim vectors y x
 unfolding slot_distance space
 between_sym dim vectors x y = distance_sym _ _
 
-module _ (dim : ℕ) (vectors : List ℕ) (x repair_degree : ℕ) {w : List ℕ} {base k : ℕ} {w₁ w₂ : List ℕ} (f : Scored (λ c. between dim vectors c x) w base k (base + 1280) w₁)
-    (h : Holds w₁ (base + 1280) k (sort_by nearer (cands w₁ (base + 1280) k)) w₂) {n : ℕ} (e : n ≡ min repair_degree k) where
+module _ (dim : ℕ) (vectors : List ℕ) (x repair_degree : ℕ) (con v u : List ℕ) (f : cands_of v ≡ scored (λ c. between dim vectors c x) (ids (cands_of con)))
+    (h : cands_of u ≡ sort_by nearer (cands_of v)) (l : length u ≡ length con) {n : ℕ} (e : n ≡ min repair_degree (length con / 2)) where
   abbrev by_distance : List Candidate
-  by_distance = sort_by nearer (scored (between dim vectors x) (ids (cands w base k)))
+  by_distance = sort_by nearer (scored (between dim vectors x) (ids (cands_of con)))
 
-  near_list : cands w₂ (base + 1280) n ≡ take repair_degree by_distance
+  near_list : cands u 0 n ≡ take repair_degree by_distance
   near_list =
       let s : (λ c. between dim vectors c x) ≡ between dim vectors x = fun_ext (λ c. between_sym dim vectors c x) in
-      let l : n ≡ min repair_degree (length (cands w₂ (base + 1280) k)) = rw (cands_length w₂ (base + 1280) k) e in
-      sym (cands_take w₂ (base + 1280) k n (omega arith))
-      ∙ ap (λ (j : ℕ). take j (cands w₂ (base + 1280) k)) l
-      ∙ take_min repair_degree (cands w₂ (base + 1280) k)
-      ∙ ap (take repair_degree) (h.list ∙ ap (sort_by nearer) (f.list ∙ ap (λ (m : ℕ → ℕ). scored m (ids (cands w base k))) s))
+      let k : n ≡ min repair_degree (length (cands_of u)) = rw (cands_length u 0 (length u / 2), l) e in
+      sym (cands_take u 0 (length u / 2) n (omega arith))
+      ∙ ap (λ (j : ℕ). take j (cands_of u)) k
+      ∙ take_min repair_degree (cands_of u)
+      ∙ ap (take repair_degree) (h ∙ ap (sort_by nearer) (f ∙ ap (λ (m : ℕ → ℕ). scored m (ids (cands_of con))) s))
 
-  pub near_paired : repair_degree ≤ 16 → k ≤ 320 → (part l : List Pair) → length part ≡ n → pairs_of part ≡ links_at x w₂ (base + 1280) (length part)
-      → PairedNearest (links (between dim vectors) repair_degree (ids (cands w base k)) x) w base w₂ (part ++ l) n
+  pub near_paired : repair_degree ≤ 16 → (part ps : List Pair) → length part ≡ n → pairs_of part ≡ links_at x u 0 (length part)
+      → PairedNearest (links (between dim vectors) repair_degree (ids (cands_of con)) x) (part ++ ps) n
   unfolding links
-  near_paired d few part l s g =
+  near_paired d part ps s g =
       record {
-        added = ap pairs_of (rw (← s) (take-append_seam part l))
+        added = ap pairs_of (rw (← s) (take-append_seam part ps))
             ∙ (rw s at g)
             ∙ ap (λ (cs : List Candidate). concat_map (both_ways x) (ids cs)) near_list;
         more = omega arith;
-        size = h.size ∙ f.size;
-        same = λ j i. h.same j (λ u. omega (arith, i (omega arith))) ∙ f.same j (λ u. omega (arith, i (omega arith)));
       }
 
 -- the pairs of x so far
-pub pairing_none : (x : ℕ) (w : List ℕ) (to : ℕ) → [] ≡ links_at x w to 0
+pub pairing_none : (x : ℕ) (w : List ℕ) → [] ≡ links_at x w 0 0
 unfolding cands
-pairing_none x w to = refl
+pairing_none x w = refl
 
-pub pairing_more : (x : ℕ) (w : List ℕ) (to : ℕ) (pairs : List Pair) {i : ℕ} → pairs_of (take i pairs) ≡ links_at x w to i → i < length pairs → {p : ℕ} → p ≡ (cand w (to + 2 * i)).id
-    → pairs_of (take (i + 1) (set pairs i (record { slot = x; parent = p }))) ≡ links_at x w to (i + 1)
-pairing_more x w to pairs {i} f h {p} e =
+pub pairing_more : (x : ℕ) (w : List ℕ) (pairs : List Pair) {i : ℕ} → pairs_of (take i pairs) ≡ links_at x w 0 i → i < length pairs → {p : ℕ} → p ≡ (cand w (2 * i)).id
+    → pairs_of (take (i + 1) (set pairs i (record { slot = x; parent = p }))) ≡ links_at x w 0 (i + 1)
+pairing_more x w pairs {i} f h {p} e =
     ap pairs_of (take_more_set pairs i (record { slot = x; parent = p }) h)
     ∙ concat_snoc (λ q. both_ways q.slot q.parent) (take i pairs) (record { slot = x; parent = p })
     ∙ ap (λ (l : List Link). l ++ both_ways x p) f
     ∙ rw e (sym (
-    ap (λ (l : List Candidate). concat_map (both_ways x) (ids l)) (cands_snoc w to i)
-    ∙ ap (concat_map (both_ways x)) (map-append (λ c. c.id) (cands w to i) (cand w (to + 2 * i) ∷ []))
-    ∙ concat_snoc (both_ways x) (ids (cands w to i)) (cand w (to + 2 * i)).id
+    ap (λ (l : List Candidate). concat_map (both_ways x) (ids l)) (front_snoc w i)
+    ∙ ap (concat_map (both_ways x)) (map-append (λ c. c.id) (cands w 0 i) (cand w (2 * i) ∷ []))
+    ∙ concat_snoc (both_ways x) (ids (cands w 0 i)) (cand w (2 * i)).id
     ))
 
 -- ---- one more is connected
@@ -130,193 +134,225 @@ least_lowered d con y s [] h = tt
 least_lowered d con y s (c ∷ l) h = (rw h.0 (sym (least_more (d c.id) con y s)), least_lowered d con y s l h.1)
 
 -- the definition's next turn
-span_first : (d : ℕ → ℕ → ℕ) (repair_degree : ℕ) (con : List ℕ) (w : List ℕ) (at m i : ℕ) → All (λ c. c.dist ≡ least_of (d c.id) con) (cands w at m) → Nearest w at m i → (f : ℕ)
-    → let x = (cand w (at + 2 * i)).id in
-    span d repair_degree (suc f) con (ids (cands w at m)) ≡ links d repair_degree con x ++ span d repair_degree f (con ++ (x ∷ [])) (swap_remove x (ids (cands w at m)))
-unfolding span cands
-span_first d repair_degree con w at zero i h n f = absurd (omega (arith, n.within))
-span_first d repair_degree con w at (suc m) i h n f =
-    let z : suc m - 1 ≡ m = omega arith in
-    let t : cand w (at + 2 * i) ≡ least_from (λ c. c.dist) (cand w at) (cands w (at + 2) m) = rw z at n.least in
-    let y : (cand w (at + 2 * i)).id ≡ least_from (λ x. least_of (d x) con) (cand w at).id (ids (cands w (at + 2) m)) =
-    ap (λ (c : Candidate). c.id) t ∙ least_ids (λ x. least_of (d x) con) (cand w at) (cands w (at + 2) m) h.0 h.1 in
-    ap (λ (x : ℕ). links d repair_degree con x ++ span d repair_degree f (con ++ (x ∷ [])) (swap_remove x ((cand w at).id ∷ ids (cands w (at + 2) m)))) (sym y)
+span_first : (d : ℕ → ℕ → ℕ) (repair_degree : ℕ) (con : List ℕ) (cs : List Candidate) (i : ℕ) → All (λ c. c.dist ≡ least_of (d c.id) con) cs → Nearest cs i → (f : ℕ)
+    → let x = (get_or cs i (pair 0 0)).id in
+    span d repair_degree (suc f) con (ids cs) ≡ links d repair_degree con x ++ span d repair_degree f (con ++ (x ∷ [])) (swap_remove x (ids cs))
+unfolding span
+span_first d repair_degree con [] i h n f = absurd (omega (arith, n.within))
+span_first d repair_degree con (c ∷ cs) i h n f =
+    let y : (get_or (c ∷ cs) i (pair 0 0)).id ≡ least_from (λ x. least_of (d x) con) c.id (ids cs) =
+    ap (λ (c : Candidate). c.id) n.least ∙ least_ids (λ x. least_of (d x) con) c cs h.0 h.1 in
+    ap (λ (x : ℕ). links d repair_degree con x ++ span d repair_degree f (con ++ (x ∷ [])) (swap_remove x (c.id ∷ ids cs))) (sym y)
 
-module _ {dim : ℕ} {vectors w : List ℕ} {base k m : ℕ} (p : Planned dim vectors w base k m) (some : 0 < m) (area : Plot w base)
-    {i : ℕ} (f : Nearest w (base + 640) m i) {next : ℕ} (e : next ≡ (cand w (base + 640 + 2 * i)).id) where
+-- the first k of the words c are connected, and those of the words w remain
+module _ {dim : ℕ} {vectors : List ℕ} (c w : List ℕ) (k : ℕ) (p : Planned dim vectors (cands c 0 k) (cands_of w)) (some : 2 ≤ length w) (long : length c ≡ 640)
+    {i : ℕ} (f : Nearest (cands_of w) i) {next : ℕ} (e : next ≡ (cand w (2 * i)).id) where
+  few : k + length w / 2 ≤ 320
+  few = omega (arith, p.few, cands_length c 0 k, cands_length w 0 (length w / 2))
+
+  within : i < length w / 2
+  within = omega (arith, f.within, cands_length w 0 (length w / 2))
+
+  pub connect_within : (2 * i + 1 < length w) × (2 * k + 1 < length c)
+  connect_within = (omega (arith, within), omega (arith, few))
+
   next_inside : next * dim + dim ≤ length vectors
-  next_inside = rw e (cands_each (λ c. c.id * dim + dim ≤ length vectors) w (base + 640) m p.remaining i f.within)
+  next_inside = rw e (front_each (λ c. c.id * dim + dim ≤ length vectors) w (length w / 2) p.remaining_in i within)
 
-  pub connect_near : Stored dim vectors next w base k × (k ≤ 320)
-  connect_near = (record { short = p.short; own = next_inside; stored = p.connected; inside = omega (arith, p.few, area.inside) }, omega (arith, p.few))
+  pub connect_near : Stored dim vectors next (cands_of (take (2 * k) c)) × (length (take (2 * k) c) ≤ 640)
+  connect_near = (
+    record { short = p.short; own = next_inside; stored = rw (cands_front c k (omega (arith, few))) p.connected_in },
+    omega (arith, few, length-take-le (2 * k) c (omega (arith, few))),
+  )
 
   abbrev con : List ℕ
-  con = ids (cands w base k)
+  con = ids (cands c 0 k)
 
   abbrev xs : List ℕ
-  xs = ids (cands w (base + 640) m)
+  xs = ids (cands_of w)
+
+  abbrev last : ℕ
+  last = length w / 2 - 1
 
   abbrev end : Candidate
-  end = cand w (base + 640 + 2 * (m - 1))
+  end = cand w (2 * (length w / 2 - 1))
 
   -- those that remain, once the last has taken the place of the next
   abbrev left : List Candidate
-  left = take (m - 1) (set (cands w (base + 640) m) i end)
+  left = take last (set (cands_of w) i end)
 
-  xs_long : length xs ≡ suc (m - 1)
-  xs_long = ids_length (cands w (base + 640) m) ∙ cands_length w (base + 640) m ∙ omega arith
+  xs_long : length xs ≡ suc last
+  xs_long = ids_length (cands_of w) ∙ cands_length w 0 (length w / 2) ∙ omega arith
 
-  xs_at : (j : ℕ) → j < m → get_or xs j 0 ≡ (cand w (base + 640 + 2 * j)).id
-  xs_at j h = get_or-map (λ c. c.id) (cands w (base + 640) m) j (pair 0 0) 0 (omega (arith, cands_length w (base + 640) m)) ∙ ap (λ (c : Candidate). c.id) (cands_at w (base + 640) m j h)
+  xs_at : (j : ℕ) → j < length w / 2 → get_or xs j 0 ≡ (cand w (2 * j)).id
+  xs_at j h = get_or-map (λ c. c.id) (cands_of w) j (pair 0 0) 0 (omega (arith, cands_length w 0 (length w / 2))) ∙ ap (λ (c : Candidate). c.id) (front_at w (length w / 2) j h)
 
-  left_ids : ids left ≡ take (m - 1) (set xs i (get_or xs (m - 1) 0))
+  left_ids : ids left ≡ take last (set xs i (get_or xs last 0))
   left_ids =
-      sym (take-map (λ c. c.id) (m - 1) (set (cands w (base + 640) m) i end))
-      ∙ ap (take (m - 1)) (map-set (λ c. c.id) (cands w (base + 640) m) i end ∙ ap (λ (x : ℕ). set xs i x) (sym (xs_at (m - 1) (omega arith))))
+      sym (take-map (λ c. c.id) last (set (cands_of w) i end))
+      ∙ ap (take last) (map-set (λ c. c.id) (cands_of w) i end ∙ ap (λ (x : ℕ). set xs i x) (sym (xs_at last (omega arith))))
 
-  left_swap : swap_remove (cand w (base + 640 + 2 * i)).id xs ≡ ids left
+  left_swap : swap_remove (cand w (2 * i)).id xs ≡ ids left
   left_swap =
-      ap (λ (x : ℕ). swap_remove x xs) (sym (xs_at i f.within))
-      ∙ swap_is xs (m - 1) i xs_long (omega (arith, f.within)) p.distinct
+      ap (λ (x : ℕ). swap_remove x xs) (sym (xs_at i within))
+      ∙ swap_is xs last i xs_long (omega (arith, within)) p.distinct
       ∙ sym left_ids
 
   left_distinct : Distinct (ids left)
-  left_distinct = rw left_ids (distinct_swap xs (m - 1) i xs_long (omega (arith, f.within)) p.distinct)
+  left_distinct = rw left_ids (distinct_swap xs last i xs_long (omega (arith, within)) p.distinct)
 
-  left_all : (P : Candidate → Type 0) → All P (cands w (base + 640) m) → All P left
-  left_all P h = all_take P (m - 1) _ (all_set P (cands w (base + 640) m) i end (cands_each P w (base + 640) m h (m - 1) (omega arith)) h)
+  left_all : (P : Candidate → Type 0) → All P (cands_of w) → All P left
+  left_all P h = all_take P last _ (all_set P (cands_of w) i end (front_each P w (length w / 2) h last (omega arith)) h)
 
-  module _ (repair_degree : ℕ) {w₁ : List ℕ} {pairs' : List Pair} {r : ℕ} (s : PairedNearest (links (between dim vectors) repair_degree con next) w base w₁ pairs' r)
-      {w₂ : List ℕ} (e₂ : w₂ ≡ put w₁ (base + 2 * k) 0 next) where
-    low : (b n : ℕ) → b + 2 * n ≤ base + 1280 → cands w₁ b n ≡ cands w b n
-    low b n h = cands_kept (base + 1280) 640 w w₁ s.same b n (λ u. absurd (omega arith))
+  con₂ : cands (put c (2 * k) 0 next) 0 (k + 1) ≡ cands c 0 k ++ (pair 0 next ∷ [])
+  con₂ = front_push c 0 next k (omega (arith, few))
 
-    out₂ : Outside (base + 2 * k) 2 w₁ w₂
-    out₂ = rw e₂ (put_outside w₁ (base + 2 * k) 0 next)
-
+  module _ (repair_degree : ℕ) {pairs' : List Pair} {r : ℕ} (s : PairedNearest (links (between dim vectors) repair_degree (ids (cands_of (take (2 * k) c))) next) pairs' r)
+      {c₂ : List ℕ} (e₂ : c₂ ≡ put c (2 * k) 0 next) {d x : ℕ} (ed : d ≡ (cand w (2 * (length w / 2 - 1))).dist) (ex : x ≡ (cand w (2 * (length w / 2 - 1))).id)
+      {w₂ : List ℕ} (e₃ : w₂ ≡ put w (2 * i) d x) where
     long₂ : length w₂ ≡ length w
-    long₂ = rw e₂ (put_length w₁ (base + 2 * k) 0 next) ∙ s.size
+    long₂ = rw e₃ (put_length w (2 * i) d x)
 
-    con₂ : cands w₂ base (k + 1) ≡ cands w base k ++ (pair 0 next ∷ [])
-    con₂ = rw e₂ (cands_push w₁ 0 next base k (omega (arith, s.size, area.inside, p.few)) ∙ ap (λ (l : List Candidate). l ++ (pair 0 next ∷ [])) (low base k (omega (arith, p.few))))
+    rem₂ : cands_of (take (2 * (length w / 2 - 1)) w₂) ≡ left
+    rem₂ =
+        let a : cands w₂ 0 (length w / 2) ≡ set (cands_of w) i (pair d x) = rw e₃ (front_set w (length w / 2) i d x within (omega arith)) in
+        cands_front w₂ last (omega (arith, long₂))
+        ∙ sym (cands_take w₂ 0 (length w / 2) last (omega arith))
+        ∙ ap (take last) (a ∙ rw (ed, ex))
 
-    rem₂ : cands w₂ (base + 640) m ≡ cands w (base + 640) m
-    rem₂ = rw e₂ (cands_put w₁ (base + 2 * k) 0 next (base + 640) m (λ u. omega (arith, p.few)) ∙ low (base + 640) m (omega (arith, p.few)))
+    pub connect_stored : Stored dim vectors next (cands_of (take (2 * (length w / 2 - 1)) w₂))
+    connect_stored = record { short = p.short; own = next_inside; stored = rw rem₂ (left_all (λ c. c.id * dim + dim ≤ length vectors) p.remaining_in) }
 
-    -- the last of those that remain can be read, and the place of the next written
-    module _ {d x : ℕ} (ed : d ≡ (cand w₂ (base + 640 + 2 * (m - 1))).dist) (ex : x ≡ (cand w₂ (base + 640 + 2 * (m - 1))).id) {w₃ : List ℕ} (e₃ : w₃ ≡ put w₂ (base + 640 + 2 * i) d x) where
-      out₃ : Outside (base + 640 + 2 * i) 2 w₂ w₃
-      out₃ = rw e₃ (put_outside w₂ (base + 640 + 2 * i) d x)
+    module _ (v : List ℕ) (m : length v ≡ length (take (2 * (length w / 2 - 1)) w₂))
+        (l : cands_of v ≡ map (lower_to (λ c. between dim vectors c next)) (cands_of (take (2 * (length w / 2 - 1)) w₂))) where
+      abbrev w₃ : List ℕ
+      w₃ = v ++ drop (2 * (length w / 2 - 1)) w₂
 
-      long₃ : length w₃ ≡ length w
-      long₃ = rw e₃ (put_length w₂ (base + 640 + 2 * i) d x) ∙ long₂
+      v_long : length v ≡ 2 * last
+      v_long = m ∙ length-take-le (2 * last) w₂ (omega (arith, long₂))
 
-      last₂ : cand w₂ (base + 640 + 2 * (m - 1)) ≡ end
-      last₂ = sym (cands_at w₂ (base + 640) m (m - 1) (omega arith)) ∙ ap (λ (l : List Candidate). get_or l (m - 1) (pair 0 0)) rem₂ ∙ cands_at w (base + 640) m (m - 1) (omega arith)
-
-      moved : pair d x ≡ end
-      moved = rw (ed, ex) last₂
-
-      rem₃ : cands w₃ (base + 640) (m - 1) ≡ left
+      rem₃ : cands w₃ 0 (length w / 2 - 1) ≡ map (lower_to (λ c. between dim vectors c next)) left
       rem₃ =
-          let a : cands w₃ (base + 640) m ≡ set (cands w₂ (base + 640) m) i (pair d x) =
-          rw e₃ (cands_set w₂ (base + 640) m i d x f.within (omega (arith, long₂, area.inside, p.few))) in
-          let b : set (cands w₂ (base + 640) m) i (pair d x) ≡ set (cands w (base + 640) m) i end = rw (rem₂, moved) in
-          sym (cands_take w₃ (base + 640) m (m - 1) (omega arith)) ∙ ap (take (m - 1)) (a ∙ b)
+          let z : length v / 2 ≡ last = omega (arith, v_long) in
+          cands_written w₂ v 0 (2 * last) (omega (arith, long₂)) v_long 0 last (omega arith)
+          ∙ sym (ap (λ (j : ℕ). cands v 0 j) z) ∙ l ∙ ap (map (lower_to (λ c. between dim vectors c next))) rem₂
 
-      con₃ : cands w₃ base (k + 1) ≡ cands w base k ++ (pair 0 next ∷ [])
-      con₃ = rw e₃ (cands_put w₂ (base + 640 + 2 * i) d x base (k + 1) (λ u. absurd (omega (arith, p.few)))) ∙ con₂
+      con₃ : cands c₂ 0 (k + 1) ≡ cands c 0 k ++ (pair 0 next ∷ [])
+      con₃ = rw e₂ con₂
 
-      pub connect_stored : Stored dim vectors next w₃ (base + 640) (m - 1)
-      connect_stored = record { short = p.short; own = next_inside; stored = rw rem₃ (left_all (λ c. c.id * dim + dim ≤ length vectors) p.remaining); inside = omega (arith, long₃, area.inside, p.few) }
+      con_ids : ids (cands c₂ 0 (k + 1)) ≡ con ++ (next ∷ [])
+      con_ids = ap ids con₃ ∙ map-append (λ c. c.id) (cands c 0 k) (pair 0 next ∷ [])
 
-      module _ {w₄ : List ℕ} (l : Lowered (λ c. between dim vectors c next) w₃ (base + 640) (m - 1) w₄) where
-        con₄ : cands w₄ base (k + 1) ≡ cands w base k ++ (pair 0 next ∷ [])
-        con₄ = cands_kept (base + 640) (2 * (m - 1)) w₃ w₄ l.same base (k + 1) (λ u. absurd (omega (arith, p.few))) ∙ con₃
+      rem_ids : ids (cands w₃ 0 (length w / 2 - 1)) ≡ ids left
+      rem_ids = ap ids rem₃ ∙ ids_lowered (λ c. between dim vectors c next) left
 
-        con_ids : ids (cands w₄ base (k + 1)) ≡ con ++ (next ∷ [])
-        con_ids = ap ids con₄ ∙ map-append (λ c. c.id) (cands w base k) (pair 0 next ∷ [])
+      some_con : 0 < length con
+      some_con = omega (arith, ids_length (cands c 0 k), p.some)
 
-        rem₄ : cands w₄ (base + 640) (m - 1) ≡ map (lower_to (λ c. between dim vectors c next)) left
-        rem₄ = l.list ∙ ap (map (lower_to (λ c. between dim vectors c next))) rem₃
+      turn : (n : ℕ) → span (between dim vectors) repair_degree (suc n) con xs
+          ≡ links (between dim vectors) repair_degree con next ++ span (between dim vectors) repair_degree n (ids (cands c₂ 0 (k + 1))) (ids (cands w₃ 0 (length w / 2 - 1)))
+      turn n =
+          (rw (front_at w (length w / 2) i within) at (span_first (between dim vectors) repair_degree con (cands_of w) i p.least f n))
+          ∙ rw (con_ids, rem_ids, ← left_swap, e)
 
-        rem_ids : ids (cands w₄ (base + 640) (m - 1)) ≡ ids left
-        rem_ids = ap ids rem₄ ∙ ids_lowered (λ c. between dim vectors c next) left
+      added : pairs_of (take r pairs') ≡ links (between dim vectors) repair_degree con next
+      added = s.added ∙ ap (λ (cs : List Candidate). links (between dim vectors) repair_degree (ids cs) next) (cands_front c k (omega (arith, few)))
 
-        some_con : 0 < length con
-        some_con = omega (arith, ids_length (cands w base k), cands_length w base k, p.some)
+      pub connect_done : Connected dim vectors repair_degree (cands c 0 k) (cands_of w) (cands c₂ 0 (k + 1)) (cands w₃ 0 (length w / 2 - 1)) pairs' r
+      connect_done =
+          record {
+            planned = record {
+              short = p.short;
+              some = omega (arith, cands_length c₂ 0 (k + 1));
+              few = omega (arith, few, cands_length c₂ 0 (k + 1), cands_length w₃ 0 (length w / 2 - 1));
+              connected_in = rw con₃ (all_append (λ c. c.id * dim + dim ≤ length vectors) (cands c 0 k) (pair 0 next ∷ []) p.connected_in (next_inside, tt));
+              remaining_in = rw rem₃ (all_lowered (λ s. s * dim + dim ≤ length vectors) _ left (left_all (λ c. c.id * dim + dim ≤ length vectors) p.remaining_in));
+              least = rw (rem₃, con_ids) (least_lowered (between dim vectors) con next some_con left (left_all (λ c. c.dist ≡ least_of (between dim vectors c.id) con) p.least));
+              distinct = rw rem_ids left_distinct;
+            };
+            goes = λ n. turn n ∙ ap (λ (l : List Link). l ++ span_at dim vectors repair_degree (cands c₂ 0 (k + 1)) (cands w₃ 0 (length w / 2 - 1)) n) (sym added);
+            more = s.more;
+          }
 
-        turn : (n : ℕ) → span (between dim vectors) repair_degree (suc n) con xs
-            ≡ links (between dim vectors) repair_degree con next ++ span (between dim vectors) repair_degree n (ids (cands w₄ base (k + 1))) (ids (cands w₄ (base + 640) (m - 1)))
-        turn n =
-            span_first (between dim vectors) repair_degree con w (base + 640) m i p.least f n
-            ∙ rw (con_ids, rem_ids, ← left_swap, e)
-
-        pub connect_done : Connected dim vectors repair_degree w base k m w₄ pairs' r
-        connect_done =
-            record {
-              planned = record {
-                short = p.short;
-                some = omega arith;
-                few = omega (arith, p.few);
-                connected = rw con₄ (all_append (λ c. c.id * dim + dim ≤ length vectors) (cands w base k) (pair 0 next ∷ []) p.connected (next_inside, tt));
-                remaining = rw rem₄ (all_lowered (λ s. s * dim + dim ≤ length vectors) _ left (left_all (λ c. c.id * dim + dim ≤ length vectors) p.remaining));
-                least = rw (rem₄, con_ids) (least_lowered (between dim vectors) con next some_con left (left_all (λ c. c.dist ≡ least_of (between dim vectors c.id) con) p.least));
-                distinct = rw rem_ids left_distinct;
-              };
-              goes = λ n. turn n ∙ ap (λ (l : List Link). l ++ span_at dim vectors repair_degree w₄ base (k + 1) (m - 1) n) (sym s.added);
-              more = s.more;
-              size = l.size ∙ long₃;
-              same = λ j h.
-                  l.same j (λ u. omega (arith, h (omega arith), p.few))
-                  ∙ out₃ j (λ u. omega (arith, h (omega arith), p.few, f.within))
-                  ∙ out₂ j (λ u. omega (arith, h (omega arith), p.few))
-                  ∙ s.same j (λ u. omega (arith, h (omega arith)));
-            }
-
--- ---- until none remains: i are connected to the first, by t pairs
-pub record Spanning (dim : ℕ) (vectors : List ℕ) (repair_degree : ℕ) (w₀ : List ℕ) (base n : ℕ) (pairs₀ : List Pair) (w : List ℕ) (pairs : List Pair) (t i : ℕ) : Type 0 where
-  pub planned : Planned dim vectors w base (i + 1) (n - i)
-  pub goes : pairs_of (take t pairs) ++ span_at dim vectors repair_degree w base (i + 1) (n - i) (n - i) ≡ span_at dim vectors repair_degree w₀ base 1 n n
+-- ---- until none remains: of the words c₀ and w₀ i are connected to the first, by t pairs
+pub record Spanning (dim : ℕ) (vectors : List ℕ) (repair_degree : ℕ) (c₀ w₀ : List ℕ) (pairs₀ : List Pair) (c w : List ℕ) (pairs : List Pair) (t i : ℕ) : Type 0 where
+  pub planned : Planned dim vectors (cands c 0 (i + 1)) (cands w 0 (length w₀ / 2 - i))
+  pub goes : pairs_of (take t pairs) ++ span_at dim vectors repair_degree (cands c 0 (i + 1)) (cands w 0 (length w₀ / 2 - i)) (length w₀ / 2 - i)
+      ≡ span_at dim vectors repair_degree (cands c₀ 0 1) (cands_of w₀) (length w₀ / 2)
   pub few : t ≤ 16 * i
+  pub bound : i ≤ length w₀ / 2
   pub pairs_long : length pairs ≡ length pairs₀
   pub size : length w ≡ length w₀
-  pub same : Outside base 1920 w₀ w
 
-module _ {dim : ℕ} {vectors : List ℕ} {repair_degree : ℕ} {w₀ : List ℕ} {base n : ℕ} {pairs₀ : List Pair} {w : List ℕ} {pairs : List Pair} {t i : ℕ} (f : Spanning dim vectors repair_degree w₀ base n pairs₀ w pairs t i) where
-  pub spanning_more : length pairs₀ ≡ 5120 → i < n → {w' : List ℕ} {part : List Pair} {r : ℕ} → Connected dim vectors repair_degree w base (i + 1) (n - i) w' part r
-      → length part ≡ length pairs - t → length (put_mid t (length pairs - t) pairs part) ≡ length pairs → Spanning dim vectors repair_degree w₀ base n pairs₀ w' (put_mid t (length pairs - t) pairs part) (t + r) (i + 1)
-  spanning_more l h {w'} {part} {r} c lp lq =
+pub spanning_none : (dim : ℕ) (vectors : List ℕ) (repair_degree : ℕ) (c w : List ℕ) (pairs : List Pair) → Planned dim vectors (cands c 0 1) (cands_of w) → Spanning dim vectors repair_degree c w pairs c w pairs 0 0
+spanning_none dim vectors repair_degree c w pairs p =
+    let z : length w / 2 - 0 ≡ length w / 2 = omega arith in
+    record { planned = rw z p; goes = rw z; few = omega arith; bound = omega arith; pairs_long = refl; size = refl }
+
+module _ {dim : ℕ} {vectors : List ℕ} {repair_degree : ℕ} {c₀ w₀ : List ℕ} {pairs₀ : List Pair} {c w : List ℕ} {pairs : List Pair} {t i : ℕ} (f : Spanning dim vectors repair_degree c₀ w₀ pairs₀ c w pairs t i) where
+  total : i + 1 + (length w₀ / 2 - i) ≤ 320
+  total = omega (arith, f.planned.few, cands_length c 0 (i + 1), cands_length w 0 (length w₀ / 2 - i))
+
+  pub spanning_room : length pairs₀ ≡ 5120 → i < length w₀ / 2 → (t + 16 ≤ length pairs) × (2 * (length w₀ / 2 - i) ≤ length w)
+  spanning_room l h = (omega (arith, f.few, f.pairs_long, total), omega (arith, f.size))
+
+  part_is : cands_of (take (2 * (length w₀ / 2 - i)) w) ≡ cands w 0 (length w₀ / 2 - i)
+  part_is = cands_front w (length w₀ / 2 - i) (omega (arith, f.size))
+
+  pub spanning_asks : i < length w₀ / 2 → Planned dim vectors (cands c 0 (i + 1)) (cands_of (take (2 * (length w₀ / 2 - i)) w)) × (2 ≤ length (take (2 * (length w₀ / 2 - i)) w))
+  spanning_asks h = (rw part_is f.planned, omega (arith, length-take-le (2 * (length w₀ / 2 - i)) w (omega (arith, f.size))))
+
+  pub spanning_more : length pairs₀ ≡ 5120 → i < length w₀ / 2 → {c' : List ℕ} (v : List ℕ) {part : List Pair} {r : ℕ} → length v ≡ length (take (2 * (length w₀ / 2 - i)) w)
+      → Connected dim vectors repair_degree (cands c 0 (i + 1)) (cands_of (take (2 * (length w₀ / 2 - i)) w)) (cands c' 0 (i + 1 + 1)) (cands v 0 (length (take (2 * (length w₀ / 2 - i)) w) / 2 - 1)) part r
+      → length part ≡ length pairs - t → length (put_mid t (length pairs - t) pairs part) ≡ length pairs
+      → Spanning dim vectors repair_degree c₀ w₀ pairs₀ c' (v ++ drop (2 * (length w₀ / 2 - i)) w) (put_mid t (length pairs - t) pairs part) (t + r) (i + 1)
+  spanning_more l h {c'} v {part} {r} m g lp lq =
+      let n = length w₀ / 2 in
+      let w' = v ++ drop (2 * (n - i)) w in
       let y : n - i ≡ suc (n - (i + 1)) = omega arith in
-      let z : n - i - 1 ≡ n - (i + 1) = omega arith in
-      let tl : length (take t pairs) ≡ t = length-take-le t pairs (omega (arith, f.few, f.planned.few, f.pairs_long)) in
-      let rest = span_at dim vectors repair_degree w' base (i + 1 + 1) (n - (i + 1)) (n - (i + 1)) in
+      let long : length (take (2 * (n - i)) w) ≡ 2 * (n - i) = length-take-le (2 * (n - i)) w (omega (arith, f.size)) in
+      let z : length (take (2 * (n - i)) w) / 2 - 1 ≡ n - (i + 1) = omega arith in
+      let same : cands w' 0 (n - (i + 1)) ≡ cands v 0 (n - (i + 1)) = cands_written w v 0 (2 * (n - i)) (omega (arith, f.size)) (m ∙ long) 0 (n - (i + 1)) (omega arith) in
+      let next : Connected dim vectors repair_degree (cands c 0 (i + 1)) (cands w 0 (n - i)) (cands c' 0 (i + 1 + 1)) (cands w' 0 (n - (i + 1))) part r = rw same (rw (z, part_is) at g) in
+      let tl : length (take t pairs) ≡ t = length-take-le t pairs (omega (arith, f.few, total, f.pairs_long)) in
+      let rest = span_at dim vectors repair_degree (cands c' 0 (i + 1 + 1)) (cands w' 0 (n - (i + 1))) (n - (i + 1)) in
       let p : take (t + r) (put_mid t (length pairs - t) pairs part) ≡ take t pairs ++ take r part =
       (rw tl at (take-append-add (take t pairs) (part ++ drop (length pairs - t) (drop t pairs)) r))
-      ∙ ap (λ (ps : List Pair). take t pairs ++ ps) (take-append-le r part (drop (length pairs - t) (drop t pairs)) (omega (arith, c.more, f.few, f.planned.few, f.pairs_long))) in
+      ∙ ap (λ (ps : List Pair). take t pairs ++ ps) (take-append-le r part (drop (length pairs - t) (drop t pairs)) (omega (arith, next.more, f.few, total, f.pairs_long))) in
       record {
-        planned = rw z at c.planned;
+        planned = next.planned;
         goes =
             ap (λ (ps : List Pair). pairs_of ps ++ rest) p
             ∙ ap (λ (ls : List Link). ls ++ rest) (concat_append (λ q. both_ways q.slot q.parent) (take t pairs) (take r part))
             ∙ append_assoc (pairs_of (take t pairs)) (pairs_of (take r part)) rest
-            ∙ ap (λ (ls : List Link). pairs_of (take t pairs) ++ ls) (sym (rw (z, ← y) at (c.goes (n - (i + 1)))))
+            ∙ ap (λ (ls : List Link). pairs_of (take t pairs) ++ ls) (sym (rw (← y) at (next.goes (n - (i + 1)))))
             ∙ f.goes;
-        few = omega (arith, c.more, f.few);
+        few = omega (arith, next.more, f.few);
+        bound = omega arith;
         pairs_long = lq ∙ f.pairs_long;
-        size = c.size ∙ f.size;
-        same = outside_then base 1920 w₀ w w' f.same c.same;
+        size = written_length w v 0 (2 * (n - i)) (omega (arith, f.size)) (m ∙ long) ∙ f.size;
       }
 
-  pub spanning_done : n ≤ i → Spanned dim vectors repair_degree w₀ base n w pairs t
+  pub spanning_done : length w₀ / 2 ≤ i → Spanned dim vectors repair_degree (cands c₀ 0 1) (cands_of w₀) pairs t
   unfolding span
   spanning_done h =
-      let z : n - i ≡ 0 = omega arith in
+      let z : length w₀ / 2 - i ≡ 0 = omega arith in
       record {
         paired = sym (append-nil _)
-            ∙ ap (λ (j : ℕ). pairs_of (take t pairs) ++ span (between dim vectors) repair_degree j (ids (cands w base (i + 1))) (ids (cands w (base + 640) (n - i)))) (sym z)
-            ∙ f.goes;
-        few = omega (arith, f.few, f.planned.few);
-        size = f.size;
-        same = f.same;
+            ∙ ap (λ (j : ℕ). pairs_of (take t pairs) ++ span (between dim vectors) repair_degree j (ids (cands c 0 (i + 1))) (ids (cands w 0 (length w₀ / 2 - i)))) (sym z)
+            ∙ f.goes
+            ∙ ap (λ (j : ℕ). span_at dim vectors repair_degree (cands c₀ 0 1) (cands_of w₀) j) (sym (cands_length w₀ 0 (length w₀ / 2)));
+        few = omega (arith, f.few, f.bound, total);
       }
+
+-- the pairs from t on
+pub part_length : (l : List Pair) (t k : ℕ) → t + k ≤ length l → length (take k (drop t l)) ≡ k
+part_length l t k h = grind (arith, common_steps)
+
+pub part_written : (l : List Pair) (t : ℕ) (v : List Pair) → t ≤ length l → length v ≡ length (take (length l - t) (drop t l)) → length (put_mid t (length l - t) l v) ≡ length l
+part_written l t v h e =
+    let long : length v ≡ length l - t = e ∙ part_length l t (length l - t) (omega arith) in
+    size l t (length l - t) v (omega arith) long
+  where
+    size : (l : List Pair) (t k : ℕ) (v : List Pair) → t + k ≤ length l → length v ≡ k → length (put_mid t k l v) ≡ length l
+    size l t k v h e = search (rules, places)

@@ -1,10 +1,9 @@
-// The links of all plans, plan by plan. `apply_repair_operations_by_source` in the Rust, which works out each row once, at the end: the same rows. Plans lie in
-// words that C lends, so a list is a place and a number.
-ghost use Rattle.std.specs.Prelude.{◌≡◌, ◌+◌, ◌*◌, ◌<◌, ◌≤◌, length};
+// The links of all plans, plan by plan. `apply_repair_operations_by_source` in the Rust, which works out each row once, at the end: the same rows.
+ghost use Rattle.std.specs.Prelude.{◌≡◌, ◌+◌, ◌*◌, ◌/◌, ◌<◌, ◌≤◌, length};
 ghost use Rattle.candidates.specs.Candidates.{ids};
-ghost use Rattle.candidates.specs.Inner.Words.{cands};
+ghost use Rattle.candidates.specs.Inner.Words.{cands_of};
 ghost use Rattle.repair.specs.Repair.{repair_links};
-ghost use Rattle.links.specs.Inner.Linking.{between, Made};
+ghost use Rattle.links.specs.Inner.Linking.{between, Linked, Made};
 ghost use Rattle.links.specs.Inner.Planning.{plan_words, Area, Plan, Attempted, Plans, plans_at};
 
 use super::sources::apply_sources;
@@ -40,38 +39,57 @@ pub fn attempted(repair_degree: usize, n: usize) -> usize
     total
 }
 
-// Applies the links of the plan of the `n` candidates at `at`. `repair_kr_mst_operations` in the Rust, which only lists them.
+// Applies the links of the plan of a list. Its words are lists of those connected, of those that remain and of the connected ones by their distance, 320 candidates
+// each, and words to apply its links in. `repair_kr_mst_operations` in the Rust, which only lists them.
 fn apply_plan(
     pruner: &mut Pruner<'_, '_, '_, '_, '_, KEPT>,
     table: Table,
     pairs: &mut [Pair],
-    scratch: &mut [u32],
-    at: usize,
-    n: usize,
+    list: &[u32],
+    words: &mut [u32],
 )
-    requires { (table.entry < length pruner.old.marks.now) × Plan pruner.old.marks.now scratch.old at n × (at + 2 * n ≤ table.base) × Area pruner.old.rows.now.degree scratch.old table.base × (table.degree ≤ 16) × (length pairs.old ≡ 5120) }
-    ensures { Made pruner.old (repair_links (between pruner.old.kept.now.space.dim pruner.old.kept.now.space.vectors.now) table.degree table.entry (ids (cands scratch.old at n))) scratch.old table.base plan_words pruner.new scratch.new }
+    requires { (table.entry < length pruner.old.marks.now) × Plan pruner.old.marks.now list.now 0 (length list.now / 2) × (length list.now ≤ 640) × (length words.old ≡ plan_words pruner.old.rows.now.degree) × (table.degree ≤ 16) × (length pairs.old ≡ 5120) }
+    ensures { Linked pruner.old (repair_links (between pruner.old.kept.now.space.dim pruner.old.kept.now.space.vectors.now) table.degree table.entry (ids (cands_of list.now))) pruner.new }
 {
-    if n == 0 {
+    if list.len() < 2 {
         return;
     }
-    let base = table.base;
     let space = pruner.kept.space;
-    let to = base + 1280;
-    score(&space, table.entry, scratch, at, n, to);
-    let i = nearest(scratch, to, n);
-    let start = id_at(scratch, to, i);
-    put(scratch, base, 0, start);
-    let rem = base + 640;
-    score(&space, start, scratch, at, n, rem);
-    let m = keep_valid(scratch, rem, n, pruner.marks, start);
+    let (connected, rest) = words.split_at_mut(640);
+    let (remaining, rest) = rest.split_at_mut(640);
+    let (near, room) = rest.split_at_mut(640);
+    let all = &mut near[..list.len()];
+    score(&space, table.entry, list, all);
+    let i = nearest(all);
+    let start = id_at(all, i);
+    put(connected, 0, 0, start);
+    let others = &mut remaining[..list.len()];
+    score(&space, start, list, others);
+    let m = keep_valid(others, pruner.marks, start);
     let spanner = Spanner {
         space,
         degree: table.degree,
-        base,
     };
-    let t = spanner.span(scratch, m, pairs);
-    apply_sources(pruner, &pairs[..t], scratch, at, n, base + 1920);
+    let t = spanner.span(connected, &mut others[..2 * m], near, pairs);
+    apply_sources(pruner, &pairs[..t], list, room);
+}
+
+// Applies the links of the plans of a table, which lie in words below those of their lists.
+fn apply_all(
+    pruner: &mut Pruner<'_, '_, '_, '_, '_, KEPT>,
+    table: Table,
+    plans: &[u32],
+    words: &mut [u32],
+)
+    requires { (table.entry < length pruner.old.marks.now) × Plans pruner.old.marks.now plans.now table.stats table.plans table.count (length plans.now) × (length words.old ≡ plan_words pruner.old.rows.now.degree) × (table.degree ≤ 16) }
+    ensures { Linked pruner.old (plans_at (between pruner.old.kept.now.space.dim pruner.old.kept.now.space.vectors.now) table.degree table.entry plans.now table.stats table.plans table.count) pruner.new }
+{
+    let mut pairs = [Pair { slot: 0, parent: 0 }; PAIRS];
+    for j in 0..table.count {
+        let at = table.plans + 640 * j;
+        let n = plans[table.stats + 4 * j + 2] as usize;
+        apply_plan(pruner, table, &mut pairs, &plans[at..at + 2 * n], words);
+    }
 }
 
 // Applies the links of the plans of a table in order, each with its candidates in 640 words and their number in the third of its four counts.
@@ -79,10 +97,7 @@ pub fn apply_plans(pruner: &mut Pruner<'_, '_, '_, '_, '_, KEPT>, table: Table, 
     requires { (table.entry < length pruner.old.marks.now) × Plans pruner.old.marks.now scratch.old table.stats table.plans table.count table.base × Area pruner.old.rows.now.degree scratch.old table.base × (table.degree ≤ 16) }
     ensures { Made pruner.old (plans_at (between pruner.old.kept.now.space.dim pruner.old.kept.now.space.vectors.now) table.degree table.entry scratch.old table.stats table.plans table.count) scratch.old table.base plan_words pruner.new scratch.new }
 {
-    let mut pairs = [Pair { slot: 0, parent: 0 }; PAIRS];
-    for j in 0..table.count {
-        let at = table.plans + 640 * j;
-        let n = scratch[table.stats + 4 * j + 2] as usize;
-        apply_plan(pruner, table, &mut pairs, scratch, at, n);
-    }
+    let words = 1922 + 4 * pruner.rows.degree;
+    let (plans, work) = scratch.split_at_mut(table.base);
+    apply_all(pruner, table, plans, &mut work[..words]);
 }

@@ -1,10 +1,9 @@
 // Repair links source by source, each applied to the stored row of its source at once: those of one source after the other.
-// Candidates lie in words that C lends, so a list is a place and a number.
-ghost use Rattle.std.specs.Prelude.{[], ◌∷◌, ◌+◌, ◌*◌, ◌<◌, ◌≤◌, length};
+ghost use Rattle.std.specs.Prelude.{[], ◌∷◌, ◌<◌, ◌≤◌, length};
 ghost use Rattle.candidates.specs.Candidates.{ids};
-ghost use Rattle.candidates.specs.Inner.Words.{cands};
+ghost use Rattle.candidates.specs.Inner.Words.{cands_of};
 ghost use Rattle.repair.proofs.Sources.{both_ways};
-ghost use Rattle.links.specs.Inner.Linking.{link, from, from_each, pairs_of, link_words, Room, Pairs, Made};
+ghost use Rattle.links.specs.Inner.Linking.{link, from, from_each, pairs_of, link_words, Pairs, Linked};
 
 use super::link::apply_link;
 use super::span::Pair;
@@ -18,31 +17,24 @@ fn apply_from(
     s: u32,
     x: u32,
     p: u32,
-    scratch: &mut [u32],
-    at: usize,
+    words: &mut [u32],
 )
-    requires { (x < length pruner.old.marks.now) × (p < length pruner.old.marks.now) × Room pruner.old.rows.now.degree scratch.old at }
-    ensures { Made pruner.old (from s (link x p ∷ [])) scratch.old at link_words pruner.new scratch.new }
+    requires { (x < length pruner.old.marks.now) × (p < length pruner.old.marks.now) × (link_words pruner.old.rows.now.degree ≤ length words.old) }
+    ensures { Linked pruner.old (from s (link x p ∷ [])) pruner.new }
 {
     if x != s {
         return;
     }
-    apply_link(pruner, x, p, scratch, at);
+    apply_link(pruner, x, p, words);
 }
 
 // Applies those links of a pair whose source is `s`.
-fn apply_pair(
-    pruner: &mut Pruner<'_, '_, '_, '_, '_, KEPT>,
-    s: u32,
-    pair: Pair,
-    scratch: &mut [u32],
-    at: usize,
-)
-    requires { (pair.slot < length pruner.old.marks.now) × (pair.parent < length pruner.old.marks.now) × Room pruner.old.rows.now.degree scratch.old at }
-    ensures { Made pruner.old (from s (both_ways pair.slot pair.parent)) scratch.old at link_words pruner.new scratch.new }
+fn apply_pair(pruner: &mut Pruner<'_, '_, '_, '_, '_, KEPT>, s: u32, pair: Pair, words: &mut [u32])
+    requires { (pair.slot < length pruner.old.marks.now) × (pair.parent < length pruner.old.marks.now) × (link_words pruner.old.rows.now.degree ≤ length words.old) }
+    ensures { Linked pruner.old (from s (both_ways pair.slot pair.parent)) pruner.new }
 {
-    apply_from(pruner, s, pair.slot, pair.parent, scratch, at);
-    apply_from(pruner, s, pair.parent, pair.slot, scratch, at);
+    apply_from(pruner, s, pair.slot, pair.parent, words);
+    apply_from(pruner, s, pair.parent, pair.slot, words);
 }
 
 // Applies those links of the pairs whose source is `s`, in their order.
@@ -50,32 +42,29 @@ fn apply_source(
     pruner: &mut Pruner<'_, '_, '_, '_, '_, KEPT>,
     s: u32,
     pairs: &[Pair],
-    scratch: &mut [u32],
-    at: usize,
+    words: &mut [u32],
 )
-    requires { Pairs (length pruner.old.marks.now) pairs.now × Room pruner.old.rows.now.degree scratch.old at }
-    ensures { Made pruner.old (from s (pairs_of pairs.now)) scratch.old at link_words pruner.new scratch.new }
+    requires { Pairs (length pruner.old.marks.now) pairs.now × (link_words pruner.old.rows.now.degree ≤ length words.old) }
+    ensures { Linked pruner.old (from s (pairs_of pairs.now)) pruner.new }
 {
     for &pair in pairs {
-        apply_pair(pruner, s, pair, scratch, at);
+        apply_pair(pruner, s, pair, words);
     }
 }
 
-// Applies the links of pairs, source by source; the sources are the slots of the `m` candidates at `from`. A source's links prune nearly the same row,
-// so that most distances are kept.
+// Applies the links of pairs, source by source; the sources are the slots of a list. A source's links prune nearly the same row, so that most distances are
+// kept.
 pub fn apply_sources(
     pruner: &mut Pruner<'_, '_, '_, '_, '_, KEPT>,
     pairs: &[Pair],
-    scratch: &mut [u32],
-    from: usize,
-    m: usize,
-    at: usize,
+    list: &[u32],
+    words: &mut [u32],
 )
-    requires { Pairs (length pruner.old.marks.now) pairs.now × Room pruner.old.rows.now.degree scratch.old at × (from + 2 * m ≤ at) }
-    ensures { Made pruner.old (from_each (pairs_of pairs.now) (ids (cands scratch.old from m))) scratch.old at link_words pruner.new scratch.new }
+    requires { Pairs (length pruner.old.marks.now) pairs.now × (link_words pruner.old.rows.now.degree ≤ length words.old) }
+    ensures { Linked pruner.old (from_each (pairs_of pairs.now) (ids (cands_of list.now))) pruner.new }
 {
-    for i in 0..m {
-        let s = id_at(scratch, from, i);
-        apply_source(pruner, s, pairs, scratch, at);
+    for i in 0..list.len() / 2 {
+        let s = id_at(list, i);
+        apply_source(pruner, s, pairs, words);
     }
 }

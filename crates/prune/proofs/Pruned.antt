@@ -1,9 +1,8 @@
--- After `prune_scored`: what holds of the selected candidates where they lie, and which lists are as before. Assumes nothing.
-use Prim.Native.Nat.{ℕ, ◌+◌, ◌*◌, ◌≤◌, ◌<◌}
+-- After `prune_scored`: what holds of the selected candidates where they lie. Assumes nothing.
+use Prim.Native.Nat.{ℕ, ◌*◌, ◌≤◌, ◌<◌}
 use mathlib.Core.Path.{◌≡◌, refl, sym, subst}
 use mathlib.Core.Bool.{Bool, true, false}
 use mathlib.Core.List.{List}
-use native.Mathlib.Omega.{arith}
 use lib.ListN.{length}
 use lib.Dec.{eqb}
 use lib.Ieee.{Float}
@@ -12,7 +11,7 @@ use Rattle.lists.proofs.All.{all_map}
 use Rattle.lists.proofs.Unique.{Unique}
 use Rattle.candidates.specs.Candidates.{Candidate, ids}
 use Rattle.candidates.specs.Inner.Words.{cand, cands}
-use Rattle.candidates.proofs.Words.{cands_agree, cands_each}
+use Rattle.candidates.proofs.Words.{front_each}
 use Rattle.slots.specs.Store.{Store, is_valid, vector_of, store_view}
 use Rattle.vectors.specs.Space.{slot_distance, space}
 use Rattle.slots.proofs.Places.{live_inside}
@@ -27,37 +26,33 @@ pub pruned_view : (b : Store) (source : ℕ) (cs : List Candidate)
 unfolding slot_distance space store_view vector_of
 pruned_view b source cs = refl
 
-module _ {degree : ℕ} {alpha : Float} {live : ℕ → Bool} {d : ℕ → ℕ → ℕ} {source : ℕ} {w : List ℕ} {a n to r : ℕ} {w' : List ℕ} (f : Pruned degree alpha live d source w a n to r w') where
-  so : (P : List Candidate → Type 0) → P (prune_scored degree alpha live d source (cands w a n)) → P (cands w' to r)
+module _ {degree : ℕ} {alpha : Float} {live : ℕ → Bool} {d : ℕ → ℕ → ℕ} {source : ℕ} {cs : List Candidate} {r : ℕ} {w : List ℕ} (f : Pruned degree alpha live d source cs r w) where
+  so : (P : List Candidate → Type 0) → P (prune_scored degree alpha live d source cs) → P (cands w 0 r)
   so P h = subst P (sym f.list) h
 
   -- what holds of every candidate given holds of every one selected
-  pub pruned_all : (P : Candidate → Type 0) → All P (cands w a n) → All P (cands w' to r)
-  pruned_all P h = so (All P) (chosen degree alpha live d source (cands w a n) P h)
+  pub pruned_all : (P : Candidate → Type 0) → All P cs → All P (cands w 0 r)
+  pruned_all P h = so (All P) (chosen degree alpha live d source cs P h)
 
   -- each stands in the list given, slot and distance
-  pub pruned_given : All (λ c. In c (cands w a n)) (cands w' to r)
-  pruned_given = so (All (λ c. In c (cands w a n))) (chosen_given degree alpha live d source (cands w a n))
+  pub pruned_given : All (λ c. In c cs) (cands w 0 r)
+  pruned_given = so (All (λ c. In c cs)) (chosen_given degree alpha live d source cs)
 
-  pub pruned_live : All (λ c. live c.id ≡ true) (cands w' to r)
-  pruned_live = so (All (λ c. live c.id ≡ true)) (chosen_live degree alpha live d source (cands w a n))
+  pub pruned_live : All (λ c. live c.id ≡ true) (cands w 0 r)
+  pruned_live = so (All (λ c. live c.id ≡ true)) (chosen_live degree alpha live d source cs)
 
-  pub pruned_not_source : All (λ c. eqb c.id source ≡ false) (cands w' to r)
-  pruned_not_source = so (All (λ c. eqb c.id source ≡ false)) (chosen_not_source degree alpha live d source (cands w a n))
+  pub pruned_not_source : All (λ c. eqb c.id source ≡ false) (cands w 0 r)
+  pruned_not_source = so (All (λ c. eqb c.id source ≡ false)) (chosen_not_source degree alpha live d source cs)
 
   -- no slot twice
-  pub pruned_once : Accepted alpha → Unique (ids (cands w' to r))
-  pruned_once h = so (λ l. Unique (ids l)) (chosen_once degree alpha live d source (cands w a n) h)
+  pub pruned_once : Accepted alpha → Unique (ids (cands w 0 r))
+  pruned_once h = so (λ l. Unique (ids l)) (chosen_once degree alpha live d source cs h)
 
-  pub pruned_small : (k : ℕ) → k < r → (cand w' (to + 2 * k)).dist ≤ 16777216
-  pruned_small = cands_each (λ c. c.dist ≤ 16777216) w' to r f.small
-
-  -- a list at b that lies apart from both areas
-  pub pruned_kept : (b m : ℕ) → (a < b + 2 * m → a + 2 * n ≤ b) → (to < b + 2 * m → to + 2 * degree ≤ b) → cands w' b m ≡ cands w b m
-  pruned_kept b m x y = cands_agree w w' b m (λ j h k. f.same j (λ q. omega (arith, x (omega arith))) (λ q. omega (arith, y (omega arith))))
+  pub pruned_small : (k : ℕ) → k < r → (cand w (2 * k)).dist ≤ 16777216
+  pruned_small = front_each (λ c. c.dist ≤ 16777216) w r f.small
 
 -- a selected slot is inside
-pub pruned_inside : {degree : ℕ} {alpha : Float} (marks : List ℕ) {d : ℕ → ℕ → ℕ} {source : ℕ} {w : List ℕ} {a n to r : ℕ} {w' : List ℕ}
-    → Pruned degree alpha (is_valid marks) d source w a n to r w' → All (λ c. c.id < length marks) (cands w' to r)
-pruned_inside marks {to = to} {r = r} {w' = w'} f =
-    all_map (λ c. is_valid marks c.id ≡ true) (λ c. c.id < length marks) (λ c. live_inside marks c.id) (cands w' to r) (pruned_live f)
+pub pruned_inside : {degree : ℕ} {alpha : Float} (marks : List ℕ) {d : ℕ → ℕ → ℕ} {source : ℕ} {cs : List Candidate} {r : ℕ} {w : List ℕ}
+    → Pruned degree alpha (is_valid marks) d source cs r w → All (λ c. c.id < length marks) (cands w 0 r)
+pruned_inside marks {r = r} {w = w} f =
+    all_map (λ c. is_valid marks c.id ≡ true) (λ c. c.id < length marks) (λ c. live_inside marks c.id) (cands w 0 r) (pruned_live f)

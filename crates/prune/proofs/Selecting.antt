@@ -1,7 +1,6 @@
--- The passes of a selection over the candidates at a, with those taken at `to`. Assumes nothing.
-use Prim.Native.Nat.{ℕ, zero, suc, ◌+◌, ◌-◌, ◌*◌, ◌≤◌, ◌<◌}
+-- The passes of a selection over candidates, with those taken at the front of words. Assumes nothing.
+use Prim.Native.Nat.{ℕ, zero, suc, ◌+◌, ◌-◌, ◌*◌, ◌/◌, ◌≤◌, ◌<◌}
 use mathlib.Core.Path.{◌≡◌, refl, ap, sym, ◌∙◌}
-use mathlib.Core.Logic.{⊎_elim}
 use mathlib.Core.Bool.{Bool, true, false, cond}
 use mathlib.Core.List.{List, [], ◌∷◌, ◌++◌}
 use native.Mathlib.Numerals.{add-one}
@@ -14,49 +13,34 @@ use Rattle.lists.specs.Lists.{foldl, range}
 use Rattle.candidates.specs.Candidates.{Candidate}
 use Rattle.vectors.specs.Distance.{f32}
 use Rattle.candidates.specs.Quotient.{largest}
-use Rattle.candidates.specs.Inner.Words.{cand, cands, put, Outside}
-use Rattle.candidates.proofs.Words.{cands_none, cands_at, cands_length, cands_push, cands_kept, put_length, put_outside, outside_none, outside_wide, outside_then}
-use Rattle.vectors.specs.declared.Space.{Space}
-use Rattle.prune.proofs.Settling.{given_kept}
+use Rattle.candidates.specs.Inner.Words.{cand, cands, put}
+use Rattle.candidates.proofs.Words.{cands_none, cands_length, front_at, front_push}
 use Rattle.prune.specs.Prune.{no_candidate, Selection, thresholds_from, thresholds, raise, select, consider, pass}
-use Rattle.prune.specs.Inner.Selecting.{next_threshold, selection, settled, Given, Room, Considered, Selected}
+use Rattle.prune.specs.Inner.Selecting.{next_threshold, selection, settled, Considered, Selected}
 use Rattle.prune.specs.Lent.{SameSelector}
 use Rattle.prune.specs.declared.Selector.{Selector}
 
--- the candidates stay while the room at `to` is written
-pub apart_kept : {degree : ℕ} {w₀ : List ℕ} {a n to : ℕ} → Room degree w₀ a n to → (w w' : List ℕ) → Outside to (2 * degree) w w' → cands w' a n ≡ cands w a n
-apart_kept {degree} {w₀} {a} {n} {to} p w w' f =
-    cands_kept to (2 * degree) w w' f a n (λ (q : to < a + 2 * n). ⊎_elim (λ (h : a + 2 * n ≤ to). absurd (omega arith)) (λ (h : to + 2 * degree ≤ a). h) p.apart)
-
 -- ---- what is gone over
 pub same_none : {N : ℕ} (s : Selector N) → SameSelector s s
-same_none s = record { alpha = refl; kept = refl; space = refl; factors = refl; count = refl; words = refl; a = refl }
+same_none s = record { alpha = refl; kept = refl; space = refl; factors = refl; count = refl; list = refl; out = refl; room = refl }
 
 pub same_then : {N : ℕ} {s s' s'' : Selector N} → SameSelector s s' → SameSelector s' s'' → SameSelector s s''
-same_then f g = record { alpha = g.alpha ∙ f.alpha; kept = g.kept ∙ f.kept; space = g.space ∙ f.space; factors = g.factors ∙ f.factors; count = g.count ∙ f.count; words = g.words ∙ f.words; a = g.a ∙ f.a }
+same_then f g = record { alpha = g.alpha ∙ f.alpha; kept = g.kept ∙ f.kept; space = g.space ∙ f.space; factors = g.factors ∙ f.factors; count = g.count ∙ f.count; list = g.list ∙ f.list; out = g.out ∙ f.out; room = g.room ∙ f.room }
 
 -- ---- one candidate
-module _ (alpha : Float) (d : ℕ → ℕ → ℕ) (t : Float) (i : ℕ) (factors : List Float) (w : List ℕ) (to m : ℕ) where
-  pub considered_over : (c : List Candidate) → lt t (get_or factors i nan) ≡ true → Considered alpha d c t i factors w to m factors w m
-  considered_over c e = record { does = rw e; more = omega arith; sizes = refl; size = refl; same = outside_none (to + 2 * m) 2 w }
+module _ (alpha : Float) (d : ℕ → ℕ → ℕ) (t : Float) (i : ℕ) (factors : List Float) (w : List ℕ) (m : ℕ) where
+  pub considered_over : (c : List Candidate) → lt t (get_or factors i nan) ≡ true → Considered alpha d c t i factors w m factors w m
+  considered_over c e = record { does = rw e; more = omega arith; sizes = refl }
 
-  pub considered_taken : (a n : ℕ) {factors' : List Float} {dist id : ℕ} → lt t (get_or factors i nan) ≡ false → i < n → Room (m + 1) w a n to
-      → length factors' ≡ length factors → factors' ≡ settled alpha d (cands w a n) i factors → dist ≡ (cand w (a + 2 * i)).dist → id ≡ (cand w (a + 2 * i)).id
-      → Considered alpha d (cands w a n) t i factors w to m factors' (put w (to + 2 * m) dist id) (m + 1)
-  considered_taken a n {factors'} {dist} {id} e h l k g u v =
+  pub considered_taken : (l : List ℕ) (n : ℕ) {factors' : List Float} {dist id : ℕ} → lt t (get_or factors i nan) ≡ false → i < n → m < length w / 2
+      → length factors' ≡ length factors → factors' ≡ settled alpha d (cands l 0 n) i factors → dist ≡ (cand l (2 * i)).dist → id ≡ (cand l (2 * i)).id
+      → Considered alpha d (cands l 0 n) t i factors w m factors' (put w (2 * m) dist id) (m + 1)
+  considered_taken l n {factors'} {dist} {id} e h o k g u v =
       record {
-        does = rw (e, ← g, cands_push w dist id to m (omega (arith, l.inside)), cands_at w a n i h, u, v);
+        does = rw (e, ← g, front_push w dist id m (omega arith), front_at l n i h, u, v);
         more = omega arith;
         sizes = k;
-        size = put_length w (to + 2 * m) dist id;
-        same = put_outside w (to + 2 * m) dist id;
       }
-
--- and the candidates stay
-pub considered_given : {space : Space} {w w' : List ℕ} {a n to : ℕ} (m dist id : ℕ) → Room (m + 1) w a n to → w' ≡ put w (to + 2 * m) dist id → Given space w a n → Given space w' a n
-considered_given {w = w} {to = to} m dist id p e g =
-    let x = outside_wide (to + 2 * m) 2 to (2 * (m + 1)) w (put w (to + 2 * m) dist id) (put_outside w (to + 2 * m) dist id) (omega arith) (omega arith) in
-    rw e (given_kept w (put w (to + 2 * m) dist id) p (put_length w (to + 2 * m) dist id) x g)
 
 -- ---- thresholds
 -- those of the k passes left, the first of them with t
@@ -114,65 +98,56 @@ module _ (degree : ℕ) (alpha : Float) (d : ℕ → ℕ → ℕ) (c : List Cand
   consider_below t i factors l h j = rw (lt-leb degree (length l) h, get_or_default factors i largest nan j)
 
 -- ---- within a pass, from where it began
-pub record Scanning (degree : ℕ) (alpha : Float) (d : ℕ → ℕ → ℕ) (a n to : ℕ) (t : Float) (k : ℕ) (factors₀ : List Float) (w₀ : List ℕ) (m₀ : ℕ) (factors : List Float) (w : List ℕ) (m i : ℕ) : Type 0 where
+pub record Scanning (degree : ℕ) (alpha : Float) (d : ℕ → ℕ → ℕ) (c : List Candidate) (n : ℕ) (t : Float) (k : ℕ) (factors₀ : List Float) (w₀ : List ℕ) (m₀ : ℕ) (factors : List Float) (w : List ℕ) (m i : ℕ) : Type 0 where
   pub room : m ≤ degree
   pub sizes : length factors ≡ n
-  pub size : length w ≡ length w₀
-  pub same : Outside to (2 * degree) w₀ w
-  pub goes : foldl (pass degree alpha d (cands w₀ a n)) (foldl (consider degree alpha d (cands w₀ a n) t) (selection factors (cands w to m)) (range i (n - i))) (after (4 - k) alpha t)
-      ≡ foldl (pass degree alpha d (cands w₀ a n)) (selection factors₀ (cands w₀ to m₀)) (left (5 - k) alpha t)
+  pub goes : foldl (pass degree alpha d c) (foldl (consider degree alpha d c t) (selection factors (cands w 0 m)) (range i (n - i))) (after (4 - k) alpha t)
+      ≡ foldl (pass degree alpha d c) (selection factors₀ (cands w₀ 0 m₀)) (left (5 - k) alpha t)
 
-pub scanning_none : (degree : ℕ) (alpha : Float) (d : ℕ → ℕ → ℕ) (a n to : ℕ) (t : Float) (k : ℕ) (factors : List Float) (w : List ℕ) (m : ℕ) → k < 5 → m ≤ degree → length factors ≡ n
-    → Scanning degree alpha d a n to t k factors w m factors w m 0
-scanning_none degree alpha d a n to t k factors w m h r e =
-    let c = cands w a n in
-    let g = selection factors (cands w to m) in
+pub scanning_none : (degree : ℕ) (alpha : Float) (d : ℕ → ℕ → ℕ) (c : List Candidate) (n : ℕ) (t : Float) (k : ℕ) (factors : List Float) (w : List ℕ) (m : ℕ) → n ≡ length c → k < 5 → m ≤ degree → length factors ≡ n
+    → Scanning degree alpha d c n t k factors w m factors w m 0
+scanning_none degree alpha d c n t k factors w m l h r e =
+    let g = selection factors (cands w 0 m) in
     let u : 5 - k ≡ suc (4 - k) = omega arith in
-    let z : n - 0 ≡ length c = rw (cands_length w a n) (omega arith) in
+    let z : n - 0 ≡ length c = omega arith in
     record {
       room = r;
       sizes = e;
-      size = refl;
-      same = outside_none to (2 * degree) w;
       goes = ap (λ (s : Selection). foldl (pass degree alpha d c) s (after (4 - k) alpha t)) (one_pass degree alpha d c t g (n - 0) z)
           ∙ sym (ap (foldl (pass degree alpha d c) g) (ap (λ (j : ℕ). left j alpha t) u ∙ left_first (4 - k) alpha t));
     }
 
-module _ {degree : ℕ} {alpha : Float} {d : ℕ → ℕ → ℕ} {a n to : ℕ} {t : Float} {k : ℕ} {factors₀ : List Float} {w₀ : List ℕ} {m₀ : ℕ} {factors : List Float} {w : List ℕ} {m i : ℕ}
-    (f : Scanning degree alpha d a n to t k factors₀ w₀ m₀ factors w m i) where
-  pub scanning_more : {w₁ : List ℕ} {factors' : List Float} {w' : List ℕ} {r : ℕ} → Room degree w₁ a n to → i < n → (m ≡ degree → ⊥)
-      → Considered alpha d (cands w a (length factors)) t i factors w to m factors' w' r → Scanning degree alpha d a n to t k factors₀ w₀ m₀ factors' w' r (i + 1)
-  scanning_more {w₁} {factors'} {w'} {r} p h q g =
+module _ {degree : ℕ} {alpha : Float} {d : ℕ → ℕ → ℕ} {c : List Candidate} {n : ℕ} {t : Float} {k : ℕ} {factors₀ : List Float} {w₀ : List ℕ} {m₀ : ℕ} {factors : List Float} {w : List ℕ} {m i : ℕ}
+    (f : Scanning degree alpha d c n t k factors₀ w₀ m₀ factors w m i) where
+  pub scanning_more : {factors' : List Float} {w' : List ℕ} {r : ℕ} → i < n → (m ≡ degree → ⊥) → Considered alpha d c t i factors w m factors' w' r
+      → Scanning degree alpha d c n t k factors₀ w₀ m₀ factors' w' r (i + 1)
+  scanning_more {factors'} {w'} {r} h q g =
       let z : n - i ≡ suc (n - (i + 1)) = omega arith in
-      let c = cands w₀ a n in
-      let e : cands w a (length factors) ≡ c = ap (λ (z : ℕ). cands w a z) f.sizes ∙ apart_kept p w₀ w f.same in
-      let l : length (cands w to m) < degree = rw (cands_length w to m) (omega arith) in
-      let x : consider degree alpha d c t (selection factors (cands w to m)) i ≡ selection factors' (cands w' to r) =
-      consider_below degree alpha d c t i factors (cands w to m) l (omega arith) ∙ sym (rw e at g.does) in
+      let l : length (cands w 0 m) < degree = rw (cands_length w 0 m) (omega arith) in
+      let x : consider degree alpha d c t (selection factors (cands w 0 m)) i ≡ selection factors' (cands w' 0 r) =
+      consider_below degree alpha d c t i factors (cands w 0 m) l (omega arith) ∙ sym g.does in
       record {
         room = omega arith;
         sizes = g.sizes ∙ f.sizes;
-        size = g.size ∙ f.size;
-        same = outside_then to (2 * degree) w₀ w w' f.same (outside_wide (to + 2 * m) 2 to (2 * degree) w w' g.same (omega arith) (omega arith));
         goes = rw (← x, add-one i) (rw (z, add-one i) at f.goes);
       }
 
   -- the degree is reached
-  pub scanning_full : m ≡ degree → selection factors (cands w to m) ≡ foldl (pass degree alpha d (cands w₀ a n)) (selection factors₀ (cands w₀ to m₀)) (left (5 - k) alpha t)
+  pub scanning_full : m ≡ degree → selection factors (cands w 0 m) ≡ foldl (pass degree alpha d c) (selection factors₀ (cands w₀ 0 m₀)) (left (5 - k) alpha t)
   scanning_full e =
-      let h = selection factors (cands w to m) in
-      let l : degree ≤ length (cands w to m) = rw (cands_length w to m) (omega arith) in
-      rw (scan_full degree alpha d (cands w₀ a n) h l t i (n - i), passes_full degree alpha d (cands w₀ a n) h l (after (4 - k) alpha t)) at f.goes
+      let h = selection factors (cands w 0 m) in
+      let l : degree ≤ length (cands w 0 m) = rw (cands_length w 0 m) (omega arith) in
+      rw (scan_full degree alpha d c h l t i (n - i), passes_full degree alpha d c h l (after (4 - k) alpha t)) at f.goes
 
   -- the pass is over, and was the last
-  pub scanning_last : n ≤ i → le alpha t ≡ true → selection factors (cands w to m) ≡ foldl (pass degree alpha d (cands w₀ a n)) (selection factors₀ (cands w₀ to m₀)) (left (5 - k) alpha t)
+  pub scanning_last : n ≤ i → le alpha t ≡ true → selection factors (cands w 0 m) ≡ foldl (pass degree alpha d c) (selection factors₀ (cands w₀ 0 m₀)) (left (5 - k) alpha t)
   unfolding after
   scanning_last h e = let z : n - i ≡ 0 = omega arith in rw (z, e) at f.goes
 
   -- another follows
   pub scanning_next : (t' : Float) → n ≤ i → le alpha t ≡ false → t' ≡ next_threshold alpha t
-      → foldl (pass degree alpha d (cands w₀ a n)) (selection factors (cands w to m)) (left (5 - (k + 1)) alpha t')
-      ≡ foldl (pass degree alpha d (cands w₀ a n)) (selection factors₀ (cands w₀ to m₀)) (left (5 - k) alpha t)
+      → foldl (pass degree alpha d c) (selection factors (cands w 0 m)) (left (5 - (k + 1)) alpha t')
+      ≡ foldl (pass degree alpha d c) (selection factors₀ (cands w₀ 0 m₀)) (left (5 - k) alpha t)
   unfolding after
   scanning_next t' h e g =
       let z : n - i ≡ 0 = omega arith in
@@ -180,40 +155,31 @@ module _ {degree : ℕ} {alpha : Float} {d : ℕ → ℕ → ℕ} {a n to : ℕ}
       rw (y, g) (rw (z, e) at f.goes)
 
 -- ---- between passes
-pub record Passing (degree : ℕ) (alpha : Float) (d : ℕ → ℕ → ℕ) (a n to : ℕ) (factors₀ : List Float) (w₀ : List ℕ) (factors : List Float) (w : List ℕ) (m : ℕ) (t : Float) (k : ℕ) : Type 0 where
+pub record Passing (degree : ℕ) (alpha : Float) (d : ℕ → ℕ → ℕ) (c : List Candidate) (n : ℕ) (factors₀ : List Float) (factors : List Float) (w : List ℕ) (m : ℕ) (t : Float) (k : ℕ) : Type 0 where
   pub room : m ≤ degree
   pub sizes : length factors ≡ n
-  pub size : length w ≡ length w₀
-  pub same : Outside to (2 * degree) w₀ w
-  pub goes : foldl (pass degree alpha d (cands w₀ a n)) (selection factors (cands w to m)) (left (5 - k) alpha t) ≡ foldl (pass degree alpha d (cands w₀ a n)) (selection factors₀ []) (thresholds alpha)
+  pub goes : foldl (pass degree alpha d c) (selection factors (cands w 0 m)) (left (5 - k) alpha t) ≡ foldl (pass degree alpha d c) (selection factors₀ []) (thresholds alpha)
 
-pub passing_none : (degree : ℕ) (alpha : Float) (d : ℕ → ℕ → ℕ) (a n to : ℕ) (factors : List Float) (w : List ℕ) (t : Float) → t ≡ f32 1 → length factors ≡ n → Passing degree alpha d a n to factors w factors w 0 t 0
-passing_none degree alpha d a n to factors w t u e =
-    record { room = omega arith; sizes = e; size = refl; same = outside_none to (2 * degree) w; goes = rw (u, left_all alpha, cands_none w to 0 refl) }
+pub passing_none : (degree : ℕ) (alpha : Float) (d : ℕ → ℕ → ℕ) (c : List Candidate) (n : ℕ) (factors : List Float) (w : List ℕ) (t : Float) → t ≡ f32 1 → length factors ≡ n → Passing degree alpha d c n factors factors w 0 t 0
+passing_none degree alpha d c n factors w t u e =
+    record { room = omega arith; sizes = e; goes = rw (u, left_all alpha, cands_none w 0 0 refl) }
 
-module _ {degree : ℕ} {alpha : Float} {d : ℕ → ℕ → ℕ} {a n to : ℕ} {factors₀ : List Float} {w₀ : List ℕ} {factors₁ : List Float} {w₁ : List ℕ} {m₁ : ℕ} {t : Float} {k : ℕ}
-    (g : Passing degree alpha d a n to factors₀ w₀ factors₁ w₁ m₁ t k) where
-  selected : {factors : List Float} {w : List ℕ} {m : ℕ} → m ≤ degree → length w ≡ length w₀ → Outside to (2 * degree) w₀ w
-      → selection factors (cands w to m) ≡ foldl (pass degree alpha d (cands w₀ a n)) (selection factors₀ []) (thresholds alpha) → Selected degree alpha d factors₀ w₀ a n to m w
-  selected r e u x = record { list = ap (λ (h : Selection). h.selected) x; few = r; size = e; same = u }
+module _ {degree : ℕ} {alpha : Float} {d : ℕ → ℕ → ℕ} {c : List Candidate} {n : ℕ} {factors₀ : List Float} {factors₁ : List Float} {w₁ : List ℕ} {m₁ : ℕ} {t : Float} {k : ℕ}
+    (g : Passing degree alpha d c n factors₀ factors₁ w₁ m₁ t k) where
+  selected : {factors : List Float} {w : List ℕ} {m : ℕ} → m ≤ degree
+      → selection factors (cands w 0 m) ≡ foldl (pass degree alpha d c) (selection factors₀ []) (thresholds alpha) → Selected degree alpha d factors₀ c m w
+  selected r x = record { list = ap (λ (h : Selection). h.selected) x; few = r }
 
-  pub passing_done : 5 ≤ k → Selected degree alpha d factors₀ w₀ a n to m₁ w₁
+  pub passing_done : 5 ≤ k → Selected degree alpha d factors₀ c m₁ w₁
   unfolding left
-  passing_done h = let z : 5 - k ≡ 0 = omega arith in selected {factors = factors₁} g.room g.size g.same (rw z at g.goes)
+  passing_done h = let z : 5 - k ≡ 0 = omega arith in selected {factors = factors₁} g.room (rw z at g.goes)
 
-  module _ {factors : List Float} {w : List ℕ} {m i : ℕ} {w₂ : List ℕ} (p : Room degree w₂ a n to) (f : Scanning degree alpha d a n to t k factors₁ w₁ m₁ factors w m i) where
-    e₁ : cands w₁ a n ≡ cands w₀ a n
-    e₁ = apart_kept p w₀ w₁ g.same
+  module _ {factors : List Float} {w : List ℕ} {m i : ℕ} (f : Scanning degree alpha d c n t k factors₁ w₁ m₁ factors w m i) where
+    pub passing_more : {t' : Float} → k < 5 → n ≤ i → le alpha t ≡ false → t' ≡ next_threshold alpha t → Passing degree alpha d c n factors₀ factors w m t' (k + 1)
+    passing_more {t'} l h e q = record { room = f.room; sizes = f.sizes; goes = scanning_next f t' h e q ∙ g.goes }
 
-    u : Outside to (2 * degree) w₀ w
-    u = outside_then to (2 * degree) w₀ w₁ w g.same f.same
+    pub passing_full : m ≡ degree → Selected degree alpha d factors₀ c m w
+    passing_full e = selected {factors = factors} f.room (scanning_full f e ∙ g.goes)
 
-    pub passing_more : {t' : Float} → k < 5 → n ≤ i → le alpha t ≡ false → t' ≡ next_threshold alpha t → Passing degree alpha d a n to factors₀ w₀ factors w m t' (k + 1)
-    passing_more {t'} l h e q =
-        record { room = f.room; sizes = f.sizes; size = f.size ∙ g.size; same = u; goes = rw e₁ at (scanning_next f t' h e q) ∙ g.goes }
-
-    pub passing_full : m ≡ degree → Selected degree alpha d factors₀ w₀ a n to m w
-    passing_full e = selected {factors = factors} f.room (f.size ∙ g.size) u (rw e₁ at (scanning_full f e) ∙ g.goes)
-
-    pub passing_last : n ≤ i → le alpha t ≡ true → Selected degree alpha d factors₀ w₀ a n to m w
-    passing_last h e = selected {factors = factors} f.room (f.size ∙ g.size) u (rw e₁ at (scanning_last f h e) ∙ g.goes)
+    pub passing_last : n ≤ i → le alpha t ≡ true → Selected degree alpha d factors₀ c m w
+    passing_last h e = selected {factors = factors} f.room (scanning_last f h e ∙ g.goes)

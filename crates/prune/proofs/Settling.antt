@@ -1,7 +1,6 @@
 -- A candidate is taken: the factors after it are raised, one after the other. Assumes nothing.
 use Prim.Native.Nat.{ℕ, suc, ◌+◌, ◌-◌, ◌*◌, ◌≤◌, ◌<◌}
 use mathlib.Core.Path.{◌≡◌, refl, sym, ◌∙◌}
-use mathlib.Core.Logic.{⊎_elim}
 use mathlib.Core.Bool.{Bool, true, false, cond}
 use mathlib.Core.List.{List}
 use native.Mathlib.Numerals.{add-one}
@@ -16,12 +15,10 @@ use Rattle.vectors.specs.Lent.{HasVector}
 use Rattle.vectors.specs.declared.Space.{Space}
 use Rattle.candidates.specs.Candidates.{Candidate}
 use Rattle.candidates.specs.Quotient.{largest, fmax, quotient}
-use Rattle.candidates.specs.Inner.Words.{cand, cands, Outside}
-use Rattle.candidates.proofs.Words.{cands_at, cands_length}
+use Rattle.candidates.specs.Inner.Words.{cand, cands}
+use Rattle.candidates.proofs.Words.{front_at, cands_length}
 use Rattle.prune.specs.Prune.{raise}
-use Rattle.prune.specs.Inner.Selecting.{raised_factor, settled, Given, Room}
-
--- so that the examples are checked first
+use Rattle.prune.specs.Inner.Selecting.{raised_factor, settled, Given}
 
 -- ---- one factor
 pub raised_over : (alpha : Float) (own pair : ℕ) (f : Float) → lt alpha f ≡ true → f ≡ raised_factor alpha own pair f
@@ -33,71 +30,50 @@ unfolding raised_factor
 raised_to alpha own {d} {pair} f {r} {q} e n g h = rw (e, ← n.equals, ← g) h
 
 -- ---- all of those after the one taken
-module _ (alpha : Float) (d : ℕ → ℕ → ℕ) (w : List ℕ) (a n : ℕ) (x : Candidate) where
+module _ (alpha : Float) (d : ℕ → ℕ → ℕ) (w : List ℕ) (n : ℕ) (x : Candidate) where
   -- from factors₀ and j₀ on, those before j are raised
   pub record Raising (factors₀ : List Float) (j₀ : ℕ) (factors : List Float) (j : ℕ) : Type 0 where
     pub size : length factors ≡ n
-    pub goes : foldl (raise 0 alpha d (cands w a n) x) factors (range j (n - j)) ≡ foldl (raise 0 alpha d (cands w a n) x) factors₀ (range j₀ (n - j₀))
+    pub goes : foldl (raise 0 alpha d (cands w 0 n) x) factors (range j (n - j)) ≡ foldl (raise 0 alpha d (cands w 0 n) x) factors₀ (range j₀ (n - j₀))
 
   pub raising_none : (factors : List Float) (j : ℕ) → length factors ≡ n → Raising factors j factors j
   raising_none factors j e = record { size = e; goes = refl }
 
   one : (factors : List Float) (j : ℕ) → j < n → length factors ≡ n
-      → raise 0 alpha d (cands w a n) x factors j
-      ≡ set factors j (raised_factor alpha (cand w (a + 2 * j)).dist (d (cand w (a + 2 * j)).id x.id) (get_or factors j nan))
+      → raise 0 alpha d (cands w 0 n) x factors j
+      ≡ set factors j (raised_factor alpha (cand w (2 * j)).dist (d (cand w (2 * j)).id x.id) (get_or factors j nan))
   unfolding raise raised_factor
-  one factors j h e = rw (cands_at w a n j h, get_or_default factors j largest nan (omega arith)) (go (lt alpha (get_or factors j nan)) _)
+  one factors j h e = rw (front_at w n j h, get_or_default factors j largest nan (omega arith)) (go (lt alpha (get_or factors j nan)) _)
     where
       go : (b : Bool) (y : Float) → cond b factors (set factors j y) ≡ set factors j (cond b (get_or factors j nan) y)
       go true y = sym (set-get_or factors j nan)
       go false y = refl
 
-module _ {alpha : Float} {d : ℕ → ℕ → ℕ} {w : List ℕ} {a n : ℕ} {x : Candidate} {factors₀ : List Float} {j₀ : ℕ} {factors : List Float} {j : ℕ} (f : Raising alpha d w a n x factors₀ j₀ factors j) where
-  pub raising_more : {own s y : ℕ} {r : Float} → j < n → own ≡ (cand w (a + 2 * j)).dist → s ≡ (cand w (a + 2 * j)).id → y ≡ x.id
+module _ {alpha : Float} {d : ℕ → ℕ → ℕ} {w : List ℕ} {n : ℕ} {x : Candidate} {factors₀ : List Float} {j₀ : ℕ} {factors : List Float} {j : ℕ} (f : Raising alpha d w n x factors₀ j₀ factors j) where
+  pub raising_more : {own s y : ℕ} {r : Float} → j < n → own ≡ (cand w (2 * j)).dist → s ≡ (cand w (2 * j)).id → y ≡ x.id
       → r ≡ raised_factor alpha own (d s y) (get_or factors j nan)
-      → Raising alpha d w a n x factors₀ j₀ (set factors j r) (j + 1)
+      → Raising alpha d w n x factors₀ j₀ (set factors j r) (j + 1)
   raising_more {own} {s} {y} {r} h o i z e =
       let k : n - j ≡ suc (n - (j + 1)) = omega arith in
       record {
         size = length-set factors j r ∙ f.size;
-        goes = rw (e, o, i, z, ← one alpha d w a n x factors j h f.size, add-one j) (rw (k, add-one j) at f.goes);
+        goes = rw (e, o, i, z, ← one alpha d w n x factors j h f.size, add-one j) (rw (k, add-one j) at f.goes);
       }
 
-pub raising_done : {alpha : Float} {d : ℕ → ℕ → ℕ} {w : List ℕ} {a n i : ℕ} (factors₀ : List Float) {factors : List Float} {j : ℕ} → i < n → n ≤ j
-    → Raising alpha d w a n (cand w (a + 2 * i)) (set factors₀ i largest) (i + 1) factors j → factors ≡ settled alpha d (cands w a n) i factors₀
+pub raising_done : {alpha : Float} {d : ℕ → ℕ → ℕ} {w : List ℕ} {n i : ℕ} (factors₀ : List Float) {factors : List Float} {j : ℕ} → i < n → n ≤ j
+    → Raising alpha d w n (cand w (2 * i)) (set factors₀ i largest) (i + 1) factors j → factors ≡ settled alpha d (cands w 0 n) i factors₀
 unfolding settled
-raising_done {alpha} {d} {w} {a} {n} {i} factors₀ {factors} {j} h l f =
+raising_done {alpha} {d} {w} {n} {i} factors₀ {factors} {j} h l f =
     let k : n - j ≡ 0 = omega arith in
-    rw (cands_at w a n i h, cands_length w a n, ← add-one i) (rw k at f.goes)
+    rw (front_at w n i h, cands_length w 0 n, ← add-one i) (rw k at f.goes)
 
 -- ---- what the candidates are asked
-module _ {space : Space} {w : List ℕ} {a n : ℕ} (g : Given space w a n) {k : ℕ} (h : k < n) where
-  pub given_small : {own : ℕ} → own ≡ (cand w (a + 2 * k)).dist → own ≤ 16777216
+module _ {space : Space} {w : List ℕ} {n : ℕ} (g : Given space w n) {k : ℕ} (h : k < n) where
+  pub given_small : {own : ℕ} → own ≡ (cand w (2 * k)).dist → own ≤ 16777216
   given_small e = rw e (g.small k h)
 
-  pub given_stored : {s : ℕ} → s ≡ (cand w (a + 2 * k)).id → HasVector space s
+  pub given_stored : {s : ℕ} → s ≡ (cand w (2 * k)).id → HasVector space s
   given_stored e = rw e (g.stored k h)
 
-  pub given_numbered : {s : ℕ} → s ≡ (cand w (a + 2 * k)).id → s < 65536
+  pub given_numbered : {s : ℕ} → s ≡ (cand w (2 * k)).id → s < 65536
   given_numbered e = rw e (g.numbered k h)
-
--- they stay so while words apart from them are written
-pub given_kept : {space : Space} {degree : ℕ} {w₀ : List ℕ} {a n to : ℕ} (w w' : List ℕ) → Room degree w₀ a n to → length w' ≡ length w → Outside to (2 * degree) w w'
-    → Given space w a n → Given space w' a n
-given_kept {space} {degree} {w₀} {a} {n} {to} w w' p e f g =
-    record {
-      short = g.short;
-      inside = omega (arith, e, g.inside);
-      small = λ k h. rw (kept_dist k h) (g.small k h);
-      stored = λ k h. rw (kept_id k h) (g.stored k h);
-      numbered = λ k h. rw (kept_id k h) (g.numbered k h);
-    }
-  where
-    beside : (j : ℕ) → a ≤ j → j < a + 2 * n → to ≤ j → to + 2 * degree ≤ j
-    beside j l m q = ⊎_elim (λ (h : a + 2 * n ≤ to). absurd (omega arith)) (λ (h : to + 2 * degree ≤ a). omega arith) p.apart
-
-    kept_dist : (k : ℕ) → k < n → get_or w' (a + 2 * k) 0 ≡ get_or w (a + 2 * k) 0
-    kept_dist k h = f (a + 2 * k) (beside (a + 2 * k) (omega arith) (omega arith))
-
-    kept_id : (k : ℕ) → k < n → get_or w' (a + 2 * k + 1) 0 ≡ get_or w (a + 2 * k + 1) 0
-    kept_id k h = f (a + 2 * k + 1) (beside (a + 2 * k + 1) (omega arith) (omega arith))

@@ -9,5 +9,6 @@ pub record SameSelector {n : ℕ} (p p' : Selector n) : Type 0 where
   pub space : p'.kept.now.space ≡ p.kept.now.space
   pub factors : p'.factors.ghost_name ≡ p.factors.ghost_name
   pub count : length p'.factors.now ≡ length p.factors.now
-  pub words : p'.words.ghost_name ≡ p.words.ghost_name
-  pub a : p'.a ≡ p.a
+  pub list : p'.list ≡ p.list
+  pub out : p'.out.ghost_name ≡ p.out.ghost_name
+  pub room : length p'.out.now ≡ length p.out.now

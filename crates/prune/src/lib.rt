@@ -1,14 +1,14 @@
 // Selections: which of a list of candidates become the neighbours of a slot.
 #![tactic(auto)]
 
-ghost use Rattle.std.specs.Prelude.{◌≡◌, ◌+◌, ◌*◌, ◌<◌, ◌≤◌, length};
+ghost use Rattle.std.specs.Prelude.{◌≡◌, ◌/◌, ◌<◌, ◌≤◌, length};
 ghost use Rattle.vectors.specs.Space.{slot_distance};
 ghost use Rattle.vectors.specs.Lent.{space_of, HasVector};
 ghost use Rattle.candidates.specs.Quotient.{fmax, fmin};
-ghost use Rattle.candidates.specs.Inner.Words.{cands, Left};
+ghost use Rattle.candidates.specs.Inner.Words.{cands, cands_of, Remain};
 ghost use Rattle.slots.specs.Store.{is_valid};
 ghost use Rattle.prune.specs.Prune.{considered};
-ghost use Rattle.prune.specs.Inner.Selecting.{next_threshold, raised_factor, settled, Given, Room, Considered, Selected, Picked, Ready, Pruned};
+ghost use Rattle.prune.specs.Inner.Selecting.{next_threshold, raised_factor, settled, Given, Considered, Selected, Picked, Ready, Pruned};
 
 use distances::Kept;
 
@@ -55,73 +55,63 @@ fn raised<const N: usize>(
     larger(f, candidates::quotient(own, pair))
 }
 
-// Where the candidates taken go: at `to` of the words, as many as the degree at most.
-#[derive(Clone, Copy)]
-struct Output {
-    degree: usize,
-    to: usize,
-}
-
-// What the passes of a selection go over: candidates at `a` of the words, a factor each, and the distances that are kept meanwhile.
+// What the passes of a selection go over: the first candidates of a list, a factor each, the distances that are kept meanwhile, and where those taken go.
 #[derive(Drop)]
-struct Selector<'k, 's, 'f, 'w, const N: usize> {
+struct Selector<'k, 's, 'f, 'l, 'o, const N: usize> {
     alpha: f32,
     kept: &'k mut Kept<'s, N>,
     factors: &'f mut [f32],
-    words: &'w mut [u32],
-    a: usize,
-    ghost given: { Given kept.now.space words.now a (length factors.now) },
+    list: &'l [u32],
+    out: &'o mut [u32],
+    ghost given: { Given kept.now.space list.now (length factors.now) },
 }
 
-impl<const N: usize> Selector<'_, '_, '_, '_, N> {
+impl<const N: usize> Selector<'_, '_, '_, '_, '_, N> {
     ghost use Rattle.prune.specs.Lent.{SameSelector};
 
     // Candidate `i` is taken: its factor becomes the largest, and those after it are raised.
     fn settle(&mut self, i: usize)
         requires { i < length self.old.factors.now }
-        ensures { (self.new.factors.now ≡ settled self.old.alpha (slot_distance (space_of self.old.kept.now.space)) (cands self.old.words.now self.old.a (length self.old.factors.now)) i self.old.factors.now)
-            × (self.new.words.now ≡ self.old.words.now) × SameSelector self.old self.new }
+        ensures { (self.new.factors.now ≡ settled self.old.alpha (slot_distance (space_of self.old.kept.now.space)) (cands self.old.list.now 0 (length self.old.factors.now)) i self.old.factors.now)
+            × (self.new.out.now ≡ self.old.out.now) × SameSelector self.old self.new }
     {
         let alpha = self.alpha;
-        let a = self.a;
-        let words = &mut *self.words;
+        let list = self.list;
         let factors = &mut *self.factors;
         let kept = &mut *self.kept;
         let n = factors.len();
-        let y = candidates::id_at(words, a, i);
+        let y = candidates::id_at(list, i);
         factors[i] = candidates::LARGEST;
         for j in i + 1..n {
-            let own = candidates::dist_at(words, a, j);
-            let x = candidates::id_at(words, a, j);
+            let own = candidates::dist_at(list, j);
+            let x = candidates::id_at(list, j);
             factors[j] = raised(factors[j], alpha, own, kept, x, y);
         }
     }
 
-    // Candidate `i` is taken unless its factor is above the threshold; `m` lie at `to` already. Returns how many are taken.
-    fn consider(&mut self, i: usize, to: usize, m: usize, threshold: f32) -> usize
-        requires { (i < length self.old.factors.now) × Room (m + 1) self.old.words.now self.old.a (length self.old.factors.now) to }
-        ensures { Considered self.old.alpha (slot_distance (space_of self.old.kept.now.space)) (cands self.old.words.now self.old.a (length self.old.factors.now)) threshold i
-            self.old.factors.now self.old.words.now to m self.new.factors.now self.new.words.now result × SameSelector self.old self.new }
+    // Candidate `i` is taken unless its factor is above the threshold; `m` are taken already. Returns how many are taken.
+    fn consider(&mut self, i: usize, m: usize, threshold: f32) -> usize
+        requires { (i < length self.old.factors.now) × (m < length self.old.out.now / 2) }
+        ensures { Considered self.old.alpha (slot_distance (space_of self.old.kept.now.space)) (cands self.old.list.now 0 (length self.old.factors.now)) threshold i
+            self.old.factors.now self.old.out.now m self.new.factors.now self.new.out.now result × SameSelector self.old self.new }
     {
         if self.factors[i] > threshold {
             return m;
         }
         self.settle(i);
-        let words = &mut *self.words;
-        let dist = candidates::dist_at(words, self.a, i);
-        let id = candidates::id_at(words, self.a, i);
-        candidates::put(words, to + 2 * m, dist, id);
+        let dist = candidates::dist_at(self.list, i);
+        let id = candidates::id_at(self.list, i);
+        candidates::put(self.out, m, dist, id);
         m + 1
     }
 
-    // The passes over the candidates. Returns how many are taken; they lie at `out`. Both loops stand here, since they end together, by a label.
-    fn select(&mut self, out: Output) -> usize
-        requires { Room out.degree self.old.words.now self.old.a (length self.old.factors.now) out.to }
-        ensures { Selected out.degree self.old.alpha (slot_distance (space_of self.old.kept.now.space)) self.old.factors.now self.old.words.now self.old.a (length self.old.factors.now) out.to result self.new.words.now
+    // The passes over the candidates. Returns how many are taken: as many as have room at most. Both loops stand here, since they end together, by a label.
+    fn select(&mut self) -> usize
+        ensures { Selected (length self.old.out.now / 2) self.old.alpha (slot_distance (space_of self.old.kept.now.space)) self.old.factors.now (cands self.old.list.now 0 (length self.old.factors.now)) result self.new.out.now
             × SameSelector self.old self.new }
     {
         let alpha = self.alpha;
-        let Output { degree, to } = out;
+        let degree = self.out.len() / 2;
         let n = self.factors.len();
         let mut m: usize = 0;
         let mut threshold: f32 = 1.0;
@@ -130,7 +120,7 @@ impl<const N: usize> Selector<'_, '_, '_, '_, N> {
                 if m == degree {
                     break 'passes;
                 }
-                m = self.consider(i, to, m, threshold);
+                m = self.consider(i, m, threshold);
             }
             if threshold >= alpha {
                 break;
@@ -141,72 +131,67 @@ impl<const N: usize> Selector<'_, '_, '_, '_, N> {
     }
 }
 
-// Selects from as many candidates at `a` as there are factors. A function of its own: with the selector made beside the array of factors it was not proved what it
-// leaves in `words` and `kept`.
+// Selects from as many candidates of a list as there are factors. A function of its own: with the selector made beside the array of factors it was not proved what
+// it leaves in `out` and `kept`.
 fn run_passes<const N: usize>(
     alpha: f32,
     kept: &mut Kept<'_, N>,
     factors: &mut [f32],
-    words: &mut [u32],
-    a: usize,
-    out: Output,
+    list: &[u32],
+    out: &mut [u32],
 ) -> usize
-    requires { Given kept.old.space words.old a (length factors.old) × Room out.degree words.old a (length factors.old) out.to }
-    ensures { Selected out.degree alpha (slot_distance (space_of kept.old.space)) factors.old words.old a (length factors.old) out.to result words.new × (kept.new.space ≡ kept.old.space) }
+    requires { Given kept.old.space list.now (length factors.old) }
+    ensures { Selected (length out.old / 2) alpha (slot_distance (space_of kept.old.space)) factors.old (cands list.now 0 (length factors.old)) result out.new × (kept.new.space ≡ kept.old.space) }
 {
     let mut selector = Selector {
         alpha,
         kept,
         factors,
-        words,
-        a,
+        list,
+        out,
     };
-    selector.select(out)
+    selector.select()
 }
 
-// Selects from the `n` candidates at `a`, 750 at most. The factors are an array of this function alone, so that they take the same part of the stack as what
-// `prepare` needs before.
+// Selects from the first `n` candidates of a list, 750 at most. The factors are an array of this function alone, so that they take the same part of the stack as
+// what `prepare` needs before.
 fn pick<const N: usize>(
     alpha: f32,
     kept: &mut Kept<'_, N>,
-    words: &mut [u32],
-    a: usize,
+    list: &[u32],
     n: usize,
-    out: Output,
+    out: &mut [u32],
 ) -> usize
-    requires { Given kept.old.space words.old a n × Room out.degree words.old a n out.to × (n ≤ 750) }
-    ensures { Picked out.degree alpha (slot_distance (space_of kept.old.space)) words.old a n out.to result words.new × (kept.new.space ≡ kept.old.space) }
+    requires { Given kept.old.space list.now n × (n ≤ 750) }
+    ensures { Picked (length out.old / 2) alpha (slot_distance (space_of kept.old.space)) (cands list.now 0 n) result out.new × (kept.new.space ≡ kept.old.space) }
 {
     let mut factors = [0.0f32; 750];
-    run_passes(alpha, kept, &mut factors[..n], words, a, out)
+    run_passes(alpha, kept, &mut factors[..n], list, out)
 }
 
-// What is selected from: no source, no dead slot, by distance, each slot's first, 750 at most. Returns how many are left.
-fn prepare(marks: &[u8], source: u32, words: &mut [u32], a: usize, n: usize) -> usize
-    requires { a + 2 * n ≤ length words.old }
-    ensures { Left words.old a n (considered (is_valid marks.now) source (cands words.old a n)) result words.new }
+// What is selected from: no source, no dead slot, by distance, each slot's first, 750 at most. Returns how many are left, at the front.
+fn prepare(marks: &[u8], source: u32, list: &mut [u32]) -> usize
+    ensures { Remain list.old (considered (is_valid marks.now) source (cands_of list.old)) result list.new }
 {
-    let k = candidates::keep_valid(words, a, n, marks, source);
-    candidates::sort_by_distance(words, a, k);
-    candidates::keep_first(words, a, k, 750)
+    let k = candidates::keep_valid(list, marks, source);
+    let kept = &mut list[..2 * k];
+    candidates::sort_by_distance(kept);
+    candidates::keep_first(kept, 750)
 }
 
-// Selects the neighbours of slot `source` from the `n` candidates at `a`, which it rearranges. Returns how many they are; they lie at `to`. Distances
-// that the table `kept` has are read there. Its callers have these nine in structs that differ, so that a struct of them would be made for the call alone.
+// Selects the neighbours of slot `source` from a list, which it rearranges, as many as `out` has room for at most. Returns how many they are; they lie at the front
+// of `out`. Distances that the table `kept` has are read there.
 pub fn prune_scored<const N: usize>(
-    degree: usize,
     alpha: f32,
     kept: &mut Kept<'_, N>,
     marks: &[u8],
     source: u32,
-    scratch: &mut [u32],
-    a: usize,
-    n: usize,
-    to: usize,
+    list: &mut [u32],
+    out: &mut [u32],
 ) -> usize
-    requires { Ready degree kept.old.space.dim kept.old.space.vectors.now marks.now scratch.old a n to }
-    ensures { Pruned degree alpha (is_valid marks.now) (slot_distance (space_of kept.old.space)) source scratch.old a n to result scratch.new × (kept.new.space ≡ kept.old.space) }
+    requires { Ready kept.old.space.dim kept.old.space.vectors.now marks.now list.old }
+    ensures { Pruned (length out.old / 2) alpha (is_valid marks.now) (slot_distance (space_of kept.old.space)) source (cands_of list.old) result out.new × (kept.new.space ≡ kept.old.space) }
 {
-    let m = prepare(marks, source, scratch, a, n);
-    pick(alpha, kept, scratch, a, m, Output { degree, to })
+    let m = prepare(marks, source, list);
+    pick(alpha, kept, list, m, out)
 }

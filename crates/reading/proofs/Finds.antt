@@ -19,7 +19,7 @@ use Rattle.slots.specs.Scratch.{size_answer, marks_at}
 use Rattle.candidates.specs.Candidates.{Candidate, ids}
 use Rattle.vectors.specs.Distance.{f32}
 use Rattle.candidates.specs.Inner.Words.{cand, cands, Small}
-use Rattle.candidates.proofs.Words.{cands_none, cands_length, cands_snoc, cands_each, cands_take}
+use Rattle.candidates.proofs.Words.{cands_none, cands_length, front_snoc, front_each, cands_take}
 use Rattle.slots.specs.Store.{Arrays, store_view, store_ops}
 use Rattle.numbers.specs.Numbers.{number_of}
 use Rattle.walk.specs.Walk.{search_pool}
@@ -77,14 +77,14 @@ pub showing_none : (w : List ℕ) (n : ℕ) (slots : List ℕ) (dists : List Flo
 showing_none w n slots dists = let e = cands_none w 0 0 refl in record { below = omega arith; slots_size = refl; dists_size = refl; slots_so_far = rw e; dists_so_far = rw e }
 
 -- one more
-next_shown : {B : Type 0} (f : Candidate → B) (w : List ℕ) (i : ℕ) (l l' : List B) (v : B) → l' ≡ put_front (map f (cands w 0 i)) l → v ≡ f (cand w (0 + 2 * i)) → i < length l
+next_shown : {B : Type 0} (f : Candidate → B) (w : List ℕ) (i : ℕ) (l l' : List B) (v : B) → l' ≡ put_front (map f (cands w 0 i)) l → v ≡ f (cand w (2 * i)) → i < length l
     → set l' i v ≡ put_front (map f (cands w 0 (i + 1))) l
 next_shown f w i l l' v e g h =
     let n = cands_length w 0 i in
-    rw (e, g, cands_snoc w 0 i) (rw n at (front_map f (cands w 0 i) (cand w (0 + 2 * i)) l (rw n h)))
+    rw (e, g, front_snoc w i) (rw n at (front_map f (cands w 0 i) (cand w (2 * i)) l (rw n h)))
 
 module _ {w : List ℕ} {n : ℕ} {slots : List ℕ} {dists : List Float} {slots' : List ℕ} {dists' : List Float} {i : ℕ} (s : Showing w n slots dists slots' dists' i) (f : Fits w n slots dists) where
-  pub showing_more : {dist id : ℕ} {d : Float} {j : ℕ} → i < n → dist ≡ (cand w (0 + 2 * i)).dist → id ≡ (cand w (0 + 2 * i)).id → (d ≡ f32 dist) × (j ≡ id)
+  pub showing_more : {dist id : ℕ} {d : Float} {j : ℕ} → i < n → dist ≡ (cand w (2 * i)).dist → id ≡ (cand w (2 * i)).id → (d ≡ f32 dist) × (j ≡ id)
       → Showing w n slots dists (set slots' i j) (set dists' i d) (i + 1)
   showing_more h e g c =
       record {
@@ -95,8 +95,8 @@ module _ {w : List ℕ} {n : ℕ} {slots : List ℕ} {dists : List Float} {slots
         dists_so_far = next_shown (λ c. f32 c.dist) w i dists dists' _ s.dists_so_far (c.0 ∙ ap f32 e) (omega (arith, f.dists_long));
       }
 
-  pub showing_small : i < n → (cand w (0 + 2 * i)).dist ≤ 16777216
-  showing_small h = cands_each (λ c. c.dist ≤ 16777216) w 0 n f.small i h
+  pub showing_small : i < n → (cand w (2 * i)).dist ≤ 16777216
+  showing_small h = front_each (λ c. c.dist ≤ 16777216) w n f.small i h
 
 -- ---- a search
 

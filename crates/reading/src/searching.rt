@@ -68,7 +68,7 @@ fn show(words: &[u32], n: usize, slots: &mut [u32], dists: &mut [f32])
     ensures { Shown words.now n slots.old dists.old slots.new dists.new }
 {
     for i in 0..n {
-        let c = Candidate::new(dist_at(words, 0, i), id_at(words, 0, i));
+        let c = Candidate::new(dist_at(words, i), id_at(words, i));
         slots[i] = c.id;
         dists[i] = c.dist;
     }

@@ -1,8 +1,7 @@
-// A pruner writes rows, each a selection of the candidates that it is given. These lie in words that C lends, so a list is a place and a number.
+// A pruner writes rows, each a selection of the candidates that it is given.
 ghost use Rattle.slots.specs.Lent.{rows_mut_of};
 ghost use Rattle.row.specs.Row.{Together};
 
-use super::write_ids;
 use distances::Kept;
 use slots::{Graph, RowsMut};
 
@@ -18,9 +17,10 @@ pub struct Pruner<'k, 's, 'r, 'a, 'm, const N: usize> {
 }
 
 impl<const N: usize> Pruner<'_, '_, '_, '_, '_, N> {
-    ghost use Rattle.std.specs.Prelude.{◌≡◌, ◌<◌, length};
+    ghost use Rattle.std.specs.Prelude.{◌≡◌, ◌*◌, ◌<◌, ◌≤◌, length};
     ghost use Rattle.slots.specs.Lent.{graph_of};
-    ghost use Rattle.row.specs.Row.{Prunable, WrotePruned};
+    ghost use Rattle.candidates.specs.Inner.Words.{cands_of, Small};
+    ghost use Rattle.row.specs.Row.{WrotePruned};
     ghost use Rattle.row.specs.Lent.{held, SamePruner};
 
     // The graph as it stands.
@@ -33,17 +33,19 @@ impl<const N: usize> Pruner<'_, '_, '_, '_, '_, N> {
         rows.graph(space, marks)
     }
 
-    // Selects from the `n` candidates at `at`, which it rearranges, and writes the selection as the row of slot `s`. The selection lies at `to`. Distances
-    // that the table `kept` has are read there.
-    pub fn write_pruned(&mut self, s: u32, scratch: &mut [u32], at: usize, n: usize, to: usize)
-        requires { (s < length self.old.marks.now) × Prunable self.old.rows.now.degree scratch.old at n to }
-        ensures { WrotePruned self.old.alpha (held self.old) s scratch.old at n to (held self.new) scratch.new × SamePruner self.old self.new }
+    // Selects from a list, which it rearranges, and writes the selection as the row of slot `s`. The selection is laid out at the front of `out`. Distances that
+    // the table `kept` has are read there.
+    pub fn write_pruned(&mut self, s: u32, list: &mut [u32], out: &mut [u32])
+        requires { (s < length self.old.marks.now) × Small (cands_of list.old) × (2 * self.old.rows.now.degree ≤ length out.old) }
+        ensures { WrotePruned self.old.alpha (held self.old) s (cands_of list.old) (held self.new) × SamePruner self.old self.new }
     {
         let alpha = self.alpha;
         let marks = self.marks;
         let rows = &mut *self.rows;
         let kept = &mut *self.kept;
-        let r = prune::prune_scored(rows.degree, alpha, kept, marks, s, scratch, at, n, to);
-        write_ids(rows, s, scratch, to, r, to);
+        let chosen = &mut out[..2 * rows.degree];
+        let r = prune::prune_scored(alpha, kept, marks, s, list, chosen);
+        candidates::pack_ids(&mut chosen[..2 * r]);
+        rows.write(s as usize, &chosen[..r]);
     }
 }

@@ -2,27 +2,39 @@
 use Prim.Native.Nat.{ℕ, zero, suc, ◌+◌, ◌-◌, ◌*◌, min, ◌≤◌, ◌<◌}
 use mathlib.Core.Bool.{true}
 use mathlib.Core.Path.{◌≡◌, refl, ap, sym, ◌∙◌}
-use mathlib.Core.List.{List}
+use mathlib.Core.List.{List, ◌++◌}
 use native.Mathlib.Omega.{arith}
 use borrow.Author.Tests.{lt-ltb, le-ltb, le-leb, lt-leb}
 use lib.Dec.{leb}
-use lib.ListN.{take}
+use lib.ListN.{length, take, drop}
 use Rattle.lists.specs.Lists.{All, Ordered}
 use Rattle.lists.proofs.All.{all_append, all_init}
 use Rattle.lists.proofs.Ordered.{pairwise_init}
 use Rattle.candidates.specs.Candidates.{Candidate, before}
-use Rattle.candidates.specs.Inner.Words.{pair, cand, cands, Inserted, Small}
-use Rattle.candidates.proofs.Words.{cands_length, cands_take, cands_snoc, cands_init, cands_last, outside_none, outside_wide}
+use Rattle.candidates.specs.Inner.Words.{pair, cand, cands, filled, Inserts, Inserted, Small}
+use Rattle.candidates.proofs.Parts.{part_length, filled_part, part_inserted}
+use Rattle.candidates.proofs.Words.{cands_length, cands_take, cands_init, front_last, front_snoc, outside_none, outside_wide}
 use Rattle.walk.specs.Walk.{worst, enter, ends}
 use Rattle.slots.specs.Scratch.{marks_at}
 use Rattle.std.specs.Option.{MatchOption}
 use Rattle.std.specs.Prelude.{Option, None, Some}
 use Rattle.walk.specs.Inner.Scratch.{mark, Listed, Scannable, Entered, Unexpanded}
 
-pub worst_at : (w : List ℕ) (n : ℕ) → 0 < n → worst (cands w 0 n) ≡ (cand w (0 + 2 * (n - 1))).dist
-worst_at w n h = ap (λ (c : Candidate). c.dist) (cands_last w 0 n h (pair 0 0))
+pub worst_at : (w : List ℕ) (n : ℕ) → 0 < n → worst (cands w 0 n) ≡ (cand w (2 * (n - 1))).dist
+worst_at w n h = ap (λ (c : Candidate). c.dist) (front_last w n h (pair 0 0))
 
--- ---- a candidate enters
+-- ---- a candidate enters: it is inserted into the front of the words, of which the last place is free
+pub front_asks : (w : List ℕ) (n : ℕ) {d : ℕ} → 2 * (n + 1) ≤ length w → d ≤ 16777216 → Small (cands w 0 n) → Ordered before (cands w 0 n)
+    → (2 ≤ length (take (2 * (n + 1)) w)) × (d ≤ 16777216) × Small (filled (take (2 * (n + 1)) w)) × Ordered before (filled (take (2 * (n + 1)) w))
+front_asks w n h l s o =
+    let f : filled (take (2 * (n + 1)) w) ≡ cands w 0 n = filled_part w 0 (2 * (n + 1)) n (omega arith) refl in
+    let m : length (take (2 * (n + 1)) w) ≡ 2 * (n + 1) = part_length w 0 (2 * (n + 1)) (omega arith) in
+    (omega arith, l, rw f s, rw f o)
+
+pub front_inserted : (w v : List ℕ) (n : ℕ) {x : Candidate} {r : ℕ} → 2 * (n + 1) ≤ length w → length v ≡ length (take (2 * (n + 1)) w) → Inserts (take (2 * (n + 1)) w) x r v
+    → Inserted w 0 n x r (v ++ drop (2 * (n + 1)) w)
+front_inserted w v n h l f = part_inserted w 0 (2 * (n + 1)) n (omega arith) v l refl f
+
 pub front_part : (w w' : List ℕ) (r k : ℕ) → k ≤ r → cands w' 0 r ≡ cands w 0 r → cands w' 0 k ≡ cands w 0 k
 front_part w w' r k h e = sym (cands_take w' 0 r k h) ∙ ap (take k) e ∙ cands_take w 0 r k h
 
@@ -40,7 +52,7 @@ module _ {beam : ℕ} {w : List ℕ} {n next d t : ℕ} where
         same = outside_wide 0 (2 * (n + 1)) 0 marks_at w w' f.holds.same (omega arith) (omega arith);
       }
 
-  module _ (full : beam ≤ n) (some : 0 < n) {e : ℕ} (q : e ≡ (cand w (0 + 2 * (n - 1))).dist) where
+  module _ (full : beam ≤ n) (some : 0 < n) {e : ℕ} (q : e ≡ (cand w (2 * (n - 1))).dist) where
     pub entered_full : {r next' : ℕ} {w' : List ℕ} → n ≤ 1024 → next ≤ n → d < e → Inserted w 0 (n - 1) (pair d t) r w' → next' ≡ min r next
         → Entered beam w n next (pair d t) w' n next'
     unfolding enter
@@ -81,14 +93,12 @@ pub ends_room : {beam : ℕ} (w : List ℕ) {n : ℕ} (c : Candidate) → n < be
 unfolding ends
 ends_room {beam} w {n} c h = rw (cands_length w 0 n, lt-leb beam n h)
 
-pub ends_full : {beam : ℕ} (w : List ℕ) {n i a b : ℕ} → beam ≤ n → i < n → a ≡ (cand w (0 + 2 * (n - 1))).dist → b ≡ (cand w (0 + 2 * i)).dist
+pub ends_full : {beam : ℕ} (w : List ℕ) {n i a b : ℕ} → beam ≤ n → i < n → a ≡ (cand w (2 * (n - 1))).dist → b ≡ (cand w (2 * i)).dist
     → leb a b ≡ ends beam (cands w 0 n) (cand w (2 * i))
 unfolding ends
 ends_full {beam} w {n} {i} {a} {b} h k p q =
-    let z : 0 + 2 * i ≡ 2 * i = omega arith in
     let r : a ≡ worst (cands w 0 n) = p ∙ sym (worst_at w n (omega arith)) in
-    let t : b ≡ (cand w (2 * i)).dist = rw z at q in
-    rw (cands_length w 0 n, le-leb beam n h, r, t)
+    rw (cands_length w 0 n, le-leb beam n h, r, q)
 
 -- ---- the first that is not expanded
 module _ {w : List ℕ} {n next : ℕ} (s : Scannable w n next) where
@@ -96,8 +106,7 @@ module _ {w : List ℕ} {n next : ℕ} (s : Scannable w n next) where
   scan_up zero h = let e : next + 0 ≡ next = omega arith in rw e s.done
   scan_up (suc j) h =
       let e : next + suc j ≡ next + j + 1 = omega arith in
-      let z : 0 + 2 * (next + j) ≡ 2 * (next + j) = omega arith in
-      rw (e, cands_snoc w 0 (next + j)) (all_append _ (cands w 0 (next + j)) _ (scan_up j (λ k a b. h k a (omega arith))) (rw z (h (next + j) (omega arith) (omega arith)), tt))
+      rw (e, front_snoc w (next + j)) (all_append _ (cands w 0 (next + j)) _ (scan_up j (λ k a b. h k a (omega arith))) (h (next + j) (omega arith) (omega arith), tt))
 
   scan_to : (r : ℕ) → next ≤ r → ((k : ℕ) → next ≤ k → k < r → mark w (cand w (2 * k)).id ≡ 2) → All (λ c. mark w c.id ≡ 2) (cands w 0 r)
   scan_to r l h = let e : next + (r - next) ≡ r = omega arith in rw e at (scan_up (r - next) (λ k a b. h k a (omega arith)))

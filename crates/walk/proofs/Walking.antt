@@ -11,7 +11,7 @@ use Rattle.lists.specs.Lists.{All, foldl}
 use Rattle.lists.proofs.All.{all_map, all_both, all_take}
 use Rattle.candidates.specs.Candidates.{Candidate}
 use Rattle.candidates.specs.Inner.Words.{pair, cand, cands, Outside}
-use Rattle.candidates.proofs.Words.{cands_none, cands_length, cands_take, cands_split, cands_cons, cands_each, outside_none, outside_wide, outside_then}
+use Rattle.candidates.proofs.Words.{cands_none, cands_length, cands_take, front_split, front_cons, front_each, outside_none, outside_wide, outside_then}
 use Rattle.walk.specs.Walk.{State, unexpanded, enter, ends, meet, expand, turn, turns}
 use Rattle.vectors.specs.Space.{query_distance, space}
 use Rattle.slots.specs.Store.{Arrays}
@@ -82,11 +82,11 @@ entered_goes {capacity} {beam} {w} {n} {next} {d} {t} {w'} {n'} {next'} f h smal
     }
 
 -- the slot of a candidate is inside
-pub placed_inside : {capacity beam : ℕ} {w : List ℕ} {n next i s : ℕ} → Walkable capacity beam w n next → i < n → s ≡ (cand w (0 + 2 * i)).id → s < capacity
-placed_inside {capacity} {w = w} {n} {i = i} f h p = rw p (cands_each (λ c. c.id < capacity) w 0 n f.inside i h)
+pub placed_inside : {capacity beam : ℕ} {w : List ℕ} {n next i s : ℕ} → Walkable capacity beam w n next → i < n → s ≡ (cand w (2 * i)).id → s < capacity
+placed_inside {capacity} {w = w} {n} {i = i} f h p = rw p (front_each (λ c. c.id < capacity) w n f.inside i h)
 
 -- a candidate is marked as expanded, and its neighbours are met
-module _ {capacity beam : ℕ} {w : List ℕ} {n next s : ℕ} (f : Walkable capacity beam w n next) (h : next < n) (p : s ≡ (cand w (0 + 2 * next)).id) where
+module _ {capacity beam : ℕ} {w : List ℕ} {n next s : ℕ} (f : Walkable capacity beam w n next) (h : next < n) (p : s ≡ (cand w (2 * next)).id) where
   pub expands_inside : s < capacity
   expands_inside = placed_inside f h p
 
@@ -98,11 +98,9 @@ module _ {capacity beam : ℕ} {w : List ℕ} {n next s : ℕ} (f : Walkable cap
         → Stepped capacity beam w (expand beam dist near (state_of capacity w n) (cand w (2 * next))) w' n' next'
     unfolding expand
     expanded_by dist near {w'} g =
-        let z : 0 + 2 * next ≡ 2 * next = omega arith in
-        let i : s ≡ (cand w (2 * next)).id = rw z at p in
         record {
           holds = g.holds ∙ ap (λ (st : State). foldl (meet beam dist near) st (near s)) (rw m (marked_state f s 2 expands_inside (omega arith)))
-              ∙ ap (λ (x : ℕ). foldl (meet beam dist near) (record { list = cands w 0 n; marks = set (marks_of capacity w) x 2 }) (near x)) i;
+              ∙ ap (λ (x : ℕ). foldl (meet beam dist near) (record { list = cands w 0 n; marks = set (marks_of capacity w) x 2 }) (near x)) p;
           goes = g.goes;
           size = g.size ∙ rw m (put_mark_length w s 2);
           same = outside_then 0 (work_at capacity) w v w'
@@ -125,22 +123,21 @@ unfolding unexpanded
 unexpanded_none marks = refl
 
 module _ {capacity beam : ℕ} {w : List ℕ} {n next : ℕ} (f : Walkable capacity beam w n next) {r : ℕ} (x : Unexpanded w n r) where
-  passes : unexpanded (marks_of capacity w) (cands w 0 n) ≡ unexpanded (marks_of capacity w) (cands w (0 + 2 * r) (n - r))
+  passes : unexpanded (marks_of capacity w) (cands w 0 n) ≡ unexpanded (marks_of capacity w) (cands w (2 * r) (n - r))
   passes =
-      ap (unexpanded (marks_of capacity w)) (cands_split w 0 n r x.within)
-      ∙ unexpanded_skip (marks_of capacity w) (cands w 0 r) (cands w (0 + 2 * r) (n - r))
+      ap (unexpanded (marks_of capacity w)) (front_split w n r x.within)
+      ∙ unexpanded_skip (marks_of capacity w) (cands w 0 r) (cands w (2 * r) (n - r))
       (all_map _ _ (λ c h. mark_at capacity w c.id h.0 ∙ h.1) (cands w 0 r)
       (all_both (λ c. c.id < capacity) (λ c. mark w c.id ≡ 2) (cands w 0 r) (all_front _ w n r x.within f.inside) x.done))
 
   next_all : r ≡ n → unexpanded (marks_of capacity w) (cands w 0 n) ≡ []
-  next_all e = passes ∙ ap (unexpanded (marks_of capacity w)) (cands_none w (0 + 2 * r) (n - r) (omega arith)) ∙ unexpanded_none (marks_of capacity w)
+  next_all e = passes ∙ ap (unexpanded (marks_of capacity w)) (cands_none w (2 * r) (n - r) (omega arith)) ∙ unexpanded_none (marks_of capacity w)
 
-  next_at : r < n → unexpanded (marks_of capacity w) (cands w 0 n) ≡ cand w (2 * r) ∷ cands w (0 + 2 * (r + 1)) (n - (r + 1))
+  next_at : r < n → unexpanded (marks_of capacity w) (cands w 0 n) ≡ cand w (2 * r) ∷ cands w (2 * (r + 1)) (n - (r + 1))
   next_at h =
-      let z : 0 + 2 * r ≡ 2 * r = omega arith in
-      let i : (cand w (2 * r)).id < capacity = rw z at (cands_each (λ c. c.id < capacity) w 0 n f.inside r h) in
-      passes ∙ ap (unexpanded (marks_of capacity w)) (cands_cons w 0 n r h)
-      ∙ rw z (unexpanded_here (marks_of capacity w) (cand w (2 * r)) _ (λ y. x.stops h (sym (mark_at capacity w _ i) ∙ y)))
+      let i : (cand w (2 * r)).id < capacity = front_each (λ c. c.id < capacity) w n f.inside r h in
+      passes ∙ ap (unexpanded (marks_of capacity w)) (front_cons w n r h)
+      ∙ unexpanded_here (marks_of capacity w) (cand w (2 * r)) _ (λ y. x.stops h (sym (mark_at capacity w _ i) ∙ y))
 
 -- ---- turns: with `left` of them to come
 module _ (beam : ℕ) (dist : ℕ → ℕ) (near : ℕ → List ℕ) where

@@ -96,7 +96,7 @@ impl Search<'_> {
     {
         let i = list.next + 1;
         if i < list.count {
-            return self.graph.rows.touch(id_at(list.words, 0, i) as usize);
+            return self.graph.rows.touch(id_at(list.words, i) as usize);
         }
         0
     }
@@ -120,7 +120,7 @@ impl Search<'_> {
         let ahead = self.touch_next(list);
         let next = list.next;
         let words = &mut *list.words;
-        let s = id_at(words, 0, next) as usize;
+        let s = id_at(words, next) as usize;
         words::set_mark(words, s, EXPANDED);
         let degree = self.graph.rows.degree;
         for from in (0..degree).step_by(FRESH) {

@@ -1,7 +1,10 @@
 // What a walk keeps in the scratch (its map: slots::scratch): the list, and a mark for each slot, which is 0 before the slot is met, 1 when it is met and
 // 2 when it is expanded. A mark takes two bits, so that a word has those of 16 slots. The words behind the marks are not touched.
 ghost use Rattle.std.specs.Prelude.{◌≡◌, ◌+◌, ◌*◌, ◌%◌, ◌<◌, ◌≤◌, length};
+ghost use Rattle.lists.specs.Lists.{Ordered};
 ghost use Rattle.slots.specs.Scratch.{work_at};
+ghost use Rattle.candidates.specs.Candidates.{before};
+ghost use Rattle.candidates.specs.Inner.Words.{pair, cands, Small, Inserted};
 ghost use Rattle.walk.specs.Inner.Scratch as Scratch;
 ghost use Rattle.walk.specs.Inner.Scratch.{mark_word, put_mark, unmet, Cleared, LeftOut, Begun};
 
@@ -112,6 +115,15 @@ pub fn begin(scratch: &mut [u32], capacity: usize, ids: &[u32], dist: u32, start
     put(scratch, 0, dist, start);
 }
 
+// Inserts a candidate into the list of the first `n` of the words, which is in order. Returns its place. A function of its own: where a field's slice is lent in
+// part, it was not proved what that leaves of the whole.
+fn insert_first(words: &mut [u32], n: usize, dist: u32, id: u32) -> usize
+    requires { (2 * (n + 1) ≤ length words.old) × (dist ≤ 16777216) × Small (cands words.old 0 n) × Ordered before (cands words.old 0 n) }
+    ensures { Inserted words.old 0 n (pair dist id) result words.new }
+{
+    insert_ordered(&mut words[..2 * (n + 1)], dist, id)
+}
+
 impl List<'_> {
     ghost use Rattle.std.specs.Prelude.{None, Some, ◌≡◌, ℕ, ◌*◌, ◌<◌, ◌≤◌, length};
     ghost use Rattle.candidates.specs.Inner.Words.{pair, cand, cands};
@@ -125,7 +137,7 @@ impl List<'_> {
         ensures { (result ≡ None → Unexpanded self.now.words.now self.now.count self.now.count) × ((i : ℕ) → result ≡ Some i → Unexpanded self.now.words.now self.now.count i × (i < self.now.count)) }
     {
         (self.next..self.count)
-            .find(|&i| mark(self.words, id_at(self.words, 0, i) as usize) != EXPANDED)
+            .find(|&i| mark(self.words, id_at(self.words, i) as usize) != EXPANDED)
     }
 
     // Whether the walk ends before candidate `i` is expanded: the list is full, and the candidate is not nearer than the worst.
@@ -134,7 +146,7 @@ impl List<'_> {
         ensures { result ≡ Walk.ends self.now.beam (cands self.now.words.now 0 self.now.count) (cand self.now.words.now (2 * i)) }
     {
         let n = self.count;
-        self.beam <= n && dist_at(self.words, 0, n - 1) <= dist_at(self.words, 0, i)
+        self.beam <= n && dist_at(self.words, n - 1) <= dist_at(self.words, i)
     }
 
     // The place of the candidate that is expanded next, if the walk does not end.
@@ -156,17 +168,17 @@ impl List<'_> {
     {
         let n = self.count;
         if n < self.beam {
-            let place = insert_ordered(self.words, 0, n, dist, id);
+            let place = insert_first(self.words, n, dist, id);
             self.count = n + 1;
             self.next = place.min(self.next);
             return;
         }
         let last = n - 1;
         let words = &mut *self.words;
-        if dist_at(words, 0, last) <= dist {
+        if dist_at(words, last) <= dist {
             return;
         }
-        let place = insert_ordered(words, 0, last, dist, id);
+        let place = insert_first(words, last, dist, id);
         self.next = place.min(self.next);
     }
 }

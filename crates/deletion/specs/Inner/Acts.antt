@@ -1,7 +1,7 @@
 -- The acts of a delete: what the functions ask, and what they leave. Assumes nothing.
 use Rattle.std.specs.Prelude.{ℕ, ◌+◌, ◌*◌, ◌≤◌, ◌<◌, List, ◌≡◌, Float, length, get_or}
 use Rattle.lists.specs.Lists.{foldl}
-use Rattle.candidates.specs.Candidates.{ids}
+use Rattle.candidates.specs.Candidates.{Candidate, ids}
 use Rattle.candidates.specs.Inner.Words.{cands}
 use Rattle.slots.specs.Store.{Arrays, store_ops}
 use Rattle.row.specs.Row.{index_of}
@@ -28,9 +28,9 @@ pub record Taken (a : Arrays) (named w : List ℕ) (at : Layout) (w' : List ℕ)
   pub rows : RowsTaken a taken at w'
 
 -- ---- the last act
--- the slots of n candidates at `at` are finished
-pub record AllFinished (a : Arrays) (w : List ℕ) (at n : ℕ) (a' : Arrays) : Type 0 where
-  pub does : (alpha : Float) (entry : ℕ) → index_of alpha entry a' ≡ foldl store_ops.finish (index_of alpha entry a) (ids (cands w at n))
+-- the slots of some candidates are finished
+pub record AllFinished (a : Arrays) (cs : List Candidate) (a' : Arrays) : Type 0 where
+  pub does : (alpha : Float) (entry : ℕ) → index_of alpha entry a' ≡ foldl store_ops.finish (index_of alpha entry a) (ids cs)
 
 -- ---- the later acts
 -- the plans can be made, and words behind them are room to apply the links of one

@@ -1,31 +1,26 @@
 -- The slots that a delete empties, in lent words: what the functions ask, and what they leave. Assumes nothing.
-use Rattle.std.specs.Prelude.{ℕ, ◌+◌, ◌*◌, ◌≤◌, ◌<◌, cond, List, ◌≡◌, length, set}
+use Rattle.std.specs.Prelude.{ℕ, ◌+◌, ◌*◌, ◌/◌, ◌≤◌, ◌<◌, cond, List, ◌≡◌, length, set}
 use Rattle.lists.specs.Lists.{All, filter, foldl, elem, range, sorted_set}
-use Rattle.candidates.specs.Candidates.{scored, ids}
-use Rattle.candidates.specs.Inner.Words.{cands, Outside}
+use Rattle.candidates.specs.Candidates.{ids}
+use Rattle.candidates.specs.Inner.Words.{cands, cands_of, Outside}
 use Rattle.slots.specs.Store.{is_valid}
 use Rattle.repair.specs.Delete.{first_or}
 
 -- ---- what is left of the words w, as w'
--- the live ones of some ids are the slots of r candidates at `at`
-pub record Gathered (marks named w : List ℕ) (at r : ℕ) (w' : List ℕ) : Type 0 where
-  pub list : ids (cands w' at r) ≡ filter (is_valid marks) named
+-- the live ones of some ids are the slots of the first r candidates of w
+pub record Gathered (marks named : List ℕ) (r : ℕ) (w : List ℕ) : Type 0 where
+  pub list : ids (cands w 0 r) ≡ filter (is_valid marks) named
   pub few : r ≤ length named
-  pub size : length w' ≡ length w
-  pub same : Outside at (2 * length named) w w'
 
--- each of the n candidates at `at` has its slot as its distance
-pub record Keyed (w : List ℕ) (at n : ℕ) (w' : List ℕ) : Type 0 where
-  pub list : cands w' at n ≡ scored (λ x. x) (ids (cands w at n))
-  pub size : length w' ≡ length w
-  pub same : Outside at (2 * n) w w'
+-- the slots of a list are rising, each once, r of them, at its front
+pub record Risen (w : List ℕ) (r : ℕ) (w' : List ℕ) : Type 0 where
+  pub list : ids (cands w' 0 r) ≡ sorted_set (ids (cands_of w))
+  pub few : r ≤ length w / 2
 
--- the slots of the n candidates at `at` are rising, each once, r of them
-pub record Risen (w : List ℕ) (at n r : ℕ) (w' : List ℕ) : Type 0 where
-  pub list : ids (cands w' at r) ≡ sorted_set (ids (cands w at n))
-  pub few : r ≤ n
-  pub size : length w' ≡ length w
-  pub same : Outside at (2 * n) w w'
+-- the slots that a delete of some ids empties are those of the first r candidates of w
+pub record Listed (marks named : List ℕ) (r : ℕ) (w : List ℕ) : Type 0 where
+  pub list : ids (cands w 0 r) ≡ sorted_set (filter (is_valid marks) named)
+  pub few : r ≤ length named
 
 -- the slots that a delete of some ids empties: `emptied`
 pub record Emptied (marks named w : List ℕ) (at r : ℕ) (w' : List ℕ) : Type 0 where

@@ -2,8 +2,8 @@
 -- `stats` on four counts for each, and from `plans` on 640 words for the candidates of each plan. Assumes nothing.
 use Rattle.std.specs.Prelude.{ℕ, ◌+◌, ◌*◌, ◌≤◌, ◌<◌, Bool, false, List, ◌++◌, ◌≡◌, Float, length, get_or, set}
 use Rattle.lists.specs.Lists.{All, filter, elem, sorted_set}
-use Rattle.candidates.specs.Candidates.{ids}
-use Rattle.candidates.specs.Inner.Words.{cand, cands, Outside}
+use Rattle.candidates.specs.Candidates.{Candidate, ids}
+use Rattle.candidates.specs.Inner.Words.{cand, cands}
 use Rattle.slots.specs.Scratch.{work_at}
 use Rattle.slots.specs.View.{View, live_neighbors}
 use Rattle.slots.specs.Store.{Arrays, is_valid, refs_of, store_view}
@@ -41,18 +41,14 @@ pub record RowsTaken (a : Arrays) (w : List ℕ) (at : Layout) (w' : List ℕ) :
 abbrev pub refers : Arrays → ℕ → ℕ → Bool
 refers a id s = elem id (refs_of a s)
 
--- rows for the slots of n candidates at `at`, and room for as many at `to`
-pub record RowsIn (a : Arrays) (w : List ℕ) (at n to : ℕ) : Type 0 where
-  pub stored : All (λ c. (c.id * a.degree + a.degree ≤ length a.targets) × (c.id * a.degree + a.degree ≤ length a.edges)) (cands w at n)
-  pub apart : at + 2 * n ≤ to
-  pub inside : to + 2 * n ≤ length w
+-- rows for the slots of some candidates
+pub record RowsIn (a : Arrays) (cs : List Candidate) : Type 0 where
+  pub stored : All (λ c. (c.id * a.degree + a.degree ≤ length a.targets) × (c.id * a.degree + a.degree ≤ length a.edges)) cs
 
--- of the n candidates at `at` the slots of those that pass a test lie at `to`, r of them
-pub record Passed (p : ℕ → Bool) (w : List ℕ) (at n to r : ℕ) (w' : List ℕ) : Type 0 where
-  pub list : ids (cands w' to r) ≡ filter p (ids (cands w at n))
-  pub few : r ≤ n
-  pub size : length w' ≡ length w
-  pub same : Outside to (2 * n) w w'
+-- the slots of those that pass a test are those of the first r candidates of w
+pub record Passed (p : ℕ → Bool) (cs : List Candidate) (r : ℕ) (w : List ℕ) : Type 0 where
+  pub list : ids (cands w 0 r) ≡ filter p (ids cs)
+  pub few : r ≤ length cs
 
 -- the slots recovered around the vector of slot s
 abbrev pub recovered_by : View → ℕ → ℕ → List ℕ

@@ -58,23 +58,21 @@ by_source ls b s = foldl apply_link b (from s ls)
 abbrev pub link_words : ℕ → ℕ
 link_words degree = 4 * degree + 2
 
--- room for them: a fact of the words lent to one call, so it is no field
-pub record Room (degree : ℕ) (w : List ℕ) (at : ℕ) : Type 0 where
-  pub inside : at + link_words degree ≤ length w
-  pub below : at + link_words degree ≤ 8388608
-
 -- pairs of slots inside
 abbrev pub Pairs : ℕ → List Pair → Type 0
 Pairs slots ps = All (λ p. (p.slot < slots) × (p.parent < slots)) ps
 
--- ---- what is left of the words w, as w'
--- the n candidates at `at` with the target t, at its distance to s, where none of them has it
-pub record Joined (dim : ℕ) (vectors : List ℕ) (s t : ℕ) (w : List ℕ) (at n r : ℕ) (w' : List ℕ) : Type 0 where
-  pub list : cands w' at r ≡ cond (elem t (ids (cands w at n))) (cands w at n) (cands w at n ++ (pair (between dim vectors s t) t ∷ []))
+-- ---- what is left
+-- the first n candidates of w with the target t, at its distance to s, where none of them has it
+pub record Joined (dim : ℕ) (vectors : List ℕ) (s t : ℕ) (w : List ℕ) (n r : ℕ) (w' : List ℕ) : Type 0 where
+  pub list : cands w' 0 r ≡ cond (elem t (ids (cands w 0 n))) (cands w 0 n) (cands w 0 n ++ (pair (between dim vectors s t) t ∷ []))
   pub few : r ≤ n + 1
   pub near : between dim vectors s t ≤ 16777216
-  pub size : length w' ≡ length w
-  pub same : Outside (at + 2 * n) 2 w w'
+
+-- links are applied by a pruner
+pub record Linked {n : ℕ} (p : Pruner n) (ls : List Link) (p' : Pruner n) : Type 0 where
+  pub does : (entry : ℕ) → index_of p.alpha entry (held p') ≡ foldl apply_link (index_of p.alpha entry (held p)) ls
+  pub same : SamePruner p p'
 
 -- links are applied to the arrays a, which have come to a'; of the words only k from `at` on may change
 pub record Applied (alpha : Float) (a : Arrays) (ls : List Link) (a' : Arrays) (w : List ℕ) (at k : ℕ) (w' : List ℕ) : Type 0 where

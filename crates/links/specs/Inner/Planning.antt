@@ -1,48 +1,34 @@
--- The links of a plan over lent words: what the functions ask, and what they leave. From word `base` on lie the connected candidates, from 640 words on
--- those that remain, each with its distance to the nearest connected one, from 1,280 on the connected ones by their distance to the next, and from 1,920
--- on the words in which a link is applied. The pairs of slots to be linked lie in words of their own. Assumes nothing.
-use Rattle.std.specs.Prelude.{ℕ, suc, ◌+◌, ◌-◌, ◌*◌, ◌≤◌, ◌<◌, min, true, List, ◌++◌, map, ◌≡◌, length, take, get_or}
+-- The links of a plan: what the functions ask, and what they leave. A plan has lists of the connected candidates, of those that remain, each with its distance to the
+-- nearest connected one, and of the connected ones by their distance to the next. The pairs of slots to be linked lie in words of their own. Assumes nothing.
+use Rattle.std.specs.Prelude.{ℕ, suc, ◌+◌, ◌*◌, ◌≤◌, ◌<◌, min, true, List, [], ◌∷◌, ◌++◌, ◌≡◌, length, take, get_or}
 use Rattle.lists.specs.Lists.{All, concat_map, range, least_from, least_of}
 use Rattle.lists.proofs.Unique.{Unique}
-use Rattle.candidates.specs.Candidates.{Candidate, scored, ids}
-use Rattle.candidates.specs.Inner.Words.{pair, cand, cands, Outside}
+use Rattle.candidates.specs.Candidates.{Candidate, ids}
+use Rattle.candidates.specs.Inner.Words.{pair, cands}
 use Rattle.slots.specs.Store.{is_valid}
 use Rattle.repair.specs.Repair.{Link, span, repair_links}
 use Rattle.links.specs.declared.span.Pair.{Pair}
 use Rattle.links.specs.Inner.Linking.{between, pairs_of, link_words}
 
 -- ---- lists of candidates
--- y and the slots of the n candidates at `at` have vectors: a fact of lent words, whose n changes at each step
-pub record Stored (dim : ℕ) (vectors : List ℕ) (y : ℕ) (w : List ℕ) (at n : ℕ) : Type 0 where
+-- y and the slots of some candidates have vectors
+pub record Stored (dim : ℕ) (vectors : List ℕ) (y : ℕ) (cs : List Candidate) : Type 0 where
   pub short : dim ≤ 256
   pub own : y * dim + dim ≤ length vectors
-  pub stored : All (λ c. c.id * dim + dim ≤ length vectors) (cands w at n)
-  pub inside : at + 2 * n ≤ length w
+  pub stored : All (λ c. c.id * dim + dim ≤ length vectors) cs
 
--- room for as many behind them
-pub record Behind (w : List ℕ) (at n to : ℕ) : Type 0 where
-  pub apart : at + 2 * n ≤ to
-  pub inside : to + 2 * n ≤ length w
+-- the first of the nearest
+abbrev pub first_least : List Candidate → Candidate
+first_least [] = pair 0 0
+first_least (c ∷ cs) = least_from (λ c. c.dist) c cs
 
--- of n candidates at `at`, the one at r is the first of the nearest
-pub record Nearest (w : List ℕ) (at n r : ℕ) : Type 0 where
-  pub within : r < n
-  pub least : cand w (at + 2 * r) ≡ least_from (λ c. c.dist) (cand w at) (cands w (at + 2) (n - 1))
-
--- the slots of the n candidates at `at` lie at `to`, with the distances f
-pub record Scored (f : ℕ → ℕ) (w : List ℕ) (at n to : ℕ) (w' : List ℕ) : Type 0 where
-  pub list : cands w' to n ≡ scored f (ids (cands w at n))
-  pub size : length w' ≡ length w
-  pub same : Outside to (2 * n) w w'
+-- it is the one at r
+pub record Nearest (cs : List Candidate) (r : ℕ) : Type 0 where
+  pub within : r < length cs
+  pub least : get_or cs r (pair 0 0) ≡ first_least cs
 
 abbrev pub lower_to : (ℕ → ℕ) → Candidate → Candidate
 lower_to f c = pair (min c.dist (f c.id)) c.id
-
--- distances lowered to f
-pub record Lowered (f : ℕ → ℕ) (w : List ℕ) (at n : ℕ) (w' : List ℕ) : Type 0 where
-  pub list : cands w' at n ≡ map (lower_to f) (cands w at n)
-  pub size : length w' ≡ length w
-  pub same : Outside at (2 * n) w w'
 
 -- ---- the plan
 -- no number stands twice
@@ -58,46 +44,35 @@ pub record Area (degree : ℕ) (w : List ℕ) (base : ℕ) : Type 0 where
   pub inside : base + plan_words degree ≤ length w
   pub below : base + plan_words degree ≤ 8388608
 
--- the words in which it is made: a fact of the words lent to one call, so it is no field
-pub record Plot (w : List ℕ) (base : ℕ) : Type 0 where
-  pub inside : base + 1920 ≤ length w
-  pub below : base + 1920 ≤ 8388608
-
 -- the first r pairs have the links ls
-pub record PairedNearest (ls : List Link) (w : List ℕ) (base : ℕ) (w' : List ℕ) (pairs' : List Pair) (r : ℕ) : Type 0 where
+pub record PairedNearest (ls : List Link) (pairs' : List Pair) (r : ℕ) : Type 0 where
   pub added : pairs_of (take r pairs') ≡ ls
   pub more : r ≤ 16
-  pub size : length w' ≡ length w
-  pub same : Outside (base + 1280) 640 w w'
 
--- k are connected and m remain, each with its distance to the nearest connected one
-pub record Planned (dim : ℕ) (vectors w : List ℕ) (base k m : ℕ) : Type 0 where
+-- some are connected, and others remain, each with its distance to the nearest connected one
+pub record Planned (dim : ℕ) (vectors : List ℕ) (connected remaining : List Candidate) : Type 0 where
   pub short : dim ≤ 256
-  pub some : 0 < k
-  pub few : k + m ≤ 320
-  pub connected : All (λ c. c.id * dim + dim ≤ length vectors) (cands w base k)
-  pub remaining : All (λ c. c.id * dim + dim ≤ length vectors) (cands w (base + 640) m)
-  pub least : All (λ c. c.dist ≡ least_of (between dim vectors c.id) (ids (cands w base k))) (cands w (base + 640) m)
-  pub distinct : Distinct (ids (cands w (base + 640) m))
+  pub some : 0 < length connected
+  pub few : length connected + length remaining ≤ 320
+  pub connected_in : All (λ c. c.id * dim + dim ≤ length vectors) connected
+  pub remaining_in : All (λ c. c.id * dim + dim ≤ length vectors) remaining
+  pub least : All (λ c. c.dist ≡ least_of (between dim vectors c.id) (ids connected)) remaining
+  pub distinct : Distinct (ids remaining)
 
 -- the links from there on, f of them connected at most
-abbrev pub span_at : ℕ → List ℕ → ℕ → List ℕ → ℕ → ℕ → ℕ → ℕ → List Link
-span_at dim vectors repair_degree w base k m f = span (between dim vectors) repair_degree f (ids (cands w base k)) (ids (cands w (base + 640) m))
+abbrev pub span_at : ℕ → List ℕ → ℕ → List Candidate → List Candidate → ℕ → List Link
+span_at dim vectors repair_degree connected remaining f = span (between dim vectors) repair_degree f (ids connected) (ids remaining)
 
 -- one more is connected, by the first r pairs
-pub record Connected (dim : ℕ) (vectors : List ℕ) (repair_degree : ℕ) (w : List ℕ) (base k m : ℕ) (w' : List ℕ) (pairs' : List Pair) (r : ℕ) : Type 0 where
-  pub planned : Planned dim vectors w' base (k + 1) (m - 1)
-  pub goes : (f : ℕ) → span_at dim vectors repair_degree w base k m (suc f) ≡ pairs_of (take r pairs') ++ span_at dim vectors repair_degree w' base (k + 1) (m - 1) f
+pub record Connected (dim : ℕ) (vectors : List ℕ) (repair_degree : ℕ) (con rem con' rem' : List Candidate) (pairs' : List Pair) (r : ℕ) : Type 0 where
+  pub planned : Planned dim vectors con' rem'
+  pub goes : (f : ℕ) → span_at dim vectors repair_degree con rem (suc f) ≡ pairs_of (take r pairs') ++ span_at dim vectors repair_degree con' rem' f
   pub more : r ≤ 16
-  pub size : length w' ≡ length w
-  pub same : Outside base 1920 w w'
 
 -- all are connected, by the first r pairs
-pub record Spanned (dim : ℕ) (vectors : List ℕ) (repair_degree : ℕ) (w : List ℕ) (base n : ℕ) (w' : List ℕ) (pairs' : List Pair) (r : ℕ) : Type 0 where
-  pub paired : pairs_of (take r pairs') ≡ span_at dim vectors repair_degree w base 1 n n
+pub record Spanned (dim : ℕ) (vectors : List ℕ) (repair_degree : ℕ) (con rem : List Candidate) (pairs' : List Pair) (r : ℕ) : Type 0 where
+  pub paired : pairs_of (take r pairs') ≡ span_at dim vectors repair_degree con rem (length rem)
   pub few : r ≤ 5120
-  pub size : length w' ≡ length w
-  pub same : Outside base 1920 w w'
 
 -- ---- all plans
 -- n candidates of a plan at `at`: live, each once

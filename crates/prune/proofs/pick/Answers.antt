@@ -5,7 +5,7 @@ use Rattle.prune.proofs.Scored.{given_for, picked}
 use Rattle.prune.proofs.pick.Goals as goal
 
 pub run_passes-requires : goal.run_passes-requires
-run_passes-requires g c = (search rules, given_for 750 _ c.requires.2 c.requires.0 c.requires.1)
+run_passes-requires g c = (search rules, given_for 750 _ c.requires.1 c.requires.0)
 
 pub returns : goal.returns
-returns g c = (picked _ _ (take-replicate _ 750 _ c.requires.2) c.run_passes.ensures.0, c.run_passes.ensures.1)
+returns g c = (picked c.args.list.now _ _ (take-replicate _ 750 _ c.requires.1) c.run_passes.ensures.0, c.run_passes.ensures.1)

@@ -1,12 +1,14 @@
-use native.Mathlib.Omega.{arith}
-use Rattle.deletion.proofs.Naming.{clearing_inside, clearing_more, clearing_done}
+use Rattle.deletion.proofs.Naming.{clearing_none, clearing_inside, clearing_more, clearing_done}
 use Rattle.deletion.proofs.named.clear.Goals as goal
 
+pub loop-k-init : goal.loop-k-init
+loop-k-init c = clearing_none _ _
+
 pub kill-requires : goal.kill-requires
-kill-requires c = clearing_inside c.loop-k.invariant c.requires (omega arith) c.id_at.ensures
+kill-requires c = clearing_inside c.loop-k.invariant c.requires c.loop-k-test.true c.id_at.ensures
 
 pub loop-k-preserved : goal.loop-k-preserved
-loop-k-preserved c = clearing_more c.loop-k.invariant (omega arith) c.id_at.ensures c.kill.ensures
+loop-k-preserved c = clearing_more c.loop-k.invariant c.loop-k-test.true c.id_at.ensures c.kill.ensures
 
 pub returns : goal.returns
-returns c = clearing_done c.loop-k.invariant (omega arith)
+returns c = clearing_done c.loop-k.invariant c.loop-k-test.false

@@ -5,13 +5,13 @@ use Rattle.deletion.proofs.named.gather.Goals as goal
 use Rattle.deletion.proofs.named.gather.Goals.{then-is_valid, else-is_valid}
 
 pub loop-id-init : goal.loop-id-init
-loop-id-init c = gathering_none _ _ _ _
+loop-id-init c = gathering_none _ _ _
 
 pub loop-id-preserved : goal.loop-id-preserved
 loop-id-preserved c =
     elim c.if-is_valid.branch [
-      | then-is_valid w ↦ rw (w.scratch-is, w.n-is, w.put.ensures) (gathering_more c.loop-id.invariant (omega arith) (sym c.is_valid.ensures ∙ w.if-is_valid.true) c.requires)
-      | else-is_valid w ↦ rw (w.scratch-is, w.n-is) (gathering_skip c.loop-id.invariant (omega arith) (sym c.is_valid.ensures ∙ w.if-is_valid.false))
+      | then-is_valid w ↦ rw (w.list-is, w.n-is, w.put.ensures) (gathering_more c.loop-id.invariant (omega arith) (sym c.is_valid.ensures ∙ w.if-is_valid.true) c.requires)
+      | else-is_valid w ↦ rw (w.list-is, w.n-is) (gathering_skip c.loop-id.invariant (omega arith) (sym c.is_valid.ensures ∙ w.if-is_valid.false))
     ]
 
 pub returns : goal.returns

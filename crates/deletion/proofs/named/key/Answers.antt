@@ -3,10 +3,10 @@ use Rattle.deletion.proofs.Naming.{keying_none, keying_more, keying_done}
 use Rattle.deletion.proofs.named.key.Goals as goal
 
 pub loop-k-init : goal.loop-k-init
-loop-k-init c = keying_none _ _ _
+loop-k-init c = keying_none _
 
 pub loop-k-preserved : goal.loop-k-preserved
-loop-k-preserved c = rw c.put.ensures (keying_more c.loop-k.invariant c.requires (omega arith) c.id_at-id.ensures)
+loop-k-preserved c = rw c.put.ensures (keying_more c.loop-k.invariant c.loop-k-test.true c.id_at-id.ensures)
 
 pub returns : goal.returns
-returns c = keying_done c.loop-k.invariant (omega arith)
+returns c = keying_done c.loop-k.invariant (omega (arith, c.loop-k.auto.k-end, c.loop-k-test.false))

@@ -1,12 +1,22 @@
+use Prim.Native.Nat.{◌+◌, ◌*◌}
 use native.Mathlib.Omega.{arith}
-use Rattle.links.proofs.Linking.{made_marks}
-use Rattle.links.proofs.Planning.{plans_next, made_area, plans_more}
+use Rattle.std.proofs.lemmas.List.{length-take-le}
+use Rattle.links.proofs.Planning.{plans_front, plans_at_front, plans_made}
 use Rattle.links.proofs.plan.apply_plans.Goals as goal
 
-pub apply_plan-requires : goal.apply_plan-requires
-apply_plan-requires c =
-    let r = plans_next c.args.table.degree c.args.table.entry c.loop-j.invariant.0 c.requires.1 c.loop-j-test.true in
-    (rw (made_marks c.loop-j.invariant.0) c.requires.0, r.0, r.1, made_area c.loop-j.invariant.0 c.requires.2, c.requires.3, c.loop-j.invariant.1)
+pub apply_all-requires : goal.apply_all-requires
+apply_all-requires c =
+    let parts = c.split_at_mut-plans.ensures in
+    let room = parts.back_len in (
+      c.requires.0,
+      rw parts.front (plans_front c.requires.1 (omega (arith, c.requires.2.inside))),
+      omega (arith, length-take-le (1922 + 4 * c.args.pruner.now.rows.now.degree) c.split_at_mut-plans.result.1.now (omega (arith, room, c.requires.2.inside))),
+      c.requires.3,
+    )
 
-pub loop-j-preserved : goal.loop-j-preserved
-loop-j-preserved c = (plans_more c.args.table.degree c.args.table.entry c.loop-j.invariant.0 c.requires.1 c.loop-j-test.true c.apply_plan.ensures, omega arith)
+pub returns : goal.returns
+returns c =
+    let parts = c.split_at_mut-plans.ensures in
+    rw (parts.front, parts.back)
+    (plans_made c.args.scratch.now c.args.table.base _ _ (omega (arith, c.requires.2.inside)) (omega (arith, c.requires.2.inside)) (omega arith) (rw parts.back at c.apply_all.auto.words)
+    (rw (parts.front, plans_at_front c.requires.1 (omega (arith, c.requires.2.inside)) _ _ _) at c.apply_all.ensures))

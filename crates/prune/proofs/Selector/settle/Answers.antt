@@ -26,5 +26,5 @@ unfolding largest
 returns g c = (
   raising_done c.args.self.now.factors.now c.requires c.loop-j-test.false c.loop-j.invariant.0,
   refl,
-  record { alpha = refl; kept = refl; space = c.loop-j.invariant.1; factors = refl; count = c.loop-j.invariant.0.size; words = refl; a = refl },
+  record { alpha = refl; kept = refl; space = c.loop-j.invariant.1; factors = refl; count = c.loop-j.invariant.0.size; list = refl; out = refl; room = refl },
 )

@@ -7,4 +7,4 @@ use Rattle.prune.proofs.Settling.{Raising}
 use Rattle.prune.proofs.Selector.settle.Given as goal
 
 abbrev pub invariant-loop-j : goal.invariant-loop-j
-invariant-loop-j g l = Raising l.alpha (slot_distance (space_of l.fn.self.kept.now.space)) l.words l.a l.n (cand l.words (l.a + 2 * l.i)) l.initial.factors (l.i + 1) l.factors l.j × (l.kept.space ≡ l.fn.self.kept.now.space)
+invariant-loop-j g l = Raising l.alpha (slot_distance (space_of l.fn.self.kept.now.space)) l.list l.n (cand l.list (2 * l.i)) l.initial.factors (l.i + 1) l.factors l.j × (l.kept.space ≡ l.fn.self.kept.now.space)

@@ -4,6 +4,6 @@ use Rattle.deletion.proofs.graph.GraphMut.finish_all.Given as goal
 
 abbrev pub invariant-loop-k : goal.invariant-loop-k
 invariant-loop-k l = record {
-  finishing : Finishing (graph_mut_of l.initial.self) l.scratch l.at.from l.at.count (graph_mut_of l.self) l.k;
+  finishing : Finishing (graph_mut_of l.initial.self) l.list (graph_mut_of l.self) l.k;
   same : SameGraph l.initial.self l.self;
 }

@@ -4,7 +4,7 @@ use lib.ListN.{length}
 use native.Mathlib.Omega.{arith}
 use Rattle.std.proofs.Common.{rules}
 use Rattle.std.proofs.lemmas.Iterator.{serves_from_Range, first_from_Range}
-use Rattle.candidates.proofs.Words.{cands_each}
+use Rattle.candidates.proofs.Words.{front_each}
 use Rattle.walk.specs.Inner.Scratch.{mark, mark_word}
 use Rattle.candidates.specs.Inner.Words.{cand}
 use Rattle.walk.proofs.Entering.{scanned}
@@ -15,7 +15,7 @@ find-requires-clause-callable c =
     let w = c.args.self.now.words.now in
     let r = c.requires in
     serves_from_Range (λ x q k. search rules)
-    (λ x a b y e. (λ l p h f g t m. omega (arith, e, b, r.long, r.most), λ l p n h f g t id_at. search rules, λ l p n h f g t id_at m. rw (id_at.ensures, e) (cands_each (λ z. mark_word z.id < length w) _ _ _ r.inside x b)))
+    (λ x a b y e. (λ l p h f g t m. omega (arith, e, b, r.long, r.most), λ l p n h f g t id_at. search rules, λ l p n h f g t id_at m. rw (id_at.ensures, e) (front_each (λ z. mark_word z.id < length w) _ _ r.inside x b)))
 
 pub returns : goal.returns
 returns c =
