@@ -4,15 +4,16 @@ use mathlib.Core.Bool.{Bool, true, false, not, ◌&&◌, cond}
 use mathlib.Core.Path.{◌≡◌, refl, ap, ◌∙◌}
 use mathlib.Core.List.{List, [], ◌∷◌, ◌++◌, append_assoc, append-nil}
 use native.Mathlib.Omega.{arith}
-use lib.ListN.{length, drop, get_or, set, length-append, length-set, drop_of_length-le}
+use lib.ListN.{length, drop, get_or, set, length-append, length-set, drop_of_length-le, take}
 use Rattle.std.proofs.lemmas.List.{drop_more}
 use Rattle.lists.specs.Lists.{filter, elem, part, put_front}
 use Rattle.lists.proofs.Front.{front_snoc}
 use Rattle.lists.proofs.Parts.{fits_in}
 use Rattle.vectors.specs.Vector.{Bytes}
 use Rattle.vectors.proofs.Distances.{length_part}
-use Rattle.candidates.specs.Candidates.{ids}
-use Rattle.candidates.specs.Inner.Words.{cands}
+use Rattle.candidates.specs.Candidates.{Candidate, ids}
+use Rattle.candidates.specs.Inner.Words.{cands_of}
+use Rattle.candidates.proofs.Parts.{cands_front}
 use Rattle.slots.specs.Store.{Arrays}
 use Rattle.walk.specs.Inner.Scratch.{near_but, Ready, Found}
 use Rattle.admission.specs.Inner.Trials.{meets, lost_of, Walks, Tried}
@@ -32,13 +33,13 @@ module _ {a : Arrays} (y : Bytes a.dim (length a.marks) a.vectors) {entry beam :
         room = f.room;
       }
 
-  pub walks_meets : (out : List ℕ) {query w' : List ℕ} {n : ℕ} {r : Bool} → query ≡ part a.dim landmark a.vectors → Found a query (near_but out) entry beam w w' n
-      → r ≡ elem landmark (ids (cands w' 0 n)) → r ≡ meets a out beam entry landmark
-  unfolding meets
-  walks_meets out g k i = i ∙ rw (k.list, g)
-
-  pub walks_few : {query w' : List ℕ} {near : Arrays → ℕ → List ℕ} {n : ℕ} → Found a query near entry beam w w' n → 0 + 2 * n ≤ length w'
+  pub walks_few : {query w' : List ℕ} {near : Arrays → ℕ → List ℕ} {n : ℕ} → Found a query near entry beam w w' n → 2 * n ≤ length w'
   walks_few k = omega (arith, k.few, k.size, f.beam_most, f.room)
+
+  pub walks_meets : (out : List ℕ) {query w' : List ℕ} {n : ℕ} {r : Bool} → query ≡ part a.dim landmark a.vectors → Found a query (near_but out) entry beam w w' n
+      → r ≡ elem landmark (ids (cands_of (take (2 * n) w'))) → r ≡ meets a out beam entry landmark
+  unfolding meets
+  walks_meets out {w' = w'} {n} g k i = i ∙ ap (λ (cs : List Candidate). elem landmark (ids cs)) (cands_front w' n (walks_few k)) ∙ rw (k.list, g)
 
 -- ---- both for each landmark
 lost_cons : (before after : ℕ → Bool) (y : ℕ) (ys : List ℕ)

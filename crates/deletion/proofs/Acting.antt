@@ -16,6 +16,7 @@ use Rattle.candidates.proofs.Parts.{whole_part}
 use Rattle.candidates.proofs.Words.{cands_none, cands_agree, front_cons, front_each}
 use Rattle.slots.specs.Scratch.{work_at}
 use Rattle.slots.specs.Store.{Arrays, Store, arrays, is_valid, store_ops}
+use Rattle.slots.specs.Inner.Rows.{HasRow}
 use Rattle.slots.specs.Inner.Writing.{Finished}
 use Rattle.slots.specs.Lent.{rows_mut_of, SameSlices}
 use Rattle.slots.specs.declared.graph.RowsMut.{RowsMut}
@@ -113,8 +114,8 @@ module _ {a₀ : Arrays} {w : List ℕ} {a : Arrays} {k : ℕ} (f : Finishing a�
     slot_in : (cand w (2 * k)).id < length a.marks
     slot_in = rw f.marks_long (front_each (λ c. c.id < length a₀.marks) w (length w / 2) v k h)
 
-    pub finishing_asks : (u * a.degree + a.degree ≤ length a.targets) × (u * a.degree + a.degree ≤ length a.edges) × (u < length a.versions)
-    finishing_asks = let r = shape_fits f.together.rows (cand w (2 * k)).id slot_in in rw the_slot (r.0, r.1, rw f.together.rows.versions_long slot_in)
+    pub finishing_asks : HasRow a.degree a.targets a.edges u × (u < length a.versions)
+    finishing_asks = let r = shape_fits f.together.rows (cand w (2 * k)).id slot_in in rw the_slot (r, rw f.together.rows.versions_long slot_in)
 
     pub finishing_more : {targets' edges' versions' : List ℕ} → Finished a.degree a.targets a.edges a.versions u targets' edges' versions'
         → length targets' ≡ length a.targets → length edges' ≡ length a.edges → length versions' ≡ length a.versions
