@@ -1,8 +1,12 @@
 // The lines of calls that leave an index as it is, each compared with the stored answer.
 #![tactic(auto)]
 
-ghost use Rattle.std.specs.Prelude.{IfOk};
-ghost use Rattle.text.specs.Inner.Text.{Ended};
+ghost use denote.Ref.{Bor};
+ghost use Rattle.std.specs.Prelude.{List, Option, ℕ, IfOk};
+ghost use Rattle.index.specs.Refusal.{number_of};
+ghost use Rattle.reading.specs.declared.Value.{Value};
+ghost use Rattle.text.specs.Inner.Text.{Reads};
+ghost use Rattle.looks.specs.Inner.Readings.{ValueRead, Answers, VectorRead, VectorLine, SizeRead, ReadingRead, Looks};
 
 use index::{Index, Refusal, Slices};
 use lines::answers::expect_done;
@@ -30,14 +34,18 @@ fn reading(what: u32, slot: u32, place: u32) -> Result<Reading, Differs> {
 }
 
 // Passes a refusal and the number behind it, which is any.
-fn expect_refusal(line: &mut Numbers<'_>, refusal: Refusal) -> Result<(), Differs> {
+fn expect_refusal(line: &mut Numbers<'_>, refusal: Refusal) -> Result<(), Differs>
+    ensures { IfOk result (λ _. (left : Option (Bor (List ℕ))) × (any : ℕ) × Reads line.old.rest left (number_of refusal) × Reads left line.new.rest any) }
+{
     line.expect(refusal as u32)?;
     line.number()?;
     Ok(())
 }
 
 // Passes a factor, a number that is to be this alpha.
-fn expect_alpha(line: &mut Numbers<'_>, alpha: f32) -> Result<(), Differs> {
+fn expect_alpha(line: &mut Numbers<'_>, alpha: f32) -> Result<(), Differs>
+    ensures { IfOk result (λ _. ValueRead line.old.rest line.new.rest (Value.Alpha alpha)) }
+{
     if alpha == alpha_of(line.number()?) {
         return Ok(());
     }
@@ -45,7 +53,9 @@ fn expect_alpha(line: &mut Numbers<'_>, alpha: f32) -> Result<(), Differs> {
 }
 
 // Passes the answer to a reading.
-fn expect_value(line: &mut Numbers<'_>, got: Result<Value, Refusal>) -> Result<(), Differs> {
+fn expect_value(line: &mut Numbers<'_>, got: Result<Value, Refusal>) -> Result<(), Differs>
+    ensures { IfOk result (λ _. Answers ValueRead line.old.rest line.new.rest got) }
+{
     let value = match got {
         Err(r) => return expect_refusal(line, r),
         Ok(value) => value,
@@ -59,14 +69,18 @@ fn expect_value(line: &mut Numbers<'_>, got: Result<Value, Refusal>) -> Result<(
 }
 
 // Performs a line `read`.
-fn read(line: &mut Numbers<'_>, index: Index, slices: &Slices<'_>) -> Result<(), Differs> {
+fn read(line: &mut Numbers<'_>, index: Index, slices: &Slices<'_>) -> Result<(), Differs>
+    ensures { IfOk result (λ _. ReadingRead line.old.rest line.new.rest) }
+{
     let what = reading(line.number()?, line.number()?, line.number()?)?;
     let got = reading::read(index, slices, what);
     expect_value(line, got)
 }
 
 // Passes the length of a vector and its bytes.
-fn expect_bytes(line: &mut Numbers<'_>, got: &[u8]) -> Result<(), Differs> {
+fn expect_bytes(line: &mut Numbers<'_>, got: &[u8]) -> Result<(), Differs>
+    ensures { IfOk result (λ _. VectorRead line.old.rest line.new.rest got.now) }
+{
     if line.number()? as usize != got.len() {
         return Err(Differs::Answer);
     }
@@ -77,23 +91,34 @@ fn expect_bytes(line: &mut Numbers<'_>, got: &[u8]) -> Result<(), Differs> {
 }
 
 // Performs a line `vector`.
-fn read_vector(line: &mut Numbers<'_>, index: Index, slices: &Slices<'_>) -> Result<(), Differs> {
+fn read_vector(line: &mut Numbers<'_>, index: Index, slices: &Slices<'_>) -> Result<(), Differs>
+    ensures { IfOk result (λ _. VectorLine line.old.rest line.new.rest) }
+{
     let slot = line.number()?;
     expect_bytes(line, reading::read_vector(index, slices, slot))
 }
 
-// Performs a line `words`.
-fn size(line: &mut Numbers<'_>) -> Result<(), Differs> {
-    let dim = line.number()?;
-    let capacity = line.number()?;
-    let degree = line.number()?;
-    match index::scratch_words(dim, capacity, degree) {
+// Passes the answer to how many words the scratch has.
+fn expect_size(line: &mut Numbers<'_>, size: Result<u32, Refusal>) -> Result<(), Differs>
+    ensures { IfOk result (λ _. Answers (λ from to n. Reads from to n) line.old.rest line.new.rest size) }
+{
+    match size {
         Err(refusal) => expect_refusal(line, refusal),
         Ok(n) => {
             line.expect(0)?;
             line.expect(n)
         }
     }
+}
+
+// Performs a line `words`.
+fn size(line: &mut Numbers<'_>) -> Result<(), Differs>
+    ensures { IfOk result (λ _. SizeRead line.old.rest line.new.rest) }
+{
+    let dim = line.number()?;
+    let capacity = line.number()?;
+    let degree = line.number()?;
+    expect_size(line, index::scratch_words(dim, capacity, degree))
 }
 
 // Passes the slots, distances and figure numbers of candidates.
@@ -169,7 +194,7 @@ pub fn perform(
     arrays: &Arrays<'_>,
     scratch: &mut [u32],
 ) -> Result<(), Differs>
-    ensures { IfOk result (λ _. Ended line.new.rest) }
+    ensures { IfOk result (λ _. Looks what line.old.rest line.new.rest) }
 {
     let slices = arrays.slices(state.lent);
     match what {
