@@ -49,21 +49,18 @@ pub extern "C" fn exported_search(
 
 #[unsafe(no_mangle)]
 pub extern "C" fn exported_prune(
-    degree: usize,
     alpha: f32,
     dim: usize,
     vectors: &[u8],
     marks: &[u8],
     source: u32,
-    scratch: &mut [u32],
-    a: usize,
-    n: usize,
-    to: usize,
+    list: &mut [u32],
+    out: &mut [u32],
 ) -> usize
-    requires { Selecting.Ready degree dim vectors.now marks.now scratch.old a n to }
+    requires { Selecting.Ready dim vectors.now marks.now list.old }
 {
     let mut kept = Kept::<0>::new(Space { dim, vectors });
-    prune::prune_scored(degree, alpha, &mut kept, marks, source, scratch, a, n, to)
+    prune::prune_scored(alpha, &mut kept, marks, source, list, out)
 }
 RT
 (cd "$work/crates/exports" && rt lib) > "$work/log" 2>&1 || { grep -E '^(rt:|fn exports)|error' "$work/log"; exit 1; }

@@ -8,7 +8,7 @@ use std::hint::black_box;
 pub type Search = unsafe extern "C" fn(
     usize, usize, *const u8, usize, *const u32, usize, *const u16, usize, *const u16, usize, *const u8, usize, *const u8, usize, u32, usize, *mut u32, usize,
 ) -> usize;
-pub type Prune = unsafe extern "C" fn(usize, f32, usize, *const u8, usize, *const u8, usize, u32, *mut u32, usize, usize, usize, usize) -> usize;
+pub type Prune = unsafe extern "C" fn(f32, usize, *const u8, usize, *const u8, usize, u32, *mut u32, usize, *mut u32, usize) -> usize;
 pub type Live = unsafe extern "C" fn(
     *const u32, *const u8, usize, *const u32, usize, *const u16, usize, *const u16, usize, *const u8, usize, *const u32, usize, *const u32, usize,
     *const u32, usize, *mut u32,
@@ -226,10 +226,11 @@ fn prunes(prune: Prune) {
                     let started = cpu();
                     let mut counts = Vec::with_capacity(lists.len());
                     for ((source, list), w) in lists.iter().zip(scratches.iter_mut()) {
+                        let (given, out) = w.split_at_mut(2 * list.len());
                         counts.push(unsafe {
                             prune(
-                                32, 1.2, dim, s.vectors.as_ptr(), s.vectors.len(), s.marks.as_ptr(), s.marks.len(), *source,
-                                w.as_mut_ptr(), w.len(), 0, list.len(), 2 * list.len(),
+                                1.2, dim, s.vectors.as_ptr(), s.vectors.len(), s.marks.as_ptr(), s.marks.len(), *source,
+                                given.as_mut_ptr(), given.len(), out.as_mut_ptr(), out.len(),
                             )
                         });
                     }

@@ -5,8 +5,8 @@ unsafe extern "C" {
         marks: *const u8, ml: usize, query: *const u8, ql: usize, entry: u32, beam: usize, scratch: *mut u32, sl: usize,
     ) -> usize;
     fn exported_prune(
-        degree: usize, alpha: f32, dim: usize, vectors: *const u8, vl: usize, marks: *const u8, ml: usize, source: u32,
-        scratch: *mut u32, sl: usize, a: usize, n: usize, to: usize,
+        alpha: f32, dim: usize, vectors: *const u8, vl: usize, marks: *const u8, ml: usize, source: u32,
+        list: *mut u32, ll: usize, out: *mut u32, ol: usize,
     ) -> usize;
     fn finder_live(
         index: *const u32, vectors: *const u8, vl: usize, targets: *const u32, tl: usize, edges: *const u16, el: usize, versions: *const u16, nl: usize,
