@@ -113,7 +113,7 @@ module _ {w : List ℕ} {n next : ℕ} (s : Scannable w n next) where
 
   pub scanned : (r : Option ℕ)
       → MatchOption r ((k : ℕ) → next ≤ k → k < n → mark w (cand w (2 * k)).id ≡ 2)
-          (λ i. (next ≤ i) × (i < n) × (mark w (cand w (2 * i)).id ≡ 2 → ⊥) × ((k : ℕ) → next ≤ k → k < i → mark w (cand w (2 * k)).id ≡ 2))
+      (λ i. (next ≤ i) × (i < n) × (mark w (cand w (2 * i)).id ≡ 2 → ⊥) × ((k : ℕ) → next ≤ k → k < i → mark w (cand w (2 * k)).id ≡ 2))
       → (r ≡ None → Unexpanded w n n) × ((i : ℕ) → r ≡ Some i → Unexpanded w n i × (i < n))
   scanned None h = ((λ q. record { within = omega arith; done = scan_to n s.passed h; stops = λ l. absurd (omega arith) }), λ i q. cc)
   scanned (Some r) h =

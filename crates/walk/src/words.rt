@@ -136,8 +136,8 @@ impl List<'_> {
         requires { Scannable self.now.words.now self.now.count self.now.next }
         ensures { (result ≡ None → Unexpanded self.now.words.now self.now.count self.now.count) × ((i : ℕ) → result ≡ Some i → Unexpanded self.now.words.now self.now.count i × (i < self.now.count)) }
     {
-        (self.next..self.count)
-            .find(|&i| mark(self.words, id_at(self.words, i) as usize) != EXPANDED)
+        (self.next..self.count).find(|&i| mark(self.words, id_at(self.words, i) as usize)
+            != EXPANDED)
     }
 
     // Whether the walk ends before candidate `i` is expanded: the list is full, and the candidate is not nearer than the worst.
