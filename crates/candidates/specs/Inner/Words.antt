@@ -24,7 +24,7 @@ cands_of w = cands w 0 (length w / 2)
 abbrev pub filled : List ℕ → List Candidate
 filled w = cands w 0 (length w / 2 - 1)
 
--- distances that an f32 holds exactly
+-- distances that an f32 holds exactly: a fact of lent words, asked where the order of a list is used
 abbrev pub Small : List Candidate → Type 0
 Small cs = All (λ c. c.dist ≤ 16777216) cs
 

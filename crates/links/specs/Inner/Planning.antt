@@ -11,7 +11,7 @@ use Rattle.links.specs.declared.span.Pair.{Pair}
 use Rattle.links.specs.Inner.Linking.{between, pairs_of, link_words}
 
 -- ---- lists of candidates
--- y and the slots of some candidates have vectors
+-- y and the slots of some candidates have vectors: a fact of a space and of a list, which changes at each step
 pub record Stored (dim : ℕ) (vectors : List ℕ) (y : ℕ) (cs : List Candidate) : Type 0 where
   pub short : dim ≤ 256
   pub own : y * dim + dim ≤ length vectors
@@ -90,7 +90,7 @@ pub record Attempted (repair_degree n r : ℕ) : Type 0 where
 abbrev pub count_at : List ℕ → ℕ → ℕ → ℕ
 count_at w stats j = get_or w (stats + 4 * j + 2) 0
 
--- p plans, 640 words each, and their counts lie below base
+-- p plans, 640 words each, and their counts lie below base: a fact of the words lent to one call, so it is no field
 pub record Plans (marks w : List ℕ) (stats plans p base : ℕ) : Type 0 where
   pub counted : stats + 4 * p ≤ base
   pub placed : plans + 640 * p ≤ base

@@ -34,7 +34,7 @@ pub record Given (space : Space) (w : List ℕ) (n : ℕ) : Type 0 where
   pub stored : (k : ℕ) → k < n → HasVector space (cand w (2 * k)).id
   pub numbered : (k : ℕ) → k < n → (cand w (2 * k)).id < 65536
 
--- what `prune_scored` asks: bytes for each slot, and a list
+-- what `prune_scored` asks, as the walk's functions do: bytes for each slot, and a list: a fact of what is lent to one call
 pub record Ready (dim : ℕ) (vectors marks w : List ℕ) : Type 0 where
   pub bytes : length vectors ≡ length marks * dim
   pub few : length marks ≤ 65536
