@@ -55,8 +55,7 @@ pub record VectorLine (old new : Option (Bor (List ℕ))) : Type 0 where
   pub bytes : List ℕ
   pub read : VectorRead left new bytes
 
--- what a line was read to be, to its end. Of a search it says no more: one loop passes three lists, a number of each in turn, and what it reads depends on the
--- query that stands in the line before them.
+-- what a line was read to be, to its end. Of a search it says no more: its candidates are passed in one loop over three lists, whose proof did not close.
 abbrev pub Looks : Looking → Option (Bor (List ℕ)) → Option (Bor (List ℕ)) → Type 0
 Looks Looking.Read old new = ReadingRead old new × Ended new
 Looks Looking.Vector old new = VectorLine old new × Ended new
