@@ -6,7 +6,8 @@ ghost use Rattle.std.specs.Prelude.{List, Option, ℕ, IfOk};
 ghost use Rattle.index.specs.Refusal.{number_of};
 ghost use Rattle.reading.specs.declared.Value.{Value};
 ghost use Rattle.text.specs.Inner.Text.{Reads};
-ghost use Rattle.looks.specs.Inner.Readings.{ValueRead, Answers, VectorRead, VectorLine, SizeRead, ReadingRead, Looks};
+ghost use Rattle.lines.specs.Inner.Answers.{Answered};
+ghost use Rattle.looks.specs.Inner.Readings.{CandidatesRead, FoundRead, SearchRead, ValueRead, Answers, VectorRead, VectorLine, SizeRead, ReadingRead, Looks};
 
 use index::{Index, Refusal, Slices};
 use lines::answers::expect_done;
@@ -127,7 +128,9 @@ fn expect_candidates(
     slots: &[u32],
     dists: &[f32],
     figures: &[u32],
-) -> Result<(), Differs> {
+) -> Result<(), Differs>
+    ensures { IfOk result (λ _. CandidatesRead line.old.rest line.new.rest slots.now dists.now figures.now) }
+{
     for ((slot, dist), figure) in slots.iter().zip(dists).zip(figures) {
         line.expect(*slot)?;
         if *dist != std::num::nearest_u32_to_f32(line.number()?) {
@@ -145,7 +148,9 @@ fn expect_found(
     slots: &[u32],
     dists: &[f32],
     figures: &[u32],
-) -> Result<(), Differs> {
+) -> Result<(), Differs>
+    ensures { IfOk result (λ _. Answered (FoundRead slots.now dists.now figures.now) line.old.rest line.new.rest found) }
+{
     let Some(n) = expect_done(line, found)? else {
         return Ok(());
     };
@@ -160,7 +165,9 @@ fn search(
     state: State,
     slices: &Slices<'_>,
     scratch: &mut [u32],
-) -> Result<(), Differs> {
+) -> Result<(), Differs>
+    ensures { IfOk result (λ _. SearchRead line.old.rest line.new.rest) }
+{
     let mut query = [0u8; 1024];
     let mut slots = [0u32; 1024];
     let mut dists = [0.0f32; 1024];

@@ -1,12 +1,15 @@
 -- What lines have of calls that leave an index as it is.
 use denote.Ref.{Bor}
-use Rattle.std.specs.Prelude.{List, [], ◌∷◌, Option, Result, MatchResult, ℕ, ◌≡◌, true, length, Float}
-use Rattle.std.specs.Float.Ieee.{eq}
+use Rattle.std.specs.Prelude.{List, [], ◌∷◌, Option, Result, MatchResult, ℕ, ◌≡◌, ◌≤◌, take, true, pos, length, Float}
+use Rattle.std.specs.List.{FoldsTo}
+use Rattle.std.specs.Float.{binary32}
+use Rattle.std.specs.Float.Ieee.{eq, of_int}
 use Rattle.index.specs.Index.{sizes, words_for}
 use Rattle.index.specs.Refusal.{number_of}
 use Rattle.index.specs.declared.Refusal.{Refusal}
 use Rattle.reading.specs.declared.Value.{Value}
-use Rattle.text.specs.Inner.Text.{Reads, ReadsAll, Ended}
+use Rattle.text.specs.Inner.Text.{Reads, ReadsAll, Asks, Ended}
+use Rattle.lines.specs.Inner.Answers.{Answered}
 use Rattle.lines.specs.Inner.Prepared.{alpha_of}
 use Rattle.lines.specs.declared.words.Looking.{Looking}
 
@@ -55,10 +58,37 @@ pub record VectorLine (old new : Option (Bor (List ℕ))) : Type 0 where
   pub bytes : List ℕ
   pub read : VectorRead left new bytes
 
--- what a line was read to be, to its end. Of a search it says no more: one loop passes three lists, a number of each in turn, and what it reads depends on the
--- query that stands in the line before them.
+-- the slots, distances and figure numbers of candidates were read next of a line, those of one behind another; a distance as a number that is equal to it
+abbrev pub CandidatesRead : Option (Bor (List ℕ)) → Option (Bor (List ℕ)) → List ℕ → List Float → List ℕ → Type 0
+CandidatesRead old new [] dists figures = old ≡ new
+CandidatesRead old new (slot ∷ slots) [] figures = old ≡ new
+CandidatesRead old new (slot ∷ slots) (dist ∷ dists) [] = old ≡ new
+CandidatesRead old new (slot ∷ slots) (dist ∷ dists) (figure ∷ figures) = (named : Option (Bor (List ℕ))) × Reads old named slot × (measured : Option (Bor (List ℕ))) × (n : ℕ) × Reads named measured n × (eq dist (of_int binary32 (pos n)) ≡ true) × (left : Option (Bor (List ℕ))) × Reads measured left figure × CandidatesRead left new slots dists figures
+
+-- n and the first n of the candidates found were read next of a line
+pub record FoundRead (slots : List ℕ) (dists : List Float) (figures : List ℕ) (old new : Option (Bor (List ℕ))) (n : ℕ) : Type 0 where
+  pub counted : Option (Bor (List ℕ))
+  pub count : Reads old counted n
+  pub room : n ≤ length slots
+  pub candidates : CandidatesRead counted new (take n slots) dists figures
+
+-- how many candidates a search gives at most, its beam and its query's length were read next of a line, and behind the query an answer
+pub record SearchRead (old new : Option (Bor (List ℕ))) : Type 0 where
+  pub k : ℕ
+  pub beam : ℕ
+  pub count : ℕ
+  pub asked : Option (Bor (List ℕ))
+  pub given : FoldsTo (λ from value to. Asks from to value) old (k ∷ beam ∷ count ∷ []) asked
+  pub left : Option (Bor (List ℕ))
+  pub answer : Result ℕ Refusal
+  pub slots : List ℕ
+  pub dists : List Float
+  pub figures : List ℕ
+  pub read : Answered (FoundRead slots dists figures) left new answer
+
+-- what a line was read to be, to its end
 abbrev pub Looks : Looking → Option (Bor (List ℕ)) → Option (Bor (List ℕ)) → Type 0
 Looks Looking.Read old new = ReadingRead old new × Ended new
 Looks Looking.Vector old new = VectorLine old new × Ended new
-Looks Looking.Search old new = Ended new
+Looks Looking.Search old new = SearchRead old new × Ended new
 Looks Looking.Words old new = SizeRead old new × Ended new
