@@ -5,6 +5,7 @@ pub mod Plain
 pub mod Exact
 pub mod Words
 pub mod Parts
+pub mod Chunks
 pub mod Scored
 pub mod Insertion
 pub mod Keeping

@@ -10,9 +10,9 @@ use Rattle.std.proofs.Common.{rules}
 use Rattle.std.proofs.lemmas.Grind.{common_steps}
 use Rattle.lists.specs.Lists.{insert_by}
 use Rattle.candidates.specs.Candidates.{Candidate, before}
-use Rattle.candidates.specs.Inner.Words.{cand, cands, cands_of, filled, put, Outside, Holds, Left, Remain, Inserts, Inserted}
+use Rattle.candidates.specs.Inner.Words.{cand, cands, cands_of, filled, put, Outside, Inserts, Inserted}
 use Rattle.candidates.specs.Inner.Runs.{rest}
-use Rattle.candidates.proofs.Words.{cands_length, outside_wide, cands_moved, cands_agree, cands_kept}
+use Rattle.candidates.proofs.Words.{outside_wide, cands_moved, cands_agree, cands_kept}
 
 -- ---- the k words from word p on
 part_at : (w : List ℕ) (p k j : ℕ) → j < k → get_or (take k (drop p w)) j 0 ≡ get_or w (p + j) 0
@@ -116,22 +116,6 @@ module _ (w : List ℕ) (p k n : ℕ) (h : p + k ≤ length w) where
 
     outside : (m : ℕ) → k ≡ 2 * m → Outside p (2 * m) w (put_mid p k w v)
     outside m e = outside_wide p k p (2 * m) w (put_mid p k w v) (outside_written w v p k h long) (omega arith) (omega arith)
-
-    pub part_holds : k ≡ 2 * n → {cs : List Candidate} → cands_of v ≡ cs → Holds w p n cs (put_mid p k w v)
-    part_holds e {cs} g =
-        let m : length v / 2 ≡ n = omega (arith, long) in
-        record { list = written n (omega arith) ∙ sym (ap (λ (i : ℕ). cands v 0 i) m) ∙ g; size = written_length w v p k h long; same = outside n e }
-
-    pub part_left : k ≡ 2 * n → {cs : List Candidate} {r : ℕ} → Remain (take k (drop p w)) cs r v → Left w p n cs r (put_mid p k w v)
-    part_left e {cs} {r} g =
-        let m : r ≤ n = omega (arith, g.within, part_length w p k h) in
-        record {
-          count = sym (cands_length v 0 r) ∙ ap length g.list;
-          list = written r (omega arith) ∙ g.list;
-          within = m;
-          size = written_length w v p k h long;
-          same = outside n e;
-        }
 
     pub part_inserted : k ≡ 2 * (n + 1) → {x : Candidate} {r : ℕ} → Inserts (take k (drop p w)) x r v → Inserted w p n x r (put_mid p k w v)
     part_inserted e {x} {r} g =

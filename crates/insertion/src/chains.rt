@@ -1,5 +1,5 @@
-// What the plans of a chunk name, chained by slot: a head for each slot, and for each candidate the next one of its slot. All lies in words that C lends, so a
-// list is a place and a number.
+// What the plans of a chunk name, chained by slot: a head for each slot, and for each candidate the next one of its slot. All lies at places of
+// the layout: heads, nexts, sources and candidates are read and written by turns.
 ghost use Rattle.std.specs.Prelude.{◌≡◌, ℕ, ◌+◌, ◌≤◌, ◌<◌, length};
 ghost use Rattle.insertion.specs.Inner.Chains.{head, Chainable, Chained, Takeable, Took};
 

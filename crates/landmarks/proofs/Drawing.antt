@@ -1,21 +1,22 @@
 -- References draw a sample near: one after the other, candidate by candidate. Assumes nothing.
-use Prim.Native.Nat.{ℕ, ◌+◌, ◌-◌, ◌*◌, min, ◌≤◌, ◌<◌}
+use Prim.Native.Nat.{ℕ, ◌+◌, ◌-◌, ◌*◌, ◌/◌, min, ◌≤◌, ◌<◌}
 use mathlib.Core.Bool.{Bool, true, false, not, cond}
 use mathlib.Core.Path.{◌≡◌, refl, ap, sym, ◌∙◌}
 use mathlib.Core.List.{List, [], ◌∷◌, ◌++◌, append_assoc, append-nil}
 use native.Mathlib.Omega.{arith}
 use borrow.Author.Tests.{eq-eqb, ne_eqb}
 use lib.Dec.{eqb}
-use lib.ListN.{length, drop, get_or}
-use Rattle.std.proofs.lemmas.Bool.{or_parts}
+use lib.ListN.{length, take, drop, get_or}
 use Rattle.lists.specs.Lists.{All, filter, elem, least_of}
 use Rattle.lists.proofs.All.{by_cases, all_append}
 use Rattle.lists.proofs.Filtered.{filter_all}
 use Rattle.lists.proofs.Least.{least_with, least_cons, least_min}
-use Rattle.std.proofs.lemmas.List.{at_drop_more, drop_all}
+use Rattle.std.proofs.lemmas.List.{at_drop_more, drop_all, length-take-le}
+use Rattle.lists.proofs.Unique.{or_false_l, or_false_r}
 use Rattle.vectors.specs.Space.{Measured}
 use Rattle.candidates.specs.Candidates.{Candidate, scored}
-use Rattle.candidates.specs.Inner.Words.{pair, cands, put}
+use Rattle.candidates.specs.Inner.Words.{pair, cands, cands_of, put}
+use Rattle.candidates.proofs.Parts.{cands_front, cands_written, written_length}
 use Rattle.candidates.proofs.Words.{cands_none, front_cons, cands_put, put_length, front_push}
 use Rattle.landmarks.specs.Inner.Samples.{far}
 use Rattle.vectors.specs.Lent.{HasVector}
@@ -80,6 +81,31 @@ module _ {space : Space} {d : ℕ → ℕ → ℕ} {next : ℕ} {w₀ : List ℕ
       let z : n - k ≡ 0 = omega arith in
       record { list = rw (cands_none w (2 * k) (n - k) z, append-nil) at f.goes; within = omega (arith, f.within); near = f.near; size = f.size }
 
+-- ---- the first m candidates of some words as a list
+pub part_is : (w : List ℕ) (m : ℕ) → 2 * m ≤ length w → cands_of (take (2 * m) w) ≡ cands w 0 m
+part_is w m h = cands_front w m h
+
+part_half : (w : List ℕ) (m : ℕ) → 2 * m ≤ length w → length (take (2 * m) w) / 2 ≡ m
+part_half w m h = omega (arith, length-take-le (2 * m) w h)
+
+pub part_listed : {space : Space} {w : List ℕ} {m : ℕ} → Listed space w m → Listed space (take (2 * m) w) (length (take (2 * m) w) / 2)
+part_listed {space} {w} {m} f = record { small = f.small; room = omega arith; inside = rw (cands_front w m f.room) f.inside }
+
+drew_part : {l : List Candidate} (w : List ℕ) (m : ℕ) (v : List ℕ) {r : ℕ} → 2 * m ≤ length w → length v ≡ length (take (2 * m) w) → Drew (take (2 * m) w) (length (take (2 * m) w) / 2) l v r → Drew w m l (v ++ drop (2 * m) w) r
+drew_part w m v {r} h e g =
+    let long : length v ≡ 2 * m = e ∙ length-take-le (2 * m) w h in
+    let few : r ≤ m = omega (arith, g.within, part_half w m h) in
+    let same : cands (v ++ drop (2 * m) w) 0 r ≡ cands v 0 r = cands_written w v 0 (2 * m) (omega arith) long 0 r (omega arith) in
+    record { list = same ∙ g.list; within = few; near = rw same g.near; size = written_length w v 0 (2 * m) (omega arith) long }
+
+pub part_drew : (d : ℕ → ℕ → ℕ) (next : ℕ) (w : List ℕ) (m : ℕ) (v : List ℕ) {r : ℕ} → 2 * m ≤ length w → length v ≡ length (take (2 * m) w)
+    → Drew (take (2 * m) w) (length (take (2 * m) w) / 2) (drawn d next (cands_of (take (2 * m) w))) v r → Drew w m (drawn d next (cands w 0 m)) (v ++ drop (2 * m) w) r
+part_drew d next w m v h e g = let f = drew_part w m v h e g in record { list = f.list ∙ ap (drawn d next) (cands_front w m h); within = f.within; near = f.near; size = f.size }
+
+pub part_drew_all : (d : ℕ → ℕ → ℕ) (references : List ℕ) (w : List ℕ) (m : ℕ) (v : List ℕ) {r : ℕ} → 2 * m ≤ length w → length v ≡ length (take (2 * m) w)
+    → Drew (take (2 * m) w) (length (take (2 * m) w) / 2) (drawn_all d references (cands_of (take (2 * m) w))) v r → Drew w m (drawn_all d references (cands w 0 m)) (v ++ drop (2 * m) w) r
+part_drew_all d references w m v h e g = let f = drew_part w m v h e g in record { list = f.list ∙ ap (drawn_all d references) (cands_front w m h); within = f.within; near = f.near; size = f.size }
+
 -- what is left can be drawn to the next one
 pub drew_listed : {space : Space} (d : ℕ → ℕ → ℕ) (next : ℕ) {w : List ℕ} {n : ℕ} {w' : List ℕ} {r : ℕ} → Listed space w n
     → Drew w n (drawn d next (cands w 0 n)) w' r → Listed space w' r
@@ -137,7 +163,7 @@ all_parts : (r : ℕ) (rs xs : List ℕ) → All (λ s. elem s (r ∷ rs) ≡ fa
 all_parts r rs [] h = (tt, tt)
 all_parts r rs (x ∷ xs) h =
     let rest = all_parts r rs xs h.1 in
-    ((ap not (or_parts (eqb x r) (elem x rs) h.0).0, rest.0), ((or_parts (eqb x r) (elem x rs) h.0).1, rest.1))
+    ((ap not (or_false_l (eqb x r) (elem x rs) h.0), rest.0), (or_false_r (eqb x r) (elem x rs) h.0, rest.1))
 
 drawn_least : (d : ℕ → ℕ → ℕ) (near : ℕ → ℕ) (rs xs : List ℕ) → All (λ s. elem s rs ≡ false) xs
     → drawn_all d rs (scored near xs) ≡ scored (λ s. least_with (d s) (near s) rs) xs

@@ -28,6 +28,6 @@ pub fn select_landmarks(
     }
     let words = &mut scratch[MARKS + free.marks.len()..];
     let n = take_sample(free, wanted, sample, words);
-    let m = draw_all(space, free.entry, free.kept, words, n);
-    choose(space, wanted, list, words, m)
+    let m = draw_all(space, free.entry, free.kept, &mut words[..2 * n]);
+    choose(space, wanted, list, &mut words[..2 * m])
 }

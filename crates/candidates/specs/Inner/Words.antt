@@ -1,8 +1,8 @@
 -- Lists of candidates as the code keeps them, in lent words: two neighbouring words a candidate, its distance and its slot. Assumes nothing.
-use Rattle.std.specs.Prelude.{ℕ, zero, suc, ◌+◌, ◌*◌, ◌-◌, ◌/◌, ◌≤◌, ◌<◌, ◌≡◌, ◌⊎◌, Bool, true, not, ◌&&◌, List, [], ◌∷◌, ◌++◌, length, take, drop, get_or, set, eqb}
+use Rattle.std.specs.Prelude.{ℕ, zero, suc, ◌+◌, ◌*◌, ◌-◌, ◌/◌, ◌≤◌, ◌<◌, ◌≡◌, Bool, true, not, ◌&&◌, List, [], ◌∷◌, ◌++◌, length, take, drop, get_or, set, eqb}
 use Rattle.lists.specs.Lists.{All, insert_by}
 use Rattle.slots.specs.Store.{is_valid}
-use Rattle.candidates.specs.Candidates.{Candidate, before, ids}
+use Rattle.candidates.specs.Candidates.{Candidate, before}
 
 abbrev pub pair : ℕ → ℕ → Candidate
 pair dist id = record { dist = dist; id = id }
@@ -43,14 +43,6 @@ pub record Holds (w : List ℕ) (a n : ℕ) (l : List Candidate) (w' : List ℕ)
   pub size : length w' ≡ length w
   pub same : Outside a (2 * n) w w'
 
--- of n candidates at a those of the list l are left, r of them
-pub record Left (w : List ℕ) (a n : ℕ) (l : List Candidate) (r : ℕ) (w' : List ℕ) : Type 0 where
-  pub count : r ≡ length l
-  pub list : cands w' a r ≡ l
-  pub within : r ≤ n
-  pub size : length w' ≡ length w
-  pub same : Outside a (2 * n) w w'
-
 -- of a list those of l remain, r of them, at its front
 pub record Remain (w : List ℕ) (l : List Candidate) (r : ℕ) (w' : List ℕ) : Type 0 where
   pub list : cands w' 0 r ≡ l
@@ -85,17 +77,7 @@ pub record Inserts (w : List ℕ) (x : Candidate) (r : ℕ) (w' : List ℕ) : Ty
   pub front : cands w' 0 r ≡ cands w 0 r
   pub list : cands_of w' ≡ insert_by before x (filled w)
 
--- ---- other tests and copies
+-- ---- another test
 -- whether a slot is live and not the source
 unfoldable pub kept : List ℕ → ℕ → ℕ → Bool
 kept marks source s = not (eqb s source) && is_valid marks s
-
--- n words from `to` on overwrite no candidate of the n at a that is still to be read
-abbrev pub Clear : ℕ → ℕ → ℕ → Type 0
-Clear a n to = (to ≤ a) ⊎ (a + 2 * n ≤ to)
-
--- the slots of the n candidates at a stand from word `to` on
-pub record Copied (w : List ℕ) (a n to : ℕ) (w' : List ℕ) : Type 0 where
-  pub list : take n (drop to w') ≡ ids (cands w a n)
-  pub size : length w' ≡ length w
-  pub same : Outside to n w w'

@@ -11,8 +11,8 @@ slot_distance-d-requires c = (drawing_inside c.loop-k.invariant c.loop-k-test.tr
 pub loop-k-preserved : goal.loop-k-preserved
 loop-k-preserved c =
     elim c.if-id-next.branch [
-      | then-id-next w ↦ rw (w.words-is, w.m-is, w.put.ensures) (drawing_take c.loop-k.invariant c.requires.0.room c.loop-k-test.true c.dist_at-dist.ensures c.id_at-id.ensures w.if-id-next.true w.slot_distance-d.ensures w.min.ensures)
-      | else-id-next w ↦ rw (w.words-is, w.m-is) (drawing_skip c.loop-k.invariant c.loop-k-test.true c.id_at-id.ensures w.if-id-next.false)
+      | then-id-next w ↦ rw (w.list-is, w.m-is, w.put.ensures) (drawing_take c.loop-k.invariant c.requires.0.room c.loop-k-test.true c.dist_at-dist.ensures c.id_at-id.ensures w.if-id-next.true w.slot_distance-d.ensures w.min.ensures)
+      | else-id-next w ↦ rw (w.list-is, w.m-is) (drawing_skip c.loop-k.invariant c.loop-k-test.true c.id_at-id.ensures w.if-id-next.false)
     ]
 
 pub returns : goal.returns

@@ -1,6 +1,8 @@
+use mathlib.Core.List.{◌∷◌}
 use Rattle.vectors.specs.Space.{slot_distance}
 use Rattle.vectors.specs.Lent.{space_of}
 use Rattle.landmarks.specs.Inner.Samples.{remains}
+use Rattle.landmarks.proofs.Drawing.{part_listed, part_is, part_drew_all}
 use Rattle.landmarks.proofs.Selecting.{selectable_references, taken_listed, selected_none, drawn_listed, selected}
 use Rattle.landmarks.proofs.select.select_landmarks.Goals as goal
 
@@ -8,10 +10,17 @@ pub returns-then-wanted-eq0 : goal.returns-then-wanted-eq0
 returns-then-wanted-eq0 c = selected_none c.requires (slot_distance (space_of c.args.space.now)) (remains c.args.free.now.marks.now c.args.free.now.ids.now) c.if-wanted-eq0.true
 
 pub draw_all-m-requires : goal.draw_all-m-requires
-draw_all-m-requires c = (taken_listed c.requires c.take_sample-n.ensures, (selectable_references c.requires).0, (selectable_references c.requires).1)
+draw_all-m-requires c = (part_listed (taken_listed c.requires c.take_sample-n.ensures), (selectable_references c.requires).0, (selectable_references c.requires).1)
 
 pub choose-requires : goal.choose-requires
-choose-requires c = (drawn_listed c.requires (slot_distance (space_of c.args.space.now)) (remains c.args.free.now.marks.now c.args.free.now.ids.now) c.take_sample-n.ensures c.draw_all-m.ensures, c.requires.list_long)
+choose-requires c =
+    let taken = taken_listed c.requires c.take_sample-n.ensures in
+    let drew = part_drew_all (slot_distance (space_of c.args.space.now)) (c.args.free.now.entry ∷ c.args.free.now.kept.now) c.take_sample-n.new.words _ c.draw_all-m.new.list taken.room c.draw_all-m.auto.list c.draw_all-m.ensures in
+    (part_listed (drawn_listed c.requires (slot_distance (space_of c.args.space.now)) (remains c.args.free.now.marks.now c.args.free.now.ids.now) c.take_sample-n.ensures drew), c.requires.list_long)
 
 pub returns : goal.returns
-returns c = selected c.requires (slot_distance (space_of c.args.space.now)) (remains c.args.free.now.marks.now c.args.free.now.ids.now) c.take_sample-n.ensures c.draw_all-m.ensures c.choose.ensures
+returns c =
+    let taken = taken_listed c.requires c.take_sample-n.ensures in
+    let drew = part_drew_all (slot_distance (space_of c.args.space.now)) (c.args.free.now.entry ∷ c.args.free.now.kept.now) c.take_sample-n.new.words _ c.draw_all-m.new.list taken.room c.draw_all-m.auto.list c.draw_all-m.ensures in
+    let listed = drawn_listed c.requires (slot_distance (space_of c.args.space.now)) (remains c.args.free.now.marks.now c.args.free.now.ids.now) c.take_sample-n.ensures drew in
+    selected c.requires (slot_distance (space_of c.args.space.now)) (remains c.args.free.now.marks.now c.args.free.now.ids.now) c.take_sample-n.ensures drew (rw (part_is _ _ listed.room) at c.choose.ensures)
