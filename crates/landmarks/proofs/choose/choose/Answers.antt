@@ -1,11 +1,8 @@
 use Rattle.vectors.specs.Space.{slot_distance}
 use Rattle.vectors.specs.Lent.{space_of}
 use Rattle.landmarks.proofs.Drawing.{part_listed, part_is, part_drew}
-use Rattle.landmarks.proofs.Choosing.{farthest_inside, choosing_none, choosing_more, choosing_empty, choosing_done}
+use Rattle.landmarks.proofs.Choosing.{farthest_inside, choosing_more, choosing_empty, choosing_done}
 use Rattle.landmarks.proofs.choose.choose.Goals as goal
-
-pub loop-k-init : goal.loop-k-init
-loop-k-init c = choosing_none _ _ _ c.requires.0
 
 pub returns-then-m-eq0 : goal.returns-then-m-eq0
 returns-then-m-eq0 c = choosing_empty c.loop-k.invariant c.if-m-eq0.true
