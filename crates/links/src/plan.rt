@@ -97,6 +97,7 @@ pub fn apply_plans(pruner: &mut Pruner<'_, '_, '_, '_, '_, KEPT>, table: Table, 
     requires { (table.entry < length pruner.old.marks.now) × Plans pruner.old.marks.now scratch.old table.stats table.plans table.count table.base × Area pruner.old.rows.now.degree scratch.old table.base × (table.degree ≤ 16) }
     ensures { Made pruner.old (plans_at (between pruner.old.kept.now.space.dim pruner.old.kept.now.space.vectors.now) table.degree table.entry scratch.old table.stats table.plans table.count) scratch.old table.base plan_words pruner.new scratch.new }
 {
+    // three lists of 640 words, and two candidates for each place of a row with one more
     let words = 1922 + 4 * pruner.rows.degree;
     let (plans, work) = scratch.split_at_mut(table.base);
     apply_all(pruner, table, plans, &mut work[..words]);
