@@ -12,7 +12,7 @@ use lines::prepare::{Arrays, State, part_mut};
 use text::{Differs, Numbers};
 use updating::{Changed, Deleting, Naming};
 
-// What the names of a delete are.
+// What the names of a delete are. Not a `TryFrom`: `Naming` and the numbers are of other crates, and an impl needs a type of its own crate.
 fn naming(line: &mut Numbers<'_>) -> Result<Naming, Differs>
     ensures { IfOk result (λ naming. Reads line.old.rest line.new.rest (number_of naming)) }
 {

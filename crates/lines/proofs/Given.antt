@@ -6,7 +6,7 @@ use Rattle.std.specs.List.{FoldsTo}
 use Rattle.std.proofs.lemmas.Fn.{FoldsTo-push}
 use Rattle.std.proofs.lemmas.Grind.{drop_more_same}
 use Rattle.std.proofs.lemmas.List.{take_more_set, drop-set-lt}
-use Rattle.text.specs.Inner.Text.{Reads, ReadsAll}
+use Rattle.text.specs.Inner.Text.{Reads}
 use Rattle.lines.specs.Inner.Given.{Given}
 
 module _ {A : Type 0} (gives : ℕ → A → Type 0) where
@@ -21,12 +21,6 @@ module _ {A : Type 0} (gives : ℕ → A → Type 0) where
         reads = subst (λ (words : List A). FoldsTo R old words rest) (sym (take_more_set after i word inside)) (FoldsTo-push R old (take i after) left word rest given.reads (number, reads, is));
         behind = drop-set-lt (i + 1) after i word (omega arith) ∙ drop_more_same after before i given.behind;
       }
-
--- one more number that is read into a list
-pub reads_more : (old left rest : Option (Bor (List ℕ))) (i : ℕ) (numbers : List ℕ) (number : ℕ) → ReadsAll old left (take i numbers) → i < length numbers → Reads left rest number → ReadsAll old rest (take (i + 1) (set numbers i number))
-reads_more old left rest i numbers number read inside reads =
-    let R = λ (from : Option (Bor (List ℕ))) (n : ℕ) (to : Option (Bor (List ℕ))). Reads from to n in
-    subst (λ (ns : List ℕ). FoldsTo R old ns rest) (sym (take_more_set numbers i number inside)) (FoldsTo-push R old (take i numbers) left number rest read reads)
 
 module _ {A : Type 0} {gives gives′ : ℕ → A → Type 0} (more : (number : ℕ) (word : A) → gives number word → gives′ number word) where
   reads_weaker : (old : Option (Bor (List ℕ))) (words : List A) (new : Option (Bor (List ℕ))) → FoldsTo (λ left word rest. (number : ℕ) × Reads left rest number × gives number word) old words new → FoldsTo (λ left word rest. (number : ℕ) × Reads left rest number × gives′ number word) old words new

@@ -1,7 +1,7 @@
 // Lines that prepare calls: what is lent and given, and what is altered by hand.
 ghost use denote.Ref.{Bor};
-ghost use Rattle.std.specs.Prelude.{slice_set, ◌<◌, List, Option, ℕ, ◌≡◌, ◌+◌, ◌-◌, ◌%◌, ◌≤◌, length, IfOk, Ok};
-ghost use Rattle.text.specs.Inner.Text.{Reads, ReadsAll, Ended};
+ghost use Rattle.std.specs.Prelude.{slice_set, ◌<◌, List, Option, None, ℕ, ◌≡◌, ◌+◌, ◌-◌, ◌%◌, ◌≤◌, length, IfOk, Ok};
+ghost use Rattle.text.specs.Inner.Text.{Reads, Asks, Ended};
 ghost use Rattle.lines.specs.Inner.Given.{Given};
 ghost use Rattle.lines.specs.Inner.Lent.{lent_of};
 ghost use Rattle.lines.specs.Inner.Prepared.{Lends, Prepared, Sets, Stored, Stores, altered, alpha_of};
@@ -9,11 +9,6 @@ ghost use Rattle.lines.specs.Inner.Prepared.{Lends, Prepared, Sets, Stored, Stor
 use super::words::Preparing;
 use index::{Guard, Index, Slices};
 use text::{Differs, Numbers, small};
-
-// The whole length of each array that is lent, in the order of a line `lend`.
-const MOST: [u32; 12] = [
-    262144, 131072, 131072, 65536, 65536, 1024, 65536, 65536, 1024, 1024, 1024, 235520,
-];
 
 // How much of each array is lent to a call, and how much is given.
 #[derive(Clone, Copy, Default)]
@@ -96,58 +91,43 @@ pub fn part_mut<T>(of: &mut [T], lent: usize) -> &mut [T]
     &mut of[..n]
 }
 
-// Reads lengths. One that asks for too much, or 0 where there is none, stands for those behind it too.
-fn lengths(line: &mut Numbers<'_>, to: &mut [usize; 12]) -> Result<(), Differs>
-    ensures { IfOk result (λ _. ReadsAll line.old.rest line.new.rest to.new) }
+// The next length of a line `lend`, for an array of `most`. One that asks for more is kept, and stands for those behind it too, as 0 does where there is none.
+fn next_length(line: &mut Numbers<'_>, too_much: &mut Option<u32>, most: u32) -> usize
+    ensures { too_much.new ≡ None → (too_much.old ≡ None) × Asks line.old.rest line.new.rest result }
 {
-    for (i, most) in MOST.iter().enumerate() {
-        let n = line.number()?;
-        if *most < n {
-            to[i..].fill(n as usize);
-            return Err(Differs::TooMuch);
-        }
-        to[i] = n as usize;
+    if let Some(n) = *too_much {
+        return n as usize;
     }
-    Ok(())
+    let n = line.argument();
+    if most < n {
+        *too_much = Some(n);
+    }
+    n as usize
 }
 
 // Performs a line `lend`.
 fn lend(line: &mut Numbers<'_>, lent: &mut Lent) -> Result<(), Differs>
     ensures { IfOk result (λ _. Lends line.old.rest line.new.rest lent.old lent.new) }
 {
-    let mut all = [0usize; 12];
-    let read = lengths(line, &mut all);
-    let [
-        vectors,
-        targets,
-        edges,
-        versions,
-        marks,
-        pool,
-        numbers,
-        summary,
-        slots,
-        dists,
-        found,
-        words,
-    ] = all;
-    let old = *lent;
+    let mut too_much = None;
     *lent = Lent {
-        vectors,
-        targets,
-        edges,
-        versions,
-        marks,
-        pool,
-        numbers,
-        summary,
-        slots,
-        dists,
-        found,
-        words,
-        ..old
+        vectors: next_length(line, &mut too_much, 262144),
+        targets: next_length(line, &mut too_much, 131072),
+        edges: next_length(line, &mut too_much, 131072),
+        versions: next_length(line, &mut too_much, 65536),
+        marks: next_length(line, &mut too_much, 65536),
+        pool: next_length(line, &mut too_much, 1024),
+        numbers: next_length(line, &mut too_much, 65536),
+        summary: next_length(line, &mut too_much, 65536),
+        slots: next_length(line, &mut too_much, 1024),
+        dists: next_length(line, &mut too_much, 1024),
+        found: next_length(line, &mut too_much, 1024),
+        words: next_length(line, &mut too_much, 235520),
+        ..*lent
     };
-    read?;
+    if too_much.is_some() {
+        return Err(Differs::TooMuch);
+    }
     line.end()
 }
 
@@ -200,7 +180,8 @@ pub fn alpha_of(n: u32) -> f32
     std::num::nearest_u32_to_f32(n) / 16777216.0
 }
 
-// Alters one setting of a guard, or the length of its pool. Its field is a number, as the list writes it.
+// Alters one setting of a guard, or the length of its pool. Its field is a number, as the list writes it: it is read once and names one field, so an enum would
+// be a second list of the same names. So it is in `set`, and with the arrays in `store_to`.
 fn alter(guard: &mut Guard, field: u32, value: u32)
     ensures { guard.new ≡ altered field value guard.old }
 {
@@ -243,6 +224,7 @@ fn set(line: &mut Numbers<'_>, index: &mut Index) -> Result<(), Differs>
 fn put<T: Copy>(to: &mut [T], lent: usize, place: usize, value: T) -> Result<(), Differs>
     ensures { IfOk result (λ _. (place < lent) × (to.new ≡ slice_set to.old place value)) }
 {
+    // Not by `get_mut`, for the reason in `words`.
     if lent.min(to.len()) <= place {
         return Err(Differs::TooMuch);
     }

@@ -50,31 +50,40 @@ pub enum Call {
     Look(Looking),
 }
 
-// What a word asks for.
-fn call_of(word: &[u8]) -> Result<Call, Differs>
-    ensures { IfOk result (λ call. word.now ≡ word_of call) }
-{
-    let call = match word {
-        b"lend" => Call::Prepare(Preparing::Lend),
-        b"give" => Call::Prepare(Preparing::Give),
-        b"rows" => Call::Prepare(Preparing::Rows),
-        b"numbers" => Call::Prepare(Preparing::Numbers),
-        b"set" => Call::Prepare(Preparing::Set),
-        b"store" => Call::Prepare(Preparing::Store),
-        b"make" => Call::Change(Changing::Make),
-        b"insert" => Call::Change(Changing::Insert),
-        b"delete" => Call::Change(Changing::Delete),
-        b"enable" => Call::Guard(Guarding::Enable),
-        b"status" => Call::Guard(Guarding::Status),
-        b"assess" => Call::Guard(Guarding::Assess),
-        b"guarded" => Call::Guard(Guarding::Guarded),
-        b"read" => Call::Look(Looking::Read),
-        b"vector" => Call::Look(Looking::Vector),
-        b"search" => Call::Look(Looking::Search),
-        b"words" => Call::Look(Looking::Words),
-        _ => return Err(Differs::Malformed),
-    };
-    Ok(call)
+// The word for each thing that a line asks for: what prepares calls, then the calls in the order in which they are counted.
+pub const WORDS: [(&str, Call); 17] = [
+    ("lend", Call::Prepare(Preparing::Lend)),
+    ("give", Call::Prepare(Preparing::Give)),
+    ("rows", Call::Prepare(Preparing::Rows)),
+    ("numbers", Call::Prepare(Preparing::Numbers)),
+    ("set", Call::Prepare(Preparing::Set)),
+    ("store", Call::Prepare(Preparing::Store)),
+    ("make", Call::Change(Changing::Make)),
+    ("read", Call::Look(Looking::Read)),
+    ("vector", Call::Look(Looking::Vector)),
+    ("search", Call::Look(Looking::Search)),
+    ("words", Call::Look(Looking::Words)),
+    ("insert", Call::Change(Changing::Insert)),
+    ("delete", Call::Change(Changing::Delete)),
+    ("enable", Call::Guard(Guarding::Enable)),
+    ("status", Call::Guard(Guarding::Status)),
+    ("assess", Call::Guard(Guarding::Assess)),
+    ("guarded", Call::Guard(Guarding::Guarded)),
+];
+
+impl TryFrom<&[u8]> for Call {
+    ghost use Rattle.std.specs.Prelude.{◌≡◌, IfOk};
+    ghost use Rattle.lines.specs.Inner.Words.{word_of};
+
+    type Error = Differs;
+
+    ghost try_from_gives = { λ word result. IfOk result (λ call. word.now ≡ word_of call) };
+
+    fn try_from(word: &[u8]) -> Result<Self, Differs> {
+        let named = WORDS.iter().find(|(name, _)| name.as_bytes() == word);
+        let (_, call) = named.ok_or(Differs::Malformed)?;
+        Ok(*call)
+    }
 }
 
 // What a line asks for, and its numbers.
@@ -83,5 +92,5 @@ pub fn parted(line: &[u8]) -> Result<(Call, Numbers<'_>), Differs>
 {
     let end = line.iter().position(|byte| *byte == b' ');
     let (word, numbers) = line.split_at(end.ok_or(Differs::Malformed)?);
-    Ok((call_of(word)?, Numbers::of(numbers)))
+    Ok((Call::try_from(word)?, Numbers::of(numbers)))
 }

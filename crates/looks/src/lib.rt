@@ -16,7 +16,7 @@ use lines::words::Looking;
 use reading::{Found, Reading, Searching, Value};
 use text::{Differs, Numbers};
 
-// What a number asks for.
+// What a number asks for. Not a `TryFrom`: `Reading` and the numbers are of other crates, and an impl needs a type of its own crate.
 fn reading(what: u32, slot: u32, place: u32) -> Result<Reading, Differs> {
     let reading = match what {
         0 => Reading::Dim,

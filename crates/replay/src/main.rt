@@ -8,48 +8,36 @@ ghost use Rattle.std.specs.Prelude.{◌≤◌, length, IfOk};
 
 use index::Index;
 use lines::prepare::{Arrays, Lent, State};
-use lines::words::{Call, Changing, Guarding, Looking, parted};
+use lines::words::{Call, WORDS, parted};
 use std::io;
 use std::io::Read;
 use text::Differs;
 
-// The calls that are counted, in the order in which they are printed.
-const COUNTED: [(&str, Call); 11] = [
-    ("make", Call::Change(Changing::Make)),
-    ("read", Call::Look(Looking::Read)),
-    ("vector", Call::Look(Looking::Vector)),
-    ("search", Call::Look(Looking::Search)),
-    ("words", Call::Look(Looking::Words)),
-    ("insert", Call::Change(Changing::Insert)),
-    ("delete", Call::Change(Changing::Delete)),
-    ("enable", Call::Guard(Guarding::Enable)),
-    ("status", Call::Guard(Guarding::Status)),
-    ("assess", Call::Guard(Guarding::Assess)),
-    ("guarded", Call::Guard(Guarding::Guarded)),
-];
-
-// How many calls of each kind agreed, how many lines there were, and how many differed.
+// How many lines with each word agreed, how many lines there were, and how many differed.
 #[derive(Clone, Copy)]
 struct Counts {
-    agreed: [u64; 11],
+    agreed: [u64; WORDS.len()],
     lines: u64,
     differences: u64,
 }
 
 impl Counts {
-    // Counts a call that agreed.
+    // Counts a line that agreed.
     fn agree(&mut self, call: Call) {
-        for (n, (_, counted)) in self.agreed.iter_mut().zip(&COUNTED) {
+        for (n, (_, counted)) in self.agreed.iter_mut().zip(&WORDS) {
             if *counted == call {
                 *n = n.wrapping_add(1);
             }
         }
     }
 
-    // Prints the counts.
+    // Prints the counts; what prepares a call has no answer that could differ.
     fn report(&self, rt: &impl Print) -> io::Result<()> {
-        for (n, (name, _)) in self.agreed.iter().zip(&COUNTED) {
-            println!(rt; "{name} {n}")?;
+        for (n, (word, call)) in self.agreed.iter().zip(&WORDS) {
+            if let Call::Prepare(_) = call {
+                continue;
+            }
+            println!(rt; "{word} {n}")?;
         }
         let lines = self.lines;
         let differences = self.differences;
@@ -124,7 +112,7 @@ fn replay(
     scratch: &mut [u32],
 ) -> io::Result<Counts> {
     let mut counts = Counts {
-        agreed: [0; 11],
+        agreed: [0; WORDS.len()],
         lines: 0,
         differences: 0,
     };
