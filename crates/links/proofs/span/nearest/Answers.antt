@@ -16,6 +16,3 @@ loop-i-preserved c =
       | then-dist_at w ↦ rw w.best-is (nearest_take _ _ c.loop-i.invariant c.dist_at.ensures c.dist_at-in-loop-i.ensures w.if-dist_at.true)
       | else-dist_at w ↦ rw w.best-is (nearest_keep _ _ c.loop-i.invariant c.dist_at.ensures c.dist_at-in-loop-i.ensures w.if-dist_at.false)
     ]
-
-pub returns : goal.returns
-returns c = nearest_done _ _ (omega arith) c.loop-i-test.false c.loop-i.invariant

@@ -5,9 +5,6 @@ use Prim.Native.Nat.{◌-◌}
 use lib.ListN.{length}
 use Rattle.links.proofs.span.Spanner.span.Goals as goal
 
-pub loop-i-init : goal.loop-i-init
-loop-i-init c = spanning_none _ _ _ _ _ _ c.requires.0
-
 pub offset_bounds-pairs-t : goal.offset_bounds-pairs-t
 offset_bounds-pairs-t c = omega (arith, (spanning_room c.loop-i.invariant c.requires.3 c.loop-i-test.true).0, c.requires.3, c.loop-i.auto.pairs)
 
