@@ -1,6 +1,6 @@
 -- The links of a whole plan, and of one plan after the other. Assumes nothing.
 use Prim.Native.Nat.{ℕ, zero, suc, ◌+◌, ◌-◌, ◌*◌, ◌/◌, ◌≤◌, ◌<◌}
-use mathlib.Core.Bool.{Bool, true, false, cond, not, ◌&&◌, ◌||◌}
+use mathlib.Core.Bool.{Bool, true, false, cond, not, ◌&&◌, and-true, or-true}
 use mathlib.Core.Path.{◌≡◌, refl, ap, ap₂, sym, ◌∙◌, subst}
 use mathlib.Core.List.{List, [], ◌∷◌, ◌++◌, map-id}
 use native.Mathlib.Nat.{zero-add}
@@ -75,11 +75,7 @@ plan_fewer f (a ∷ rest) i h s =
 -- of live slots `keep_valid` drops the source alone
 kept_other : (marks : List ℕ) (s x : ℕ) → is_valid marks x ≡ true → kept marks s x ≡ not (eqb x s)
 unfolding kept
-kept_other marks s x h = rw h (go (not (eqb x s)))
-  where
-    go : (b : Bool) → b && true ≡ b
-    go true = refl
-    go false = refl
+kept_other marks s x h = rw h (and-true (not (eqb x s)))
 
 pub filter_scored : (p : ℕ → Bool) (d : ℕ → ℕ) (xs : List ℕ) → filter (λ c. p c.id) (scored d xs) ≡ scored d (filter p xs)
 filter_scored p d [] = refl
@@ -115,10 +111,6 @@ pairs_sources P (q ∷ l) h = ((h.0, h.1.0), pairs_sources P l h.1.1)
 each_in : (l : List ℕ) → All (λ x. elem x l ≡ true) l
 each_in [] = tt
 each_in (x ∷ l) = (rw (eq-eqb x x refl), all_map (λ y. elem y l ≡ true) (λ y. elem y (x ∷ l) ≡ true) (λ y e. rw e (or-true (eqb y x))) l (each_in l))
-  where
-    or-true : (b : Bool) → b || true ≡ true
-    or-true true = refl
-    or-true false = refl
 
 -- a plan is asked for, of the list w
 pub record Asked (a : Arrays) (w : List ℕ) (entry : ℕ) : Type 0 where
