@@ -215,11 +215,14 @@ module _ {a : Arrays} {s entry beam : ℕ} {w : List ℕ} {at r : ℕ} (d : Coll
         P₁_long : length P₁ ≡ length (drop at w₁)
         P₁_long = written_length (drop at w₁) v (2 * r) (640 - 2 * r) room long
 
-        pub collect_few : r + k ≤ 320
+        collect_few : r + k ≤ 320
         collect_few = omega (arith, passed_few, pool_few, d.few, d.low)
 
-        pub collect_in : 2 * (r + k) ≤ length P₁
+        collect_in : 2 * (r + k) ≤ length P₁
         collect_in = omega (arith, collect_few, P₁_long, collect_bounds.2)
+
+        pub collect_fits : (r + k ≤ 320) × (2 * (r + k) ≤ length P₁)
+        collect_fits = (collect_few, collect_in)
 
         found_list : (alpha : Float) → ids (cands v 0 k) ≡ recovered_by (store_view (index_of alpha entry a)) beam s
         found_list alpha =

@@ -22,9 +22,6 @@ marked c =
     let list = list_part c.take_slots-at.new.scratch c.take_slots-at.result.from c.take_slots-at.result.count i.words in
     batch_marked c.requires t (rw list at c.clear.ensures) (rw list at c.new_entry-entry.ensures)
 
-pub repair_rows-requires-clause-together : goal.repair_rows-requires-clause-together
-repair_rows-requires-clause-together c = batch_together c.requires (marked_now (search rules) (marked (goal.at.repair_rows-requires-clause-together c).After-new_entry-entry))
-
 pub repair_rows-requires-clause-repairable : goal.repair_rows-requires-clause-repairable
 repair_rows-requires-clause-repairable c =
     let t = rw c.read-read.ensures at c.take_slots-at.ensures in

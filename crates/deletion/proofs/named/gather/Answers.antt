@@ -13,6 +13,3 @@ loop-id-preserved c =
       | then-is_valid w ↦ rw (w.list-is, w.n-is, w.put.ensures) (gathering_more c.loop-id.invariant (omega arith) (sym c.is_valid.ensures ∙ w.if-is_valid.true) c.requires)
       | else-is_valid w ↦ rw (w.list-is, w.n-is) (gathering_skip c.loop-id.invariant (omega arith) (sym c.is_valid.ensures ∙ w.if-is_valid.false))
     ]
-
-pub returns : goal.returns
-returns c = gathering_done c.loop-id.invariant (omega arith)

@@ -5,9 +5,6 @@ use Rattle.deletion.proofs.plans.make_plans.Goals as goal
 pub collect-c-requires : goal.collect-c-requires
 collect-c-requires c = making_collects c.loop-k.invariant c.requires (omega arith) c.id_at-s.ensures
 
-pub put_counts-requires : goal.put_counts-requires
-put_counts-requires c = (making_room c.loop-k.invariant c.requires (omega arith) c.id_at-s.ensures c.collect-c.ensures, omega (arith, c.collect-c.ensures.found), omega (arith, c.collect-c.ensures.plan.few), omega (arith, c.attempted-n.ensures.few))
-
 pub loop-k-preserved : goal.loop-k-preserved
 loop-k-preserved c = making_more c.loop-k.invariant c.requires (omega arith) c.id_at-s.ensures c.collect-c.ensures c.attempted-n.ensures c.put_counts.ensures
 
