@@ -3,9 +3,6 @@ use mathlib.Core.Path.{◌∙◌}
 use Rattle.prune.proofs.Selecting.{same_none, considered_over, considered_taken}
 use Rattle.prune.proofs.Selector.consider.Goals as goal
 
-pub returns-then-self-i : goal.returns-then-self-i
-returns-then-self-i g c = (considered_over _ _ _ _ _ _ _ _ c.if-self-i.true, same_none _)
-
 pub returns : goal.returns
 returns g c =
     let same = c.settle.ensures.2 in (
