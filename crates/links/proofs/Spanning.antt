@@ -300,26 +300,27 @@ pub record Spanning (dim : ℕ) (vectors : List ℕ) (repair_degree : ℕ) (c₀
       ≡ span_at dim vectors repair_degree (cands c₀ 0 1) (cands_of w₀) (length w₀ / 2)
   pub few : t ≤ 16 * i
   pub bound : i ≤ length w₀ / 2
+  pub most : length w₀ / 2 < 320
   pub pairs_long : length pairs ≡ 5120
   pub size : length w ≡ length w₀
 
 pub spanning_none : (dim : ℕ) (vectors : List ℕ) (repair_degree : ℕ) (c w : List ℕ) (pairs : List Pair) → Planned dim vectors (cands c 0 1) (cands_of w) → length pairs ≡ 5120 → Spanning dim vectors repair_degree c w c w pairs 0 0
 spanning_none dim vectors repair_degree c w pairs p l =
     let z : length w / 2 - 0 ≡ length w / 2 = omega arith in
-    record { planned = rw z p; goes = rw z; few = omega arith; bound = omega arith; pairs_long = l; size = refl }
+    record { planned = rw z p; goes = rw z; few = omega arith; bound = omega arith; most = omega (arith, p.few, cands_length c 0 1, cands_length w 0 (length w / 2)); pairs_long = l; size = refl }
 
 module _ {dim : ℕ} {vectors : List ℕ} {repair_degree : ℕ} {c₀ w₀ c w : List ℕ} {pairs : List Pair} {t i : ℕ} (f : Spanning dim vectors repair_degree c₀ w₀ c w pairs t i) where
   total : i + 1 + (length w₀ / 2 - i) ≤ 320
   total = omega (arith, f.planned.few, cands_length c 0 (i + 1), cands_length w 0 (length w₀ / 2 - i))
 
-  pub spanning_room : i < length w₀ / 2 → (t + 16 ≤ length pairs) × (2 * (length w₀ / 2 - i) ≤ length w)
-  spanning_room h = (omega (arith, f.few, f.pairs_long, total), omega (arith, f.size))
+  room : i < length w₀ / 2 → t + 16 ≤ length pairs
+  room h = omega (arith, f.few, f.pairs_long, f.most)
 
   part_is : cands_of (take (2 * (length w₀ / 2 - i)) w) ≡ cands w 0 (length w₀ / 2 - i)
   part_is = cands_front w (length w₀ / 2 - i) (omega (arith, f.size))
 
   pub spanning_asks : i < length w₀ / 2 → Planned dim vectors (cands c 0 (i + 1)) (cands_of (take (2 * (length w₀ / 2 - i)) w)) × (2 ≤ length (take (2 * (length w₀ / 2 - i)) w)) × (16 ≤ length (take (length pairs - t) (drop t pairs)))
-  spanning_asks h = (rw part_is f.planned, omega (arith, length-take-le (2 * (length w₀ / 2 - i)) w (omega (arith, f.size))), omega (arith, (spanning_room h).0, part_length pairs t (length pairs - t) (omega (arith, (spanning_room h).0))))
+  spanning_asks h = (rw part_is f.planned, omega (arith, length-take-le (2 * (length w₀ / 2 - i)) w (omega (arith, f.size))), omega (arith, room h, part_length pairs t (length pairs - t) (omega (arith, room h))))
 
   pub spanning_more : i < length w₀ / 2 → {c' : List ℕ} (v : List ℕ) {part : List Pair} {r : ℕ} → length v ≡ length (take (2 * (length w₀ / 2 - i)) w)
       → Connected dim vectors repair_degree (cands c 0 (i + 1)) (cands_of (take (2 * (length w₀ / 2 - i)) w)) (cands c' 0 (i + 1 + 1)) (cands v 0 (length (take (2 * (length w₀ / 2 - i)) w) / 2 - 1)) part r
@@ -327,7 +328,7 @@ module _ {dim : ℕ} {vectors : List ℕ} {repair_degree : ℕ} {c₀ w₀ c w :
       → Spanning dim vectors repair_degree c₀ w₀ c' (v ++ drop (2 * (length w₀ / 2 - i)) w) (put_mid t (length pairs - t) pairs part) (t + r) (i + 1)
   spanning_more h {c'} v {part} {r} m g o =
       let n = length w₀ / 2 in
-      let lp : length part ≡ length pairs - t = o ∙ part_length pairs t (length pairs - t) (omega (arith, (spanning_room h).0)) in
+      let lp : length part ≡ length pairs - t = o ∙ part_length pairs t (length pairs - t) (omega (arith, room h)) in
       let w' = v ++ drop (2 * (n - i)) w in
       let y : n - i ≡ suc (n - (i + 1)) = omega arith in
       let long : length (take (2 * (n - i)) w) ≡ 2 * (n - i) = length-take-le (2 * (n - i)) w (omega (arith, f.size)) in
@@ -349,7 +350,8 @@ module _ {dim : ℕ} {vectors : List ℕ} {repair_degree : ℕ} {c₀ w₀ c w :
             ∙ f.goes;
         few = omega (arith, next.more, f.few);
         bound = omega arith;
-        pairs_long = part_written pairs t part (omega (arith, (spanning_room h).0)) o ∙ f.pairs_long;
+        most = f.most;
+        pairs_long = part_written pairs t part (omega (arith, room h)) o ∙ f.pairs_long;
         size = written_length w v 0 (2 * (n - i)) (omega (arith, f.size)) (m ∙ long) ∙ f.size;
       }
 

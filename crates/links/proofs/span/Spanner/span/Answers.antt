@@ -1,16 +1,10 @@
 use native.Mathlib.Omega.{arith}
 use mathlib.Core.Path.{◌∙◌}
-use Rattle.links.proofs.Spanning.{spanning_asks, spanning_room, spanning_more, spanning_done}
+use Rattle.links.proofs.Spanning.{spanning_none, spanning_asks, spanning_more, spanning_done}
 use Rattle.links.proofs.span.Spanner.span.Goals as goal
 
-pub offset_bounds-pairs-t : goal.offset_bounds-pairs-t
-offset_bounds-pairs-t c = omega (arith, (spanning_room c.loop-i.invariant c.loop-i-test.true).0)
-
-pub slice_bounds-connect-count : goal.slice_bounds-connect-count
-slice_bounds-connect-count c = omega (arith, (spanning_room c.loop-i.invariant c.loop-i-test.true).0)
-
-pub slice_bounds-connect-start : goal.slice_bounds-connect-start
-slice_bounds-connect-start c = omega (arith, (spanning_room c.loop-i.invariant c.loop-i-test.true).0)
+pub loop-i-init : goal.loop-i-init
+loop-i-init c = spanning_none _ _ _ _ _ _ c.requires.0 c.requires.3
 
 pub connect-t-requires : goal.connect-t-requires
 connect-t-requires c =
