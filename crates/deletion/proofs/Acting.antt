@@ -103,12 +103,6 @@ pub record Finishing (a₀ : Arrays) (w : List ℕ) (a : Arrays) (k : ℕ) : Typ
   pub together : Together a
   pub marks_long : length a.marks ≡ length a₀.marks
 
-pub finishing_none : (a : Arrays) (w : List ℕ) → Together a → Finishing a w a 0
-finishing_none a w o =
-    let e : 2 * 0 ≡ 0 = omega arith in
-    let z : length w / 2 - 0 ≡ length w / 2 = omega arith in
-    record { goes = λ alpha entry. rw (e, z); together = o; marks_long = refl }
-
 module _ {a₀ : Arrays} {w : List ℕ} {a : Arrays} {k : ℕ} (f : Finishing a₀ w a k) where
   module _ (v : All (λ c. c.id < length a₀.marks) (cands_of w)) (h : k < length w / 2) {u : ℕ} (the_slot : u ≡ (cand w (2 * k)).id) where
     slot_in : (cand w (2 * k)).id < length a.marks

@@ -143,12 +143,6 @@ pub record Chunking (bytes slots : List ℕ) (i₀ i : Inserter) (rest left : Li
       ≡ foldl (insert_chunk store_ops i₀.how.beam) (index_in i₀) (chunks (length slots) 256 (chunk_of i₀.graph.now.dim bytes slots))
   pub same : SameInserter i₀ i
 
-pub chunking_none : (bytes slots : List ℕ) (i : Inserter) → Chunking bytes slots i i bytes slots
-chunking_none bytes slots i =
-    let e : length slots - 0 ≡ length slots = omega arith in
-    let z : 0 * i.graph.now.dim ≡ 0 = omega arith in
-    record { from = 0; bound = omega arith; rest_is = rw z; left_is = refl; goes = rw e; same = inserter_none i }
-
 module _ {i₀ : Inserter} {bytes slots : List ℕ} (o : Assigned i₀.graph.now.dim (length i₀.graph.now.marks.now) bytes slots) {i : Inserter} {rest left : List ℕ}
     (f : Chunking bytes slots i₀ i rest left) {x later : List ℕ} (n : NextPart left x later) where
   left_long : length left ≡ length slots - f.from
@@ -195,13 +189,6 @@ module _ {i₀ : Inserter} {bytes slots : List ℕ} (o : Assigned i₀.graph.now
               ∙ f.goes;
           same = inserter_then f.same r.same;
         }
-
-pub chunking_done : {bytes slots : List ℕ} {i₀ i : Inserter} {rest left : List ℕ} → Chunking bytes slots i₀ i rest left → length left ≡ 0
-    → Inserted i₀ (foldl (insert_chunk store_ops i₀.how.beam) (index_in i₀) (chunks (length slots) 256 (chunk_of i₀.graph.now.dim bytes slots))) i
-chunking_done {slots = slots} f h =
-    let l = simp length-drop at (rw f.left_is at h) in
-    let z : length slots - f.from ≡ 0 = omega arith in
-    record { index = rw z at f.goes; same = f.same }
 
 -- ---- the slots of a batch
 abbrev free_of : List ℕ → List ℕ

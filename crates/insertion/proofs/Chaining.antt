@@ -268,10 +268,6 @@ pub record Taking (w₀ : List ℕ) (at : Layout) (n t m : ℕ) (w : List ℕ) (
   pub size : length w ≡ length w₀
   pub same : Outside (at.list + 2 * m) (2 * n) w₀ w
 
-pub taking_none : {w : List ℕ} {at : Layout} {n t m : ℕ} → Takeable w at n t m → Taking w at n t m w m (get_or w (marks_at + t) 0)
-taking_none {w} {at} {n} {t} {m} q =
-    record { from = 0; rest = at_slot w at t 0 n; chain = q.chain; goes = refl; first = omega arith; few = omega arith; size = refl; same = outside_none (at.list + 2 * m) (2 * n) w }
-
 module _ {w₀ : List ℕ} {at : Layout} {n t m : ℕ} {w : List ℕ} {r k : ℕ} (q : Takeable w₀ at n t m) (f : Taking w₀ at n t m w r k) where
   pub taking_done : n ≤ k → Took w₀ at n t m r w
   taking_done h =

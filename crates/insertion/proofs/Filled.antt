@@ -112,11 +112,6 @@ pub record FilledUpTo (bytes slots : List ℕ) (i₀ i : Inserter) (k : ℕ) : T
   pub bound : k ≤ length slots
   pub same : SameInserter i₀ i
 
-pub filled_none : (bytes slots : List ℕ) (i : Inserter) → FilledUpTo bytes slots i i 0
-filled_none bytes slots i =
-    let e : length slots - 0 ≡ length slots = omega arith in
-    record { goes = rw e; bound = omega arith; same = inserter_none i }
-
 module _ {i₀ : Inserter} {bytes slots : List ℕ} (o : Fillable i₀.graph.now.dim (length i₀.graph.now.marks.now) bytes slots) {i : Inserter} {k : ℕ}
     (f : FilledUpTo bytes slots i₀ i k) (h : k < length slots) where
   pub fill_vector : k * i₀.graph.now.dim + i₀.graph.now.dim ≤ length bytes

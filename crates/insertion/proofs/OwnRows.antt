@@ -78,11 +78,6 @@ pub record OutgoingUpTo (slots w₀ : List ℕ) (at : Layout) (n : ℕ) (p₀ p 
   pub same : SamePruner p₀ p
   pub words : Below at.chosen w₀ w
 
-pub outgoing_none : (slots w : List ℕ) (at : Layout) (n : ℕ) (p : Pruner 0) → OutgoingUpTo slots w at n p p w 0 0
-outgoing_none slots w at n p =
-    let e : length slots - 0 ≡ length slots = omega arith in
-    record { goes = λ entry. rw e; from = refl; bound = omega arith; same = pruner_none p; words = below_none at.chosen w }
-
 module _ {slots w₀ : List ℕ} {at : Layout} {n : ℕ} {p₀ : Pruner 0} (o : OutgoingRows p₀.rows.now.degree (length p₀.marks.now) slots w₀ at n) {p : Pruner 0} {w : List ℕ} {b i : ℕ}
     (f : OutgoingUpTo slots w₀ at n p₀ p w b i) (h : i < length slots) where
   pub outgoing_end : at.ends + i < length w
@@ -136,7 +131,3 @@ module _ {slots w₀ : List ℕ} {at : Layout} {n : ℕ} {p₀ : Pruner 0} (o : 
             same = pruner_then f.same (g 0).same;
             words = below_then f.words k;
           }
-
-pub outgoing_done : {slots w₀ : List ℕ} {at : Layout} {n : ℕ} {p₀ p : Pruner 0} {w : List ℕ} {b i : ℕ} → OutgoingUpTo slots w₀ at n p₀ p w b i → length slots ≤ i
-    → ((entry : ℕ) → Written entry p₀ (foldl (own_at w₀ at n slots) (index_by entry p₀) (range 0 (length slots))) p) × Below at.chosen w₀ w
-outgoing_done {slots = slots} {i = i} f h = let z : length slots - i ≡ 0 = omega arith in (λ entry. record { index = rw z at f.goes entry; same = f.same }, f.words)

@@ -237,10 +237,6 @@ laid_agree {at = at} {m} {n} {w} {w'} g f =
     }
 
 -- ---- one plan after the other
-pub laid_none : (degree capacity : ℕ) (plans : ℕ → Plan) (w : List ℕ) (at : Layout) → AllPlanned degree capacity plans w at 0 0 w
-laid_none degree capacity plans w at =
-    record { laid = record { last = refl; few = omega arith; each = λ k h. absurd (omega arith); within = λ k h. absurd (omega arith) }; size = refl }
-
 module _ (p : Planner) {w₀ w : List ℕ} {i n : ℕ} (t : Enough p.graph.rows.degree (length p.graph.rows.marks.now) w₀)
     (f : AllPlanned p.graph.rows.degree (length p.graph.rows.marks.now) (plan_by p) w₀ p.at i n w) (h : i < length p.slots.now) where
   pub next_asks : (i < length p.slots.now) × (n ≤ i * p.graph.rows.degree) × Enough p.graph.rows.degree (length p.graph.rows.marks.now) w
@@ -301,7 +297,3 @@ module _ (p : Planner) {w₀ w : List ℕ} {i n : ℕ} (t : Enough p.graph.rows.
               };
           size = g.size ∙ f.size;
         }
-
-pub laid_done : {degree capacity : ℕ} {plans : ℕ → Plan} {w : List ℕ} {at : Layout} {i n : ℕ} {w' : List ℕ} (m : ℕ) → i ≤ m → m ≤ i
-    → AllPlanned degree capacity plans w at i n w' → AllPlanned degree capacity plans w at m n w'
-laid_done {i = i} m h k f = let z : i ≡ m = omega arith in rw z at f

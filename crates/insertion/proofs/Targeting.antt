@@ -170,11 +170,6 @@ pub record Sweeping (w₀ : List ℕ) (at : Layout) (n : ℕ) (p₀ p : Pruner 0
   pub same : SamePruner p₀ p
   pub words : Below at.list w₀ w
 
-pub sweeping_none : (w : List ℕ) (at : Layout) (n : ℕ) (p : Pruner 0) → Sweeping w at n p p w 0
-sweeping_none w at n p =
-    let e : length p.marks.now - 0 ≡ length p.marks.now = omega arith in
-    record { goes = λ entry. rw e; same = pruner_none p; words = below_none at.list w }
-
 module _ {w₀ : List ℕ} {at : Layout} {n : ℕ} {p₀ : Pruner 0} (q : Renewable p₀.rows.now.degree (length p₀.marks.now) w₀ at n) {p : Pruner 0} {w : List ℕ} {s : ℕ} (f : Sweeping w₀ at n p₀ p w s) where
   module _ (h : s < length p₀.marks.now) where
     pub sweep_asks : (s < length p.marks.now) × Renewable p.rows.now.degree (length p.marks.now) w at n
@@ -191,7 +186,3 @@ module _ {w₀ : List ℕ} {at : Layout} {n : ℕ} {p₀ : Pruner 0} (q : Renewa
           same = pruner_then f.same (g 0).same;
           words = below_then f.words k;
         }
-
-pub sweeping_done : {w₀ : List ℕ} {at : Layout} {n : ℕ} {p₀ p : Pruner 0} {w : List ℕ} {s : ℕ} → Sweeping w₀ at n p₀ p w s → length p₀.marks.now ≤ s
-    → (entry : ℕ) → Written entry p₀ (foldl (renewed_at w₀ at n) (index_by entry p₀) (range 0 (length p₀.marks.now))) p
-sweeping_done {p₀ = p₀} {s = s} f h entry = let z : length p₀.marks.now - s ≡ 0 = omega arith in record { index = rw z at f.goes entry; same = f.same }
