@@ -1,7 +1,6 @@
 -- All factors are 0.
-use Rattle.std.proofs.Common.{rules}
 use Rattle.std.proofs.lemmas.List.{take-replicate}
-use Rattle.prune.proofs.Scored.{given_for, picked}
+use Rattle.prune.proofs.Scored.{picked}
 use Rattle.prune.proofs.pick.Goals as goal
 
 pub returns : goal.returns

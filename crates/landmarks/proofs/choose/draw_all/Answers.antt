@@ -2,7 +2,7 @@ use Rattle.vectors.specs.Space.{slot_distance}
 use Rattle.vectors.specs.Lent.{space_of}
 use Rattle.lists.proofs.Places.{all_at}
 use Rattle.vectors.specs.Lent.{HasVector}
-use Rattle.landmarks.proofs.Drawing.{part_listed, part_drew, drawing_first, drawing_next, drawn_done}
+use Rattle.landmarks.proofs.Drawing.{part_listed, part_drew, drawing_first, drawing_next}
 use Rattle.landmarks.proofs.choose.draw_all.Goals as goal
 
 pub loop-id-init : goal.loop-id-init

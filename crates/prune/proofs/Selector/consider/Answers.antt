@@ -1,6 +1,6 @@
 -- Either nothing changes, or the candidate is taken and written behind those taken before.
 use mathlib.Core.Path.{◌∙◌}
-use Rattle.prune.proofs.Selecting.{same_none, considered_over, considered_taken}
+use Rattle.prune.proofs.Selecting.{considered_taken}
 use Rattle.prune.proofs.Selector.consider.Goals as goal
 
 pub returns : goal.returns

@@ -1,6 +1,6 @@
-use Rattle.std.proofs.Common.{refl, ◌∙◌, rules}
+use Rattle.std.proofs.Common.{refl, ◌∙◌}
 use Rattle.candidates.specs.Quotient.{largest}
-use Rattle.prune.proofs.Settling.{raising_more, raising_done, given_small, given_stored, given_numbered}
+use Rattle.prune.proofs.Settling.{raising_more, raising_done}
 use Rattle.prune.proofs.Selector.settle.Goals as goal
 
 pub loop-j-preserved : goal.loop-j-preserved
