@@ -150,17 +150,6 @@ settled x s t e = rw (t, e) (rw (x.degree, x.versions) at s)
 
 module _ {a : Arrays} {how : Repair} {w : List ℕ} {at : Layout} {w₁ : List ℕ}
     (o : Together a) (f : Repairable a how w at) (m : PlansMade a how w at w₁) where
-  pub made_plans : Plans a.marks w₁ at.stats at.plans at.count at.base
-  made_plans =
-      record {
-        counted = omega (arith, f.placed, f.makes.table.second);
-        placed = f.placed;
-        each = λ j h. (m.each j h).plan;
-      }
-
-  pub made_area : Area a.degree w₁ at.base
-  made_area = record { inside = omega (arith, f.area.inside, m.size); below = f.area.below }
-
   module _ {a₁ : Arrays} {w₂ : List ℕ} (s : Applied how.alpha a (plans_at (between a.dim a.vectors) how.degree how.entry w₁ at.stats at.plans at.count) a₁ w₁ at.base (plan_words a.degree) w₂) where
     slots_stay : cands w₂ at.from at.count ≡ cands w at.from at.count
     slots_stay =

@@ -157,20 +157,7 @@ unfolding store_view
 live_view b = refl
 
 module _ {a : Arrays} {s entry beam : ℕ} {w : List ℕ} {at r : ℕ} (d : Collectable a s entry beam w at r) where
-  -- the vector can be lent
-  pub collect_vector : Bytes a.dim (length a.marks) a.vectors → s * a.dim + a.dim ≤ length a.vectors
-  collect_vector o = fits_in a.dim (length a.marks) s (length a.vectors) d.slot_in o.long
-
   module _ {query : List ℕ} (is_query : query ≡ part a.dim s a.vectors) where
-    pub collect_ready : Bytes a.dim (length a.marks) a.vectors → Ready a query entry beam w
-    collect_ready o =
-        record {
-          query_long = rw is_query (simp (length-take, length-drop) (omega (arith, collect_vector o)));
-          start_inside = d.entry_in;
-          beam_most = omega (arith, d.beam_most);
-          room = omega (arith, d.behind, d.inside);
-        }
-
     module _ {w₁ : List ℕ} {n : ℕ} (f : Pool a query entry beam w w₁ n) where
       pool_few : n ≤ 256
       pool_few = omega (arith, f.few, d.beam_most)

@@ -27,7 +27,7 @@ use Rattle.insertion.specs.declared.inserter.Inserter.{Inserter}
 use Rattle.insertion.specs.Inner.Filling.{filling_at, fillings_from, chunk_of, Fillable}
 use Rattle.insertion.specs.Inner.Chunk.{Assigned}
 use Rattle.insertion.specs.Inner.Inserting.{index_in, SameInserter, Inserted}
-use Rattle.insertion.proofs.Same.{inserter_none, inserter_then, inserter_marks}
+use Rattle.insertion.proofs.Same.{inserter_then, inserter_marks}
 
 -- insert's share of the size answer is enough
 pub insert_enough : (capacity degree : ℕ) → degree ≤ 64 → work_at capacity + insert_words degree ≤ size_answer capacity
@@ -59,14 +59,6 @@ module _ {dim capacity : ℕ} {bytes slots : List ℕ} (o : Assigned dim capacit
 
   long : length slots_part ≡ k
   long = length-take-le k (drop from slots) (simp length-drop (omega arith))
-
-  part_fillable : k ≤ 256 → Fillable dim capacity bytes_part slots_part
-  part_fillable f =
-      record {
-        long = length-take-le (k * dim) (drop (from * dim) bytes) part_fits ∙ rw long;
-        few = rw long f;
-        inside = λ i h. let l : i < k = rw long at h in rw (slot_part from k i slots l) (o.inside (from + i) (omega arith));
-      }
 
   chunk_is : chunk_of dim bytes_part slots_part ≡ fillings_from dim bytes slots from k
   unfolding fillings_from
@@ -164,13 +156,6 @@ module _ {i₀ : Inserter} {bytes slots : List ℕ} (o : Assigned i₀.graph.now
     now_is : now ≡ take (length x * i₀.graph.now.dim) (drop (f.from * i₀.graph.now.dim) bytes)
     now_is = c ∙ rw (f.same.slices.dim, f.rest_is)
 
-    pub chunk_fillable : Fillable i.graph.now.dim (length i.graph.now.marks.now) now x
-    chunk_fillable =
-        let y : Fillable i₀.graph.now.dim (length i₀.graph.now.marks.now) (take (length x * i₀.graph.now.dim) (drop (f.from * i₀.graph.now.dim) bytes)) (take (length x) (drop f.from slots)) = part_fillable o f.from (length x) within (omega (arith, n.long)) in
-        let z : Fillable i₀.graph.now.dim (length i₀.graph.now.marks.now) now x =
-        subst (λ (l : List ℕ). Fillable i₀.graph.now.dim (length i₀.graph.now.marks.now) l x) (sym now_is) (subst (Fillable i₀.graph.now.dim (length i₀.graph.now.marks.now) (take (length x * i₀.graph.now.dim) (drop (f.from * i₀.graph.now.dim) bytes))) (sym x_is) y) in
-        rw (f.same.slices.dim, inserter_marks f.same) z
-
     pub chunking_more : {i' : Inserter} → Inserted i (insert_chunk store_ops i.how.beam (index_in i) (chunk_of i.graph.now.dim now x)) i' → Chunking bytes slots i₀ i' after later
     chunking_more r =
         let z : f.from * i₀.graph.now.dim + length x * i₀.graph.now.dim ≡ (f.from + length x) * i₀.graph.now.dim = sym (add-mul f.from (length x) i₀.graph.now.dim) in
@@ -213,9 +198,6 @@ front_at l slots count i k h =
 module _ {a : Arrays} {alpha : Float} {entry beam : ℕ} {bytes slots scratch : List ℕ} (o : Insertable a alpha entry beam bytes slots scratch) {count : ℕ} (q : count ≡ length bytes / a.dim) where
   enough_free : count ≤ length (free_of a.marks)
   enough_free = rw (q, ← free_is alpha entry a) o.free_in
-
-  pub batch_room : (count ≤ length slots) × (length a.marks ≤ 65536)
-  batch_room = (rw q o.room_in, o.together.rows.few)
 
   module _ {slots₁ : List ℕ} (e : slots₁ ≡ put_front (take count (free_of a.marks)) slots) where
     -- the numbers of the slots that are filled

@@ -226,12 +226,6 @@ module _ {w₀ : List ℕ} {at : Layout} {n capacity : ℕ} {w : List ℕ} {k : 
       pub link_turn : Linking w₀ at n capacity (set (set w (at.nexts + j) (get_or w (marks_at + h) 0)) (marks_at + h) (k - 1)) (k - 1)
       link_turn = let z : k - 1 ≡ j = sym e in rw z (linking_more m j e h slot_read)
 
-  pub linking_done : k ≤ 0 → Chained w₀ at n capacity w
-  linking_done h =
-      let z : k ≡ 0 = omega arith in
-      let y : n - 0 ≡ n = omega arith in
-      record { chains = λ t l. rw (z, y) at (f.chains t l); size = f.size; same = f.same }
-
 pub chain_fits : {w : List ℕ} {at : Layout} {n capacity : ℕ} → Chainable w at n capacity → marks_at + capacity ≤ length w
 chain_fits o = omega (arith, o.heads_in, o.spread.plans_in, o.spread.sources_in, o.spread.nexts_in, o.room)
 

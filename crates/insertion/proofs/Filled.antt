@@ -19,7 +19,7 @@ use Rattle.insert.specs.Insert.{fill_all}
 use Rattle.insertion.specs.declared.inserter.Inserter.{Inserter}
 use Rattle.insertion.specs.Inner.Filling.{fillings_from, chunk_of, Fillable}
 use Rattle.insertion.specs.Inner.Inserting.{held, index_in, SameInserter, Inserted}
-use Rattle.insertion.proofs.Same.{AsLong, together_as, long_filled, inserter_none, inserter_then, inserter_marks}
+use Rattle.insertion.proofs.Same.{AsLong, together_as, long_filled, inserter_then, inserter_marks}
 
 -- ---- free slots
 abbrev free : List ℕ → ℕ → Bool
@@ -72,9 +72,6 @@ module _ {marks slots₀ : List ℕ} {count : ℕ} {slots : List ℕ} {n s : ℕ
       let c : length (take n slots) ≡ n = length-take-le n slots (omega (arith, f.most, f.size)) in
       rw (← e, c, ← f.rest) (sym (take-append-drop n slots))
 
-  pub gathering_full : n ≡ count → slots ≡ put_front (take count (filter (free marks) (range 0 (length marks)))) slots₀
-  gathering_full h = let z : count - n ≡ 0 = omega arith in ends (rw (z, append-nil) at f.goes)
-
   pub gathering_done : length marks ≤ s → slots ≡ put_front (take count (filter (free marks) (range 0 (length marks)))) slots₀
   gathering_done h =
       let z : length marks - s ≡ 0 = omega arith in
@@ -102,9 +99,6 @@ module _ (i : Inserter) {s : ℕ} {v : List ℕ} (h : s < length i.graph.now.mar
     pub slot_together : Together (arrays i.graph.now.dim i.graph.now.degree vectors targets edges i.graph.now.versions.now marks)
     slot_together = together_as slot_long i.together
 
-    pub slot_filled : index_of i.how.alpha i.how.entry (arrays i.graph.now.dim i.graph.now.degree vectors targets edges i.graph.now.versions.now marks) ≡ store_ops.fill (index_in i) s v
-    slot_filled = index_with i.how.alpha i.how.entry (held i) (arrays i.graph.now.dim i.graph.now.degree vectors targets edges i.graph.now.versions.now marks) slot_long.marks ∙ g.does.does (index_in i) refl h
-
 -- ---- all slots of a chunk
 pub record FilledUpTo (bytes slots : List ℕ) (i₀ i : Inserter) (k : ℕ) : Type 0 where
   pub goes : fill_all store_ops (index_in i) (fillings_from i₀.graph.now.dim bytes slots k (length slots - k))
@@ -114,13 +108,7 @@ pub record FilledUpTo (bytes slots : List ℕ) (i₀ i : Inserter) (k : ℕ) : T
 
 module _ {i₀ : Inserter} {bytes slots : List ℕ} (o : Fillable i₀.graph.now.dim (length i₀.graph.now.marks.now) bytes slots) {i : Inserter} {k : ℕ}
     (f : FilledUpTo bytes slots i₀ i k) (h : k < length slots) where
-  pub fill_vector : k * i₀.graph.now.dim + i₀.graph.now.dim ≤ length bytes
-  fill_vector = fits_in i₀.graph.now.dim (length slots) k (length bytes) h o.long
-
   module _ {s : ℕ} (e : s ≡ get_or slots k 0) {v : List ℕ} (q : v ≡ part i₀.graph.now.dim k bytes) where
-    pub fill_fits : (s < length i.graph.now.marks.now) × (length v ≡ i.graph.now.dim)
-    fill_fits = (rw (e, inserter_marks f.same) (o.inside k h), rw (q, f.same.slices.dim) (length_part i₀.graph.now.dim k bytes fill_vector))
-
     pub filled_more : {i' : Inserter} → Inserted i (store_ops.fill (index_in i) s v) i' → FilledUpTo bytes slots i₀ i' (k + 1)
     unfolding fillings_from
     filled_more g =

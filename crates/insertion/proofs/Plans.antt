@@ -73,18 +73,6 @@ chose {degree} {alpha} {live} {d} {source} {r} w k to v u h l m o f =
 
 -- ---- one plan, of the slot at i, behind n candidates of the plans before
 module _ (p : Planner) {i n : ℕ} (w : List ℕ) (h : i < length p.slots.now) (few : n ≤ i * p.graph.rows.degree) (enough : Enough p.graph.rows.degree (length p.graph.rows.marks.now) w) where
-  pub next_vector : i * p.graph.space.dim + p.graph.space.dim ≤ length p.bytes.now
-  next_vector = fits_in p.graph.space.dim (length p.slots.now) i (length p.bytes.now) h p.fillable.long
-
-  pub next_ready : {width : ℕ} → width ≡ max p.how.beam p.graph.rows.degree → {query : List ℕ} → query ≡ part p.graph.space.dim i p.bytes.now → Walk.Ready (graph_of p.graph) query p.how.entry width w
-  next_ready e q =
-      record {
-        query_long = rw q (length_part p.graph.space.dim i p.bytes.now next_vector);
-        start_inside = p.entry_in;
-        beam_most = omega (arith, p.beam_most, p.degree_most);
-        room = omega (arith, enough);
-      }
-
   next_spread : Spread (n + p.graph.rows.degree) p.at
   next_spread =
       let r : i * p.graph.rows.degree + p.graph.rows.degree ≤ 256 * p.graph.rows.degree = before_next p.graph.rows.degree i 256 (omega (arith, p.fillable.few)) in
@@ -119,9 +107,6 @@ module _ (p : Planner) {i n : ℕ} (w : List ℕ) (h : i < length p.slots.now) (
     to_in =
         let s = next_spread in
         (omega (arith, found, p.parts.heads_in), omega (arith, f.size, s.plans_in, s.sources_in, s.nexts_in, s.ends_in, room))
-
-    pub plan_bounds : (p.at.plans + 2 * n ≤ length w₁) × (2 * k ≤ length (take (p.at.plans + 2 * n) w₁)) × (2 * p.graph.rows.degree ≤ length (drop (p.at.plans + 2 * n) w₁))
-    plan_bounds = let t = to_in in (omega arith, omega (arith, length-take-le (p.at.plans + 2 * n) w₁ (omega arith)), omega (arith, length-drop (p.at.plans + 2 * n) w₁))
 
     pub plan_ready : Ready p.graph.space.dim p.graph.space.vectors.now p.graph.rows.marks.now (take (2 * k) (take (p.at.plans + 2 * n) w₁))
     plan_ready =

@@ -56,9 +56,6 @@ long_filled a s v x l h f =
     shapes_long (together_shaped x) (rw (filled_arrays f) g) refl refl
 
 -- ---- an inserter
-pub inserter_none : (i : Inserter) → SameInserter i i
-inserter_none i = record { graph = refl; slices = record { dim = refl; degree = refl; vectors = refl; targets = refl; edges = refl; versions = refl; marks = refl }; how = refl }
-
 pub inserter_then : {i i' i'' : Inserter} → SameInserter i i' → SameInserter i' i'' → SameInserter i i''
 inserter_then f g =
     let s = f.slices in

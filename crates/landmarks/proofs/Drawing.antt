@@ -136,17 +136,6 @@ module _ {space : Space} {d : ℕ → ℕ → ℕ} {l : List ℕ} {w₀ : List �
         size = g.size ∙ f.size;
       }
 
-  pub drawn_done : (entry : ℕ) {w₁ : List ℕ} {n₁ : ℕ} → Drew w₁ n₁ (drawn d entry (cands w₁ 0 n₁)) w₀ n → length l ≤ i
-      → Drew w₁ n₁ (drawn_all d (entry ∷ l) (cands w₁ 0 n₁)) w m
-  drawn_done entry g h =
-      let e : cands w 0 m ≡ drawn_all d l (cands w₀ 0 n) = rw (drop_all i l h) at f.goes in
-      record {
-        list = e ∙ ap (drawn_all d l) g.list;
-        within = omega (arith, f.within, g.within);
-        near = f.near;
-        size = f.size ∙ g.size;
-      }
-
 -- ---- a sample that is drawn to some references has its least distances to them
 pub drawn_scored : (d : ℕ → ℕ → ℕ) (near : ℕ → ℕ) (next : ℕ) (xs : List ℕ)
     → drawn d next (scored near xs) ≡ scored (λ s. min (near s) (d s next)) (filter (λ y. not (eqb y next)) xs)

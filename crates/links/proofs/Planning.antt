@@ -286,9 +286,6 @@ module _ {table : ℕ} {l l₁ : Pruner table} {w : List ℕ} (repair_degree ent
   list_is : cands_of list ≡ cands w at (count_at w stats j)
   list_is = whole_part w at (at + 2 * count_at w stats j - at) (count_at w stats j) (omega (arith, bounds)) (omega arith)
 
-  pub plans_bounds : (stats + 4 * j + 2 < length w) × (plans + 640 * j + 2 * count_at w stats j ≤ length w)
-  plans_bounds = (omega (arith, b.counted), bounds)
-
   pub plans_next : Plan l₁.marks.now (take (plans + 640 * j + 2 * count_at w stats j - (plans + 640 * j)) (drop (plans + 640 * j) w)) 0
       (length (take (plans + 640 * j + 2 * count_at w stats j - (plans + 640 * j)) (drop (plans + 640 * j) w)) / 2) × (length (take (plans + 640 * j + 2 * count_at w stats j - (plans + 640 * j)) (drop (plans + 640 * j) w)) ≤ 640)
   plans_next = (

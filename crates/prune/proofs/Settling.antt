@@ -36,9 +36,6 @@ module _ (alpha : Float) (d : ℕ → ℕ → ℕ) (w : List ℕ) (n : ℕ) (x :
     pub size : length factors ≡ n
     pub goes : foldl (raise 0 alpha d (cands w 0 n) x) factors (range j (n - j)) ≡ foldl (raise 0 alpha d (cands w 0 n) x) factors₀ (range j₀ (n - j₀))
 
-  pub raising_none : (factors : List Float) (j : ℕ) → length factors ≡ n → Raising factors j factors j
-  raising_none factors j e = record { size = e; goes = refl }
-
   one : (factors : List Float) (j : ℕ) → j < n → length factors ≡ n
       → raise 0 alpha d (cands w 0 n) x factors j
       ≡ set factors j (raised_factor alpha (cand w (2 * j)).dist (d (cand w (2 * j)).id x.id) (get_or factors j nan))
@@ -66,14 +63,3 @@ unfolding settled
 raising_done {alpha} {d} {w} {n} {i} factors₀ {factors} {j} h l f =
     let k : n - j ≡ 0 = omega arith in
     rw (front_at w n i h, cands_length w 0 n, ← add-one i) (rw k at f.goes)
-
--- ---- what the candidates are asked
-module _ {space : Space} {w : List ℕ} {n : ℕ} (g : Given space w n) {k : ℕ} (h : k < n) where
-  pub given_small : {own : ℕ} → own ≡ (cand w (2 * k)).dist → own ≤ 16777216
-  given_small e = rw e (g.small k h)
-
-  pub given_stored : {s : ℕ} → s ≡ (cand w (2 * k)).id → HasVector space s
-  given_stored e = rw e (g.stored k h)
-
-  pub given_numbered : {s : ℕ} → s ≡ (cand w (2 * k)).id → s < 65536
-  given_numbered e = rw e (g.numbered k h)

@@ -1,6 +1,6 @@
 use Rattle.std.proofs.Common.{rules}
 use mathlib.Core.Path.{refl}
-use Rattle.deletion.proofs.Acting.{settled, made_plans, made_area, repaired_finish, repaired}
+use Rattle.deletion.proofs.Acting.{settled, repaired_finish, repaired}
 use Rattle.deletion.proofs.acts.repair_rows.Goals as goal
 
 pub finish_all-requires : goal.finish_all-requires

@@ -1,4 +1,4 @@
-use Rattle.deletion.proofs.Naming.{clearing_none, clearing_inside, clearing_more, clearing_done}
+use Rattle.deletion.proofs.Naming.{clearing_inside, clearing_more, clearing_done}
 use Rattle.deletion.proofs.named.clear.Goals as goal
 
 pub kill-requires : goal.kill-requires

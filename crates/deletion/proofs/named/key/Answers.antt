@@ -1,5 +1,5 @@
 use native.Mathlib.Omega.{arith}
-use Rattle.deletion.proofs.Naming.{keying_none, keying_more, keying_done}
+use Rattle.deletion.proofs.Naming.{keying_none, keying_more}
 use Rattle.deletion.proofs.named.key.Goals as goal
 
 pub loop-k-init : goal.loop-k-init

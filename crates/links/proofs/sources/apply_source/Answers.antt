@@ -1,4 +1,4 @@
-use Rattle.links.proofs.Linking.{linked_none, pair_inside, source_then, linked_words, linked_marks}
+use Rattle.links.proofs.Linking.{linked_none, source_then, linked_marks}
 use native.Mathlib.Omega.{arith}
 use Rattle.links.proofs.sources.apply_source.Goals as goal
 

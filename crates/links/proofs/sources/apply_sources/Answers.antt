@@ -1,5 +1,5 @@
 use native.Mathlib.Omega.{arith}
-use Rattle.links.proofs.Linking.{each_none, each_then, each_done, linked_words, linked_marks}
+use Rattle.links.proofs.Linking.{each_none, each_then, linked_marks}
 use Rattle.links.proofs.sources.apply_sources.Goals as goal
 
 pub loop-i-init : goal.loop-i-init

@@ -1,4 +1,4 @@
-use Rattle.links.proofs.Scoring.{lowering_none, stored_ready, lowering_id, lowering_more, lowering_done}
+use Rattle.links.proofs.Scoring.{lowering_none, stored_ready, lowering_id, lowering_more}
 use Rattle.links.proofs.span.lower.Goals as goal
 
 pub loop-k-init : goal.loop-k-init

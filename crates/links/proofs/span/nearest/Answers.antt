@@ -1,6 +1,6 @@
 use native.Mathlib.Omega.{arith}
 use Rattle.candidates.proofs.Words.{cands_length}
-use Rattle.links.proofs.Scoring.{nearest_first, nearest_take, nearest_keep, nearest_done}
+use Rattle.links.proofs.Scoring.{nearest_first, nearest_take, nearest_keep}
 use Rattle.links.proofs.span.nearest.Goals as goal
 use Rattle.links.proofs.span.nearest.Goals.{then-dist_at, else-dist_at}
 

@@ -1,6 +1,6 @@
 use mathlib.Core.Path.{◌∙◌}
 use native.Mathlib.Omega.{arith}
-use Rattle.links.proofs.Scoring.{scored_none, stored_ready, scored_more, scored_done}
+use Rattle.links.proofs.Scoring.{scored_none, stored_ready, scored_more}
 use Rattle.links.proofs.span.score.Goals as goal
 
 pub loop-k-init : goal.loop-k-init
