@@ -25,7 +25,7 @@ use Rattle.row.specs.Row.{Together, index_of}
 use Rattle.repair.specs.Repair.{Link}
 use Rattle.links.specs.Inner.Linking.{between, Applied}
 use Rattle.links.proofs.Linking.{applied_together}
-use Rattle.links.specs.Inner.Planning.{plan_words, Area, Plans, plans_at}
+use Rattle.links.specs.Inner.Planning.{plan_words, plans_at}
 use Rattle.deletion.specs.declared.layout.Layout.{Layout}
 use Rattle.deletion.specs.declared.plans.Repair.{Repair}
 use Rattle.deletion.specs.Inner.Layout.{layout_of}

@@ -7,14 +7,12 @@ use native.Mathlib.Omega.{arith}
 use borrow.Author.Tests.{eqb-true}
 use lib.Dec.{eqb, ltb}
 use lib.Ieee.{Float}
-use lib.ListN.{length, take, drop, get_or, length-take, length-drop}
+use lib.ListN.{length, take, drop, get_or, length-drop}
 use Rattle.lists.specs.Lists.{All, filter, elem, sort_by, sorted_set, part}
 use Rattle.lists.proofs.All.{all_map, filter_test}
 use Rattle.lists.proofs.Firsts.{filter_same}
-use Rattle.lists.proofs.Parts.{fits_in}
 use Rattle.lists.proofs.Unique.{Unique, unique_filter, unique_distinct}
 use Rattle.vectors.specs.Distance.{f32}
-use Rattle.vectors.specs.Vector.{Bytes}
 use Rattle.candidates.specs.Candidates.{Candidate, ids}
 use Rattle.candidates.specs.Inner.Words.{cand, cands, cands_of, put, kept, Remain}
 use Rattle.candidates.proofs.Parts.{part_length, cands_front, cands_written, written_length, outside_written}
@@ -28,7 +26,7 @@ use Rattle.slots.specs.Store.{Arrays, Store, is_valid, vector_of, store_view}
 use Rattle.slots.specs.Inner.Rows.{RowShape}
 use Rattle.slots.proofs.Places.{live_inside, shape_fits}
 use Rattle.walk.specs.Walk.{search_pool}
-use Rattle.walk.specs.Inner.Scratch.{Ready, Pool}
+use Rattle.walk.specs.Inner.Scratch.{Pool}
 use Rattle.walk.proofs.Ordered.{search_pool_found}
 use Rattle.row.specs.Row.{index_of}
 use Rattle.links.specs.Inner.Planning.{Plan}

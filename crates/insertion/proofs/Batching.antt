@@ -1,7 +1,7 @@
 -- A batch in chunks. Assumes nothing.
 use Prim.Native.Nat.{ℕ, zero, suc, ◌+◌, ◌-◌, ◌*◌, ◌/◌, min, ◌≤◌, ◌<◌}
 use mathlib.Core.Bool.{not}
-use mathlib.Core.Path.{◌≡◌, refl, ap, ap₂, sym, ◌∙◌, subst}
+use mathlib.Core.Path.{◌≡◌, refl, ap, ap₂, sym, ◌∙◌}
 use mathlib.Core.List.{List, [], ◌∷◌, ◌++◌, map}
 use native.Mathlib.Nat.{add-mul, mul-le-mul_right, div-mul-le_self}
 use native.Mathlib.Omega.{arith}
@@ -24,10 +24,10 @@ use Rattle.insert.specs.Insert.{Filling, fillings, insert_chunk, insert_batch}
 use Rattle.insertion.specs.Batch.{insert_words, Insertable, BatchInserted}
 use Rattle.insertion.specs.declared.graph.Selection.{Selection}
 use Rattle.insertion.specs.declared.inserter.Inserter.{Inserter}
-use Rattle.insertion.specs.Inner.Filling.{filling_at, fillings_from, chunk_of, Fillable}
+use Rattle.insertion.specs.Inner.Filling.{filling_at, fillings_from, chunk_of}
 use Rattle.insertion.specs.Inner.Chunk.{Assigned}
 use Rattle.insertion.specs.Inner.Inserting.{index_in, SameInserter, Inserted}
-use Rattle.insertion.proofs.Same.{inserter_then, inserter_marks}
+use Rattle.insertion.proofs.Same.{inserter_then}
 
 -- insert's share of the size answer is enough
 pub insert_enough : (capacity degree : ℕ) → degree ≤ 64 → work_at capacity + insert_words degree ≤ size_answer capacity

@@ -16,7 +16,7 @@ use Rattle.slots.specs.Scratch.{marks_at}
 use Rattle.candidates.specs.Inner.Words.{cand, cands, put, Outside}
 use Rattle.candidates.specs.Candidates.{Candidate}
 use Rattle.candidates.proofs.Parts.{cand_part, put_part}
-use Rattle.candidates.proofs.Words.{cands_push, put_length, put_outside, outside_none, outside_put}
+use Rattle.candidates.proofs.Words.{cands_push, put_length, put_outside, outside_put}
 use Rattle.insertion.specs.declared.layout.Layout.{Layout}
 use Rattle.insertion.specs.Inner.Chains.{Repeated, head, at_slot, Chain, end, link, Chainable, Chained, incoming_at, Takeable, Took}
 

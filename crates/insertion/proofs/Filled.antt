@@ -1,5 +1,5 @@
 -- The slots that a batch fills: the lowest free ones are found, and each gets its vector. Assumes nothing.
-use Prim.Native.Nat.{ℕ, suc, ◌+◌, ◌-◌, ◌*◌, ◌≤◌, ◌<◌}
+use Prim.Native.Nat.{ℕ, suc, ◌+◌, ◌-◌, ◌≤◌, ◌<◌}
 use mathlib.Core.Bool.{Bool, true, false, not}
 use mathlib.Core.Path.{◌≡◌, refl, ap, sym, ◌∙◌}
 use mathlib.Core.List.{List, [], ◌∷◌, ◌++◌, append_assoc, append-nil}
@@ -9,17 +9,15 @@ use lib.ListN.{length, take, drop, get_or, set, length-set, take-append-drop}
 use lib.Seq.{length-take-le, take-suc-set, drop-set-lt, drop-drop, take-nil}
 use Rattle.lists.specs.Lists.{filter, range, part, put_front}
 use Rattle.lists.proofs.Parts.{fits_in}
-use Rattle.vectors.proofs.Distances.{length_part}
 use Rattle.slots.specs.Store.{Store, is_valid, store_ops, arrays}
 use Rattle.slots.specs.Inner.Writing.{SlotIn, Filled}
 use Rattle.slots.proofs.Places.{shape_fits}
-use Rattle.row.specs.Row.{Together, index_of}
-use Rattle.row.proofs.Kept.{index_with}
+use Rattle.row.specs.Row.{Together}
 use Rattle.insert.specs.Insert.{fill_all}
 use Rattle.insertion.specs.declared.inserter.Inserter.{Inserter}
 use Rattle.insertion.specs.Inner.Filling.{fillings_from, chunk_of, Fillable}
 use Rattle.insertion.specs.Inner.Inserting.{held, index_in, SameInserter, Inserted}
-use Rattle.insertion.proofs.Same.{AsLong, together_as, long_filled, inserter_then, inserter_marks}
+use Rattle.insertion.proofs.Same.{AsLong, together_as, long_filled, inserter_then}
 
 -- ---- free slots
 abbrev free : List ℕ → ℕ → Bool

@@ -5,17 +5,16 @@ use mathlib.Core.List.{List, ◌++◌}
 use native.Mathlib.Numerals.{add-one}
 use native.Mathlib.Omega.{arith}
 use borrow.Author.Tests.{lt-ltb, le-ltb}
-use Rattle.std.proofs.lemmas.List.{get_or-take, length-take-le, length-drop}
+use Rattle.std.proofs.lemmas.List.{get_or-take, length-take-le}
 use lib.ListN.{length, take, drop, get_or}
 use Rattle.lists.specs.Lists.{foldl, range}
 use Rattle.slots.specs.Scratch.{marks_at}
 use Rattle.slots.specs.Store.{Store, store_ops, arrays}
-use Rattle.slots.proofs.Places.{shape_fits}
 use Rattle.candidates.specs.Candidates.{ids}
 use Rattle.candidates.specs.Inner.Words.{cands, cands_of}
 use Rattle.candidates.proofs.Parts.{part_length, whole_part}
 use Rattle.candidates.proofs.Words.{cands_agree}
-use Rattle.row.specs.Row.{Together, index_of, Writable}
+use Rattle.row.specs.Row.{Together, index_of}
 use Rattle.slots.specs.Inner.Writing.{Wrote}
 use Rattle.row.specs.Lent.{held, SamePruner}
 use Rattle.row.specs.declared.pruner.Pruner.{Pruner}

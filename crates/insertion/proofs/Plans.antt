@@ -10,14 +10,12 @@ use lib.Ieee.{Float}
 use lib.ListN.{length, take, drop, get_or, set, length-set}
 use lib.Seq.{get_or-set_same, get_or-set_other}
 use Rattle.lists.specs.Lists.{All, part}
-use Rattle.lists.proofs.Parts.{before_next, fits_in}
+use Rattle.lists.proofs.Parts.{before_next}
 use Rattle.vectors.specs.Space.{slot_distance, space}
-use Rattle.vectors.proofs.Distances.{length_part}
 use Rattle.slots.specs.Store.{is_valid, store_view}
 use Rattle.slots.specs.Lent.{graph_of}
 use Rattle.candidates.specs.Inner.Words.{cands, cands_of, Small}
 use Rattle.candidates.proofs.Words.{cands_agree}
-use Rattle.walk.specs.Inner.Scratch as Walk
 use Rattle.walk.specs.Inner.Scratch.{Pool}
 use Rattle.prune.specs.Prune.{prune_scored}
 use Rattle.prune.specs.Inner.Selecting.{Ready, Pruned}
@@ -27,7 +25,7 @@ use Rattle.slots.proofs.Places.{live_inside}
 use Rattle.lists.proofs.All.{all_map}
 use Rattle.candidates.proofs.Parts.{part_length, cands_front, cands_written, written_length, outside_written, both_written}
 use borrow.Rule.Slice.PartMut.{put_mid}
-use Rattle.std.proofs.lemmas.List.{get_or-take, length-take-le, length-drop}
+use Rattle.std.proofs.lemmas.List.{get_or-take, length-take-le}
 use Rattle.row.specs.Row.{index_of}
 use Rattle.insertion.specs.declared.layout.Layout.{Layout}
 use Rattle.insert.specs.Insert.{Plan, plan}

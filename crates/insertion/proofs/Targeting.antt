@@ -20,15 +20,15 @@ use Rattle.candidates.specs.Inner.Words.{cands, cands_of, Small}
 use Rattle.candidates.proofs.Words.{cands_agree}
 use Rattle.candidates.proofs.Parts.{part_length, whole_part, cands_written, written_length, outside_written}
 use Rattle.prune.specs.Prune.{prune}
-use Rattle.row.specs.Row.{Together, index_of, live_scored, LiveScored, WrotePruned}
+use Rattle.row.specs.Row.{index_of, live_scored, LiveScored, WrotePruned}
 use Rattle.insertion.specs.declared.layout.Layout.{Layout}
 use Rattle.insertion.specs.Inner.Chains.{head, at_slot, incoming_at, Takeable, Took}
 use Rattle.insertion.specs.Inner.Targets.{renewed_at, Renewable}
 use Rattle.row.specs.Lent.{SamePruner}
 use Rattle.row.specs.declared.pruner.Pruner.{Pruner}
-use Rattle.row.proofs.Kept.{pruner_none, pruner_then}
+use Rattle.row.proofs.Kept.{pruner_then}
 use Rattle.insertion.specs.Inner.Writing.{index_by, Written, Below}
-use Rattle.insertion.proofs.Same.{together_as, long_written, below_none, below_then}
+use Rattle.insertion.proofs.Same.{below_then}
 use Rattle.insertion.proofs.Chaining.{Agrees, incoming_agree, chain_agree}
 
 -- ---- what comes in

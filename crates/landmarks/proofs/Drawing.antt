@@ -11,7 +11,7 @@ use Rattle.lists.specs.Lists.{All, filter, elem, least_of}
 use Rattle.lists.proofs.All.{by_cases, all_append}
 use Rattle.lists.proofs.Filtered.{filter_all}
 use Rattle.lists.proofs.Least.{least_with, least_cons, least_min}
-use Rattle.std.proofs.lemmas.List.{at_drop_more, drop_all, length-take-le}
+use Rattle.std.proofs.lemmas.List.{at_drop_more, length-take-le}
 use Rattle.lists.proofs.Unique.{or_false_l, or_false_r}
 use Rattle.vectors.specs.Space.{Measured}
 use Rattle.candidates.specs.Candidates.{Candidate, scored}

@@ -1,5 +1,5 @@
 -- Links applied to the stored rows: a row is read with distances, takes a target, is pruned and written; link follows link. Assumes nothing.
-use Prim.Native.Nat.{ℕ, ◌+◌, ◌*◌, ◌/◌, ◌≤◌, ◌<◌}
+use Prim.Native.Nat.{ℕ, ◌+◌, ◌*◌, ◌≤◌, ◌<◌}
 use mathlib.Core.Bool.{Bool, true, false, cond}
 use mathlib.Core.Path.{◌≡◌, refl, ap, sym, ◌∙◌, subst}
 use mathlib.Core.List.{List, [], ◌∷◌, ◌++◌, map-append, append_assoc, append-nil}
@@ -8,7 +8,6 @@ use lib.Dec.{eqb}
 use lib.Ieee.{Float}
 use lib.ListN.{length, take, get_or}
 use Rattle.lists.specs.Lists.{elem, filter, foldl, concat_map}
-use Rattle.lists.proofs.Places.{all_at}
 use Rattle.lists.proofs.Ranges.{foldl_append}
 use Rattle.vectors.specs.Space.{Measured, slot_distance, space}
 use Rattle.candidates.specs.Candidates.{Candidate, scored, ids}
@@ -29,7 +28,7 @@ use Rattle.repair.specs.Repair.{Link, insert_and_prune}
 use Rattle.repair.proofs.Sources.{both_ways}
 use Rattle.std.proofs.lemmas.List.{take_more}
 use Rattle.links.specs.declared.span.Pair.{Pair}
-use Rattle.links.specs.Inner.Linking.{between, apply_link, link, from, from_each, by_source, pairs_of, link_words, Pairs, Joined, Linked, Applied, Made}
+use Rattle.links.specs.Inner.Linking.{between, apply_link, link, from, from_each, by_source, pairs_of, Joined, Linked, Applied, Made}
 
 -- ---- a target is added
 -- to the n candidates that were looked through

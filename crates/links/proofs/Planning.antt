@@ -1,6 +1,6 @@
 -- The links of a whole plan, and of one plan after the other. Assumes nothing.
 use Prim.Native.Nat.{ℕ, zero, suc, ◌+◌, ◌-◌, ◌*◌, ◌/◌, ◌≤◌, ◌<◌}
-use mathlib.Core.Bool.{Bool, true, false, cond, not, ◌&&◌, and-true, or-true}
+use mathlib.Core.Bool.{Bool, true, false, cond, not, and-true, or-true}
 use mathlib.Core.Path.{◌≡◌, refl, ap, ap₂, sym, ◌∙◌, subst}
 use mathlib.Core.List.{List, [], ◌∷◌, ◌++◌, map-id}
 use native.Mathlib.Nat.{zero-add}

@@ -1,7 +1,7 @@
 -- The loops over lists of candidates: the nearest, distances to a slot, distances lowered. Assumes nothing.
 use Prim.Native.Nat.{ℕ, ◌+◌, ◌*◌, ◌/◌, ◌≤◌, ◌<◌, min}
 use mathlib.Core.Bool.{cond}
-use mathlib.Core.Path.{◌≡◌, refl, ap, sym, ◌∙◌, subst}
+use mathlib.Core.Path.{◌≡◌, refl, ap, sym, ◌∙◌}
 use mathlib.Core.List.{List, [], ◌∷◌, ◌++◌, map, map-append}
 use native.Mathlib.Omega.{arith}
 use borrow.Author.Tests.{lt-ltb, le-ltb}
@@ -10,7 +10,7 @@ use lib.ListN.{length, get_or}
 use Rattle.lists.specs.Lists.{least_from}
 use Rattle.vectors.specs.Space.{Measured}
 use Rattle.candidates.specs.Candidates.{Candidate, scored, ids}
-use Rattle.candidates.specs.Inner.Words.{pair, cand, cands, cands_of, put}
+use Rattle.candidates.specs.Inner.Words.{pair, cand, cands, put}
 use Rattle.candidates.proofs.Words.{cands_length, front_snoc, front_push, front_each, front_at, put_length, put_outside}
 use Rattle.candidates.proofs.Scored.{scored_append}
 use Rattle.links.specs.Inner.Planning.{Stored, first_least, Nearest, lower_to}

@@ -11,14 +11,12 @@ use lib.Seq.{set-get_or}
 use lib.Ieee.{Float, nan, lt}
 use Rattle.lists.specs.Lists.{foldl, range}
 use Rattle.vectors.specs.Space.{Measured}
-use Rattle.vectors.specs.Lent.{HasVector}
-use Rattle.vectors.specs.declared.Space.{Space}
 use Rattle.candidates.specs.Candidates.{Candidate}
 use Rattle.candidates.specs.Quotient.{largest, fmax, quotient}
 use Rattle.candidates.specs.Inner.Words.{cand, cands}
 use Rattle.candidates.proofs.Words.{front_at, cands_length}
 use Rattle.prune.specs.Prune.{raise}
-use Rattle.prune.specs.Inner.Selecting.{raised_factor, settled, Given}
+use Rattle.prune.specs.Inner.Selecting.{raised_factor, settled}
 
 -- ---- one factor
 pub raised_over : (alpha : Float) (own pair : ℕ) (f : Float) → lt alpha f ≡ true → f ≡ raised_factor alpha own pair f

@@ -4,7 +4,7 @@ use lib.ListN.{length}
 use Rattle.deletion.specs.Lent.{graph_mut_of}
 use Rattle.deletion.specs.Inner.Layout.{layout_of}
 use Rattle.deletion.proofs.Acting.{Marked, list_part}
-use Rattle.deletion.proofs.Batching.{batch_inside, batch_marked, batch_together, batch_repairs, batch_deleted, marked_now}
+use Rattle.deletion.proofs.Batching.{batch_inside, batch_marked, batch_repairs, batch_deleted, marked_now}
 use Rattle.deletion.proofs.batch.delete_batch.Goals.{After-new_entry-entry}
 use Rattle.deletion.proofs.batch.delete_batch.Goals as goal
 

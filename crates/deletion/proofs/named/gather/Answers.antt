@@ -1,6 +1,6 @@
 use mathlib.Core.Path.{sym, ◌∙◌}
 use native.Mathlib.Omega.{arith}
-use Rattle.deletion.proofs.Naming.{gathering_none, gathering_more, gathering_skip, gathering_done}
+use Rattle.deletion.proofs.Naming.{gathering_none, gathering_more, gathering_skip}
 use Rattle.deletion.proofs.named.gather.Goals as goal
 use Rattle.deletion.proofs.named.gather.Goals.{then-is_valid, else-is_valid}
 

@@ -1,4 +1,3 @@
-use native.Mathlib.Omega.{arith}
 use Rattle.deletion.proofs.Naming.{keying_none, keying_more}
 use Rattle.deletion.proofs.named.key.Goals as goal
 

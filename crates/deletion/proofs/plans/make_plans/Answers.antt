@@ -1,5 +1,5 @@
 use native.Mathlib.Omega.{arith}
-use Rattle.deletion.proofs.Making.{making_collects, making_room, making_more, making_done}
+use Rattle.deletion.proofs.Making.{making_collects, making_more, making_done}
 use Rattle.deletion.proofs.plans.make_plans.Goals as goal
 
 pub collect-c-requires : goal.collect-c-requires

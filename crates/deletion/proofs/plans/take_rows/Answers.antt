@@ -1,5 +1,5 @@
 use native.Mathlib.Omega.{arith}
-use Rattle.deletion.proofs.Making.{taking_asks, taking_more, taking_done}
+use Rattle.deletion.proofs.Making.{taking_asks, taking_more}
 use Rattle.deletion.proofs.plans.take_rows.Goals as goal
 
 pub live_scored-n-requires : goal.live_scored-n-requires

@@ -1,4 +1,4 @@
-use Rattle.insertion.proofs.Filled.{gathering_none, gathering_live, gathering_free, gathering_done}
+use Rattle.insertion.proofs.Filled.{gathering_live, gathering_free}
 use mathlib.Core.Path.{sym, ◌∙◌}
 use Rattle.insertion.proofs.filling.free_slots.Goals as goal
 use Rattle.insertion.proofs.filling.free_slots.Goals.{then-not-is_valid, else-not-is_valid}

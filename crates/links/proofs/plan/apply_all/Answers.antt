@@ -1,6 +1,6 @@
-use mathlib.Core.Path.{refl, ◌∙◌}
+use mathlib.Core.Path.{◌∙◌}
 use native.Mathlib.Omega.{arith}
-use Rattle.links.proofs.Linking.{linked_none, linked_marks}
+use Rattle.links.proofs.Linking.{linked_marks}
 use Rattle.links.proofs.Planning.{plans_next, plans_more}
 use Rattle.links.proofs.plan.apply_all.Goals as goal
 

@@ -1,5 +1,4 @@
-use native.Mathlib.Omega.{arith}
-use Rattle.links.proofs.Linking.{from_both, linked_then, linked_marks}
+use Rattle.links.proofs.Linking.{from_both, linked_then}
 use Rattle.links.proofs.sources.apply_pair.Goals as goal
 
 pub returns : goal.returns

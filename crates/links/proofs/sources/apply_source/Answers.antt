@@ -1,5 +1,4 @@
-use Rattle.links.proofs.Linking.{linked_none, source_then, linked_marks}
-use native.Mathlib.Omega.{arith}
+use Rattle.links.proofs.Linking.{source_then}
 use Rattle.links.proofs.sources.apply_source.Goals as goal
 
 pub loop-pair-preserved : goal.loop-pair-preserved

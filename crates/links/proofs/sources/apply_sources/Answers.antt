@@ -1,5 +1,4 @@
-use native.Mathlib.Omega.{arith}
-use Rattle.links.proofs.Linking.{each_none, each_then, linked_marks}
+use Rattle.links.proofs.Linking.{each_none, each_then}
 use Rattle.links.proofs.sources.apply_sources.Goals as goal
 
 pub loop-i-init : goal.loop-i-init

@@ -1,4 +1,3 @@
-use mathlib.Core.Path.{◌∙◌}
 use native.Mathlib.Omega.{arith}
 use Rattle.links.proofs.Scoring.{scored_none, stored_ready, scored_more}
 use Rattle.links.proofs.span.score.Goals as goal

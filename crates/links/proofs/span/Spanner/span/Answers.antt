@@ -1,4 +1,3 @@
-use native.Mathlib.Omega.{arith}
 use mathlib.Core.Path.{◌∙◌}
 use Rattle.links.proofs.Spanning.{spanning_none, spanning_asks, spanning_more, spanning_done}
 use Rattle.links.proofs.span.Spanner.span.Goals as goal
