@@ -83,22 +83,6 @@ lt_of_values (fin false m e) (fin false n k) a c b d C D p q =
     (λ t. lt→ltb (m * up e * down k) (n * up k * down e) (lt_of_not-le (λ g. not-le_of_lt (ltb→lt (a * d) (b * c) t)
     (transfer b a d c (n * up k) (m * up e) (down k) (down e) (down_pos k) (down_pos e) (sym q.1) (sym p.1) g))))
 
-pub le_of_fractions : (x y : Float) (a c b d : ℕ) → 0 < c → 0 < d → HasValue x false a c → HasValue y false b d → le x y ≡ leb (a * d) (b * c)
-unfolding le
-le_of_fractions lib.Ieee.nan y a c b d C D p q = elim p [ ]
-le_of_fractions (inf _) y a c b d C D p q = elim p [ ]
-le_of_fractions (fin false m e) lib.Ieee.nan a c b d C D p q = elim q [ ]
-le_of_fractions (fin false m e) (inf _) a c b d C D p q = elim q [ ]
-le_of_fractions (fin true m e) y a c b d C D p q = absurd (true≢false p.0)
-le_of_fractions (fin false m e) (fin true n k) a c b d C D p q = absurd (true≢false q.0)
-le_of_fractions (fin false m e) (fin false n k) a c b d C D p q =
-    or_eq (m * up e * down k) (n * up k * down e)
-    ∙ same_test (leb (m * up e * down k) (n * up k * down e)) (leb (a * d) (b * c))
-    (λ t. le→leb (a * d) (b * c)
-    (transfer a b c d (m * up e) (n * up k) (down e) (down k) (down_pos e) (down_pos k) (sym p.1) (sym q.1) (leb→le (m * up e * down k) (n * up k * down e) t)))
-    (λ t. le→leb (m * up e * down k) (n * up k * down e)
-    (transfer (m * up e) (n * up k) (down e) (down k) a b c d C D p.1 q.1 (leb→le (a * d) (b * c) t)))
-
 pub eq_of_values : (x y : Float) (a c b d : ℕ) → 0 < c → 0 < d → HasValue x false a c → HasValue y false b d → eq x y ≡ eqb (a * d) (b * c)
 unfolding eq
 eq_of_values lib.Ieee.nan y a c b d C D p q = elim p [ ]
@@ -127,9 +111,6 @@ f32_value n h = round_whole binary32 false n h
 module _ (a b : ℕ) (A : a ≤ 16777216) (B : b ≤ 16777216) where
   pub lt_f32 : lt (f32 a) (f32 b) ≡ ltb a b
   lt_f32 = rw (mul-one a, mul-one b) at (lt_of_values (f32 a) (f32 b) a 1 b 1 (lit< tt) (lit< tt) (f32_value a A) (f32_value b B))
-
-  pub le_f32 : le (f32 a) (f32 b) ≡ leb a b
-  le_f32 = rw (mul-one a, mul-one b) at (le_of_fractions (f32 a) (f32 b) a 1 b 1 (lit< tt) (lit< tt) (f32_value a A) (f32_value b B))
 
   pub eq_f32 : eq (f32 a) (f32 b) ≡ eqb a b
   eq_f32 = rw (mul-one a, mul-one b) at (eq_of_values (f32 a) (f32 b) a 1 b 1 (lit< tt) (lit< tt) (f32_value a A) (f32_value b B))

@@ -60,11 +60,6 @@ module _ (w : List ℕ) (c : ℕ) (h : 2 * c ≤ length w) where
       let z : 2 * c + 2 * l ≡ 2 * (c + l) = omega arith in
       ap (λ (i : ℕ). cands (take (length w - 2 * c) (drop (2 * c) w)) (2 * l) i) e ∙ (rw z at (cands_part w (2 * c) (length w - 2 * c) (2 * l) (length w / 2 - (c + l)) (omega arith)))
 
-  pub cands_back : cands_of (take (length w - 2 * c) (drop (2 * c) w)) ≡ cands w (2 * c) (length w / 2 - c)
-  cands_back =
-      let e : length (take (length w - 2 * c) (drop (2 * c) w)) / 2 ≡ length w / 2 - c = omega (arith, back_length) in
-      ap (λ (i : ℕ). cands (take (length w - 2 * c) (drop (2 * c) w)) 0 i) e ∙ front_back (length w / 2 - c) (omega arith)
-
 -- ---- they are written
 written_in : (w v : List ℕ) (p k j : ℕ) → p + k ≤ length w → length v ≡ k → j < k → get_or (put_mid p k w v) (p + j) 0 ≡ get_or v j 0
 written_in w v p k j h e l = search (rules, places)

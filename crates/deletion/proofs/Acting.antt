@@ -25,7 +25,7 @@ use Rattle.row.specs.Row.{Together, index_of}
 use Rattle.repair.specs.Repair.{Link}
 use Rattle.links.specs.Inner.Linking.{between, Applied}
 use Rattle.links.proofs.Linking.{applied_together}
-use Rattle.links.specs.Inner.Planning.{plan_words, Area, Plans, plans_at}
+use Rattle.links.specs.Inner.Planning.{plan_words, plans_at}
 use Rattle.deletion.specs.declared.layout.Layout.{Layout}
 use Rattle.deletion.specs.declared.plans.Repair.{Repair}
 use Rattle.deletion.specs.Inner.Layout.{layout_of}
@@ -103,12 +103,6 @@ pub record Finishing (a₀ : Arrays) (w : List ℕ) (a : Arrays) (k : ℕ) : Typ
   pub together : Together a
   pub marks_long : length a.marks ≡ length a₀.marks
 
-pub finishing_none : (a : Arrays) (w : List ℕ) → Together a → Finishing a w a 0
-finishing_none a w o =
-    let e : 2 * 0 ≡ 0 = omega arith in
-    let z : length w / 2 - 0 ≡ length w / 2 = omega arith in
-    record { goes = λ alpha entry. rw (e, z); together = o; marks_long = refl }
-
 module _ {a₀ : Arrays} {w : List ℕ} {a : Arrays} {k : ℕ} (f : Finishing a₀ w a k) where
   module _ (v : All (λ c. c.id < length a₀.marks) (cands_of w)) (h : k < length w / 2) {u : ℕ} (the_slot : u ≡ (cand w (2 * k)).id) where
     slot_in : (cand w (2 * k)).id < length a.marks
@@ -156,17 +150,6 @@ settled x s t e = rw (t, e) (rw (x.degree, x.versions) at s)
 
 module _ {a : Arrays} {how : Repair} {w : List ℕ} {at : Layout} {w₁ : List ℕ}
     (o : Together a) (f : Repairable a how w at) (m : PlansMade a how w at w₁) where
-  pub made_plans : Plans a.marks w₁ at.stats at.plans at.count at.base
-  made_plans =
-      record {
-        counted = omega (arith, f.placed, f.makes.table.second);
-        placed = f.placed;
-        each = λ j h. (m.each j h).plan;
-      }
-
-  pub made_area : Area a.degree w₁ at.base
-  made_area = record { inside = omega (arith, f.area.inside, m.size); below = f.area.below }
-
   module _ {a₁ : Arrays} {w₂ : List ℕ} (s : Applied how.alpha a (plans_at (between a.dim a.vectors) how.degree how.entry w₁ at.stats at.plans at.count) a₁ w₁ at.base (plan_words a.degree) w₂) where
     slots_stay : cands w₂ at.from at.count ≡ cands w at.from at.count
     slots_stay =

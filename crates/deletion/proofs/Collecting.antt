@@ -7,14 +7,12 @@ use native.Mathlib.Omega.{arith}
 use borrow.Author.Tests.{eqb-true}
 use lib.Dec.{eqb, ltb}
 use lib.Ieee.{Float}
-use lib.ListN.{length, take, drop, get_or, length-take, length-drop}
+use lib.ListN.{length, take, drop, get_or, length-drop}
 use Rattle.lists.specs.Lists.{All, filter, elem, sort_by, sorted_set, part}
 use Rattle.lists.proofs.All.{all_map, filter_test}
 use Rattle.lists.proofs.Firsts.{filter_same}
-use Rattle.lists.proofs.Parts.{fits_in}
 use Rattle.lists.proofs.Unique.{Unique, unique_filter, unique_distinct}
 use Rattle.vectors.specs.Distance.{f32}
-use Rattle.vectors.specs.Vector.{Bytes}
 use Rattle.candidates.specs.Candidates.{Candidate, ids}
 use Rattle.candidates.specs.Inner.Words.{cand, cands, cands_of, put, kept, Remain}
 use Rattle.candidates.proofs.Parts.{part_length, cands_front, cands_written, written_length, outside_written}
@@ -28,7 +26,7 @@ use Rattle.slots.specs.Store.{Arrays, Store, is_valid, vector_of, store_view}
 use Rattle.slots.specs.Inner.Rows.{RowShape}
 use Rattle.slots.proofs.Places.{live_inside, shape_fits}
 use Rattle.walk.specs.Walk.{search_pool}
-use Rattle.walk.specs.Inner.Scratch.{Ready, Pool}
+use Rattle.walk.specs.Inner.Scratch.{Pool}
 use Rattle.walk.proofs.Ordered.{search_pool_found}
 use Rattle.row.specs.Row.{index_of}
 use Rattle.links.specs.Inner.Planning.{Plan}
@@ -157,20 +155,7 @@ unfolding store_view
 live_view b = refl
 
 module _ {a : Arrays} {s entry beam : ℕ} {w : List ℕ} {at r : ℕ} (d : Collectable a s entry beam w at r) where
-  -- the vector can be lent
-  pub collect_vector : Bytes a.dim (length a.marks) a.vectors → s * a.dim + a.dim ≤ length a.vectors
-  collect_vector o = fits_in a.dim (length a.marks) s (length a.vectors) d.slot_in o.long
-
   module _ {query : List ℕ} (is_query : query ≡ part a.dim s a.vectors) where
-    pub collect_ready : Bytes a.dim (length a.marks) a.vectors → Ready a query entry beam w
-    collect_ready o =
-        record {
-          query_long = rw is_query (simp (length-take, length-drop) (omega (arith, collect_vector o)));
-          start_inside = d.entry_in;
-          beam_most = omega (arith, d.beam_most);
-          room = omega (arith, d.behind, d.inside);
-        }
-
     module _ {w₁ : List ℕ} {n : ℕ} (f : Pool a query entry beam w w₁ n) where
       pool_few : n ≤ 256
       pool_few = omega (arith, f.few, d.beam_most)
@@ -215,11 +200,14 @@ module _ {a : Arrays} {s entry beam : ℕ} {w : List ℕ} {at r : ℕ} (d : Coll
         P₁_long : length P₁ ≡ length (drop at w₁)
         P₁_long = written_length (drop at w₁) v (2 * r) (640 - 2 * r) room long
 
-        pub collect_few : r + k ≤ 320
+        collect_few : r + k ≤ 320
         collect_few = omega (arith, passed_few, pool_few, d.few, d.low)
 
-        pub collect_in : 2 * (r + k) ≤ length P₁
+        collect_in : 2 * (r + k) ≤ length P₁
         collect_in = omega (arith, collect_few, P₁_long, collect_bounds.2)
+
+        pub collect_fits : (r + k ≤ 320) × (2 * (r + k) ≤ length P₁)
+        collect_fits = (collect_few, collect_in)
 
         found_list : (alpha : Float) → ids (cands v 0 k) ≡ recovered_by (store_view (index_of alpha entry a)) beam s
         found_list alpha =

@@ -59,14 +59,14 @@ row_at {r = r} w p n v h e l m g =
     }
 
 -- a slot as it is read of the words from p on
-pub slot_part : (w : List ℕ) (p k : ℕ) → p + 2 * k + 1 < length w → (cand (take (length w - p) (drop p w)) (2 * k)).id ≡ (cand w (p + 2 * k)).id
+slot_part : (w : List ℕ) (p k : ℕ) → p + 2 * k + 1 < length w → (cand (take (length w - p) (drop p w)) (2 * k)).id ≡ (cand w (p + 2 * k)).id
 slot_part w p k h = ap (λ (c : Candidate). c.id) (cand_part w p (length w - p) k (omega arith))
 
 module _ {a : Arrays} {w₀ : List ℕ} {at : Layout} {w : List ℕ} {k : ℕ} (f : TakingRows a w₀ at w k)
     (b : Inside (length a.marks) w₀ at.from at.count) (t : Table a.degree w₀ at) where
-  module _ (h : k < at.count) {s : ℕ} (e : s ≡ (cand w (at.from + 2 * k)).id) where
+  module _ (h : k < at.count) {s : ℕ} (e : s ≡ (cand (take (length w - at.from) (drop at.from w)) (2 * k)).id) where
     taken_slot : s ≡ (cand w₀ (at.from + 2 * k)).id
-    taken_slot = e ∙ f.same (at.from + 2 * k + 1) (omega (arith, t.first))
+    taken_slot = e ∙ slot_part w at.from k (omega (arith, f.size, t.first, t.second, t.third)) ∙ f.same (at.from + 2 * k + 1) (omega (arith, t.first))
 
     pub taking_asks : (s < length a.marks) × (2 * a.degree ≤ length (take (at.plans + 640 * k + 640 - (at.plans + 640 * k)) (drop (at.plans + 640 * k) w)))
     taking_asks =
@@ -156,9 +156,9 @@ plan_stays {at = at} {j = j} {w = w} {w' = w'} f x y =
     }
 
 module _ {a : Arrays} {how : Repair} {w₀ : List ℕ} {at : Layout} {w : List ℕ} {k : ℕ} (f : Making a how w₀ at w k)
-    (b : Makeable a how w₀ at) (h : k < at.count) {s : ℕ} (e : s ≡ (cand w (at.from + 2 * k)).id) where
+    (b : Makeable a how w₀ at) (h : k < at.count) {s : ℕ} (e : s ≡ (cand (take (length w - at.from) (drop at.from w)) (2 * k)).id) where
   the_slot : s ≡ (cand w₀ (at.from + 2 * k)).id
-  the_slot = e ∙ f.same (at.from + 2 * k + 1) (omega (arith, b.behind)) (λ u. absurd (omega (arith, b.table.first))) (λ u. absurd (omega (arith, b.table.first, b.table.second)))
+  the_slot = e ∙ slot_part w at.from k (omega (arith, f.size, b.table.first, b.table.second, b.table.third)) ∙ f.same (at.from + 2 * k + 1) (omega (arith, b.behind)) (λ u. absurd (omega (arith, b.table.first))) (λ u. absurd (omega (arith, b.table.first, b.table.second)))
 
   the_row : row_count w at k ≡ row_count w₀ at k
   the_row = f.same (at.stats + 4 * k) (omega (arith, b.behind, b.table.first)) (λ u. omega arith) (λ u. absurd (omega (arith, b.table.second)))

@@ -75,11 +75,6 @@ module _ {w₀ w : List ℕ} {k : ℕ} (f : Keying w₀ w k) where
         same = λ j l. put_outside w (2 * k) x x j (λ _. omega arith) ∙ f.same j (omega arith);
       }
 
-  pub keying_done : k ≡ length w₀ / 2 → cands_of w ≡ scored (λ x. x) (ids (cands_of w₀))
-  keying_done e =
-      let u : length w / 2 ≡ k = omega (arith, f.size) in
-      ap (λ (j : ℕ). cands w 0 j) u ∙ f.list ∙ ap (λ (j : ℕ). scored (λ x. x) (ids (cands w₀ 0 j))) e
-
 -- ---- a rising list in which each slot stands once
 abbrev slots_as : List ℕ → List Candidate
 slots_as xs = scored (λ x. x) xs
@@ -150,12 +145,6 @@ emptied_by {named = named} w at {r} v h e f =
 pub record Clearing (marks₀ w marks : List ℕ) (k : ℕ) : Type 0 where
   pub goes : cleared marks (ids (cands w (2 * k) (length w / 2 - k))) ≡ cleared marks₀ (ids (cands_of w))
   pub size : length marks ≡ length marks₀
-
-pub clearing_none : (marks w : List ℕ) → Clearing marks w marks 0
-clearing_none marks w =
-    let e : 2 * 0 ≡ 0 = omega arith in
-    let z : length w / 2 - 0 ≡ length w / 2 = omega arith in
-    record { goes = rw (e, z); size = refl }
 
 module _ {marks₀ w marks : List ℕ} {k : ℕ} (f : Clearing marks₀ w marks k) where
   pub clearing_inside : All (λ c. c.id < length marks₀) (cands_of w) → k < length w / 2 → {u : ℕ} → u ≡ (cand w (2 * k)).id → u < length marks

@@ -1,7 +1,7 @@
 -- A batch in chunks. Assumes nothing.
 use Prim.Native.Nat.{ℕ, zero, suc, ◌+◌, ◌-◌, ◌*◌, ◌/◌, min, ◌≤◌, ◌<◌}
 use mathlib.Core.Bool.{not}
-use mathlib.Core.Path.{◌≡◌, refl, ap, ap₂, sym, ◌∙◌, subst}
+use mathlib.Core.Path.{◌≡◌, refl, ap, ap₂, sym, ◌∙◌}
 use mathlib.Core.List.{List, [], ◌∷◌, ◌++◌, map}
 use native.Mathlib.Nat.{add-mul, mul-le-mul_right, div-mul-le_self}
 use native.Mathlib.Omega.{arith}
@@ -24,10 +24,10 @@ use Rattle.insert.specs.Insert.{Filling, fillings, insert_chunk, insert_batch}
 use Rattle.insertion.specs.Batch.{insert_words, Insertable, BatchInserted}
 use Rattle.insertion.specs.declared.graph.Selection.{Selection}
 use Rattle.insertion.specs.declared.inserter.Inserter.{Inserter}
-use Rattle.insertion.specs.Inner.Filling.{filling_at, fillings_from, chunk_of, Fillable}
+use Rattle.insertion.specs.Inner.Filling.{filling_at, fillings_from, chunk_of}
 use Rattle.insertion.specs.Inner.Chunk.{Assigned}
 use Rattle.insertion.specs.Inner.Inserting.{index_in, SameInserter, Inserted}
-use Rattle.insertion.proofs.Same.{inserter_none, inserter_then, inserter_marks}
+use Rattle.insertion.proofs.Same.{inserter_then}
 
 -- insert's share of the size answer is enough
 pub insert_enough : (capacity degree : ℕ) → degree ≤ 64 → work_at capacity + insert_words degree ≤ size_answer capacity
@@ -59,14 +59,6 @@ module _ {dim capacity : ℕ} {bytes slots : List ℕ} (o : Assigned dim capacit
 
   long : length slots_part ≡ k
   long = length-take-le k (drop from slots) (simp length-drop (omega arith))
-
-  part_fillable : k ≤ 256 → Fillable dim capacity bytes_part slots_part
-  part_fillable f =
-      record {
-        long = length-take-le (k * dim) (drop (from * dim) bytes) part_fits ∙ rw long;
-        few = rw long f;
-        inside = λ i h. let l : i < k = rw long at h in rw (slot_part from k i slots l) (o.inside (from + i) (omega arith));
-      }
 
   chunk_is : chunk_of dim bytes_part slots_part ≡ fillings_from dim bytes slots from k
   unfolding fillings_from
@@ -143,12 +135,6 @@ pub record Chunking (bytes slots : List ℕ) (i₀ i : Inserter) (rest left : Li
       ≡ foldl (insert_chunk store_ops i₀.how.beam) (index_in i₀) (chunks (length slots) 256 (chunk_of i₀.graph.now.dim bytes slots))
   pub same : SameInserter i₀ i
 
-pub chunking_none : (bytes slots : List ℕ) (i : Inserter) → Chunking bytes slots i i bytes slots
-chunking_none bytes slots i =
-    let e : length slots - 0 ≡ length slots = omega arith in
-    let z : 0 * i.graph.now.dim ≡ 0 = omega arith in
-    record { from = 0; bound = omega arith; rest_is = rw z; left_is = refl; goes = rw e; same = inserter_none i }
-
 module _ {i₀ : Inserter} {bytes slots : List ℕ} (o : Assigned i₀.graph.now.dim (length i₀.graph.now.marks.now) bytes slots) {i : Inserter} {rest left : List ℕ}
     (f : Chunking bytes slots i₀ i rest left) {x later : List ℕ} (n : NextPart left x later) where
   left_long : length left ≡ length slots - f.from
@@ -170,13 +156,6 @@ module _ {i₀ : Inserter} {bytes slots : List ℕ} (o : Assigned i₀.graph.now
     now_is : now ≡ take (length x * i₀.graph.now.dim) (drop (f.from * i₀.graph.now.dim) bytes)
     now_is = c ∙ rw (f.same.slices.dim, f.rest_is)
 
-    pub chunk_fillable : Fillable i.graph.now.dim (length i.graph.now.marks.now) now x
-    chunk_fillable =
-        let y : Fillable i₀.graph.now.dim (length i₀.graph.now.marks.now) (take (length x * i₀.graph.now.dim) (drop (f.from * i₀.graph.now.dim) bytes)) (take (length x) (drop f.from slots)) = part_fillable o f.from (length x) within (omega (arith, n.long)) in
-        let z : Fillable i₀.graph.now.dim (length i₀.graph.now.marks.now) now x =
-        subst (λ (l : List ℕ). Fillable i₀.graph.now.dim (length i₀.graph.now.marks.now) l x) (sym now_is) (subst (Fillable i₀.graph.now.dim (length i₀.graph.now.marks.now) (take (length x * i₀.graph.now.dim) (drop (f.from * i₀.graph.now.dim) bytes))) (sym x_is) y) in
-        rw (f.same.slices.dim, inserter_marks f.same) z
-
     pub chunking_more : {i' : Inserter} → Inserted i (insert_chunk store_ops i.how.beam (index_in i) (chunk_of i.graph.now.dim now x)) i' → Chunking bytes slots i₀ i' after later
     chunking_more r =
         let z : f.from * i₀.graph.now.dim + length x * i₀.graph.now.dim ≡ (f.from + length x) * i₀.graph.now.dim = sym (add-mul f.from (length x) i₀.graph.now.dim) in
@@ -195,13 +174,6 @@ module _ {i₀ : Inserter} {bytes slots : List ℕ} (o : Assigned i₀.graph.now
               ∙ f.goes;
           same = inserter_then f.same r.same;
         }
-
-pub chunking_done : {bytes slots : List ℕ} {i₀ i : Inserter} {rest left : List ℕ} → Chunking bytes slots i₀ i rest left → length left ≡ 0
-    → Inserted i₀ (foldl (insert_chunk store_ops i₀.how.beam) (index_in i₀) (chunks (length slots) 256 (chunk_of i₀.graph.now.dim bytes slots))) i
-chunking_done {slots = slots} f h =
-    let l = simp length-drop at (rw f.left_is at h) in
-    let z : length slots - f.from ≡ 0 = omega arith in
-    record { index = rw z at f.goes; same = f.same }
 
 -- ---- the slots of a batch
 abbrev free_of : List ℕ → List ℕ
@@ -226,9 +198,6 @@ front_at l slots count i k h =
 module _ {a : Arrays} {alpha : Float} {entry beam : ℕ} {bytes slots scratch : List ℕ} (o : Insertable a alpha entry beam bytes slots scratch) {count : ℕ} (q : count ≡ length bytes / a.dim) where
   enough_free : count ≤ length (free_of a.marks)
   enough_free = rw (q, ← free_is alpha entry a) o.free_in
-
-  pub batch_room : (count ≤ length slots) × (length a.marks ≤ 65536)
-  batch_room = (rw q o.room_in, o.together.rows.few)
 
   module _ {slots₁ : List ℕ} (e : slots₁ ≡ put_front (take count (free_of a.marks)) slots) where
     -- the numbers of the slots that are filled

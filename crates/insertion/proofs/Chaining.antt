@@ -16,7 +16,7 @@ use Rattle.slots.specs.Scratch.{marks_at}
 use Rattle.candidates.specs.Inner.Words.{cand, cands, put, Outside}
 use Rattle.candidates.specs.Candidates.{Candidate}
 use Rattle.candidates.proofs.Parts.{cand_part, put_part}
-use Rattle.candidates.proofs.Words.{cands_push, put_length, put_outside, outside_none, outside_put}
+use Rattle.candidates.proofs.Words.{cands_push, put_length, put_outside, outside_put}
 use Rattle.insertion.specs.declared.layout.Layout.{Layout}
 use Rattle.insertion.specs.Inner.Chains.{Repeated, head, at_slot, Chain, end, link, Chainable, Chained, incoming_at, Takeable, Took}
 
@@ -210,27 +210,21 @@ module _ {w₀ : List ℕ} {at : Layout} {n capacity : ℕ} {w : List ℕ} {k : 
     pub link_in : at.plans + 2 * j + 1 < length w
     link_in = omega (arith, f.bound, f.size, o.spread.plans_in, o.spread.sources_in, o.spread.nexts_in, o.room)
 
-    module _ {x h : ℕ} (g : x ≡ (cand w (at.plans + 2 * j)).id) (q : h ≡ x) where
+    -- it is read of the words from the plans on
+    module _ {x h : ℕ} (g : x ≡ (cand (take (length w - at.plans) (drop at.plans w)) (2 * j)).id) (q : h ≡ x) where
+      slot_read : h ≡ (cand w (at.plans + 2 * j)).id
+      slot_read = q ∙ g ∙ ap (λ (c : Candidate). c.id) (cand_part w at.plans (length w - at.plans) j (omega (arith, link_in)))
+
       pub link_words : (marks_at + h < at.plans) × (at.plans ≤ at.nexts) × (at.nexts + j < at.ends) × (at.ends ≤ length w)
       link_words =
-          let s : h < capacity = slot_in m j e h (q ∙ g) in
+          let s : h < capacity = slot_in m j e h slot_read in
           (omega (arith, o.heads_in), omega (arith, o.spread.plans_in, o.spread.sources_in), omega (arith, f.bound, o.spread.nexts_in), omega (arith, f.size, o.room))
 
       pub link_set : (x y : ℕ) → marks_at + h < length (set w x y)
       link_set x y = rw (length-set w x y) (omega (arith, link_words.0, link_words.1, link_words.2, link_words.3))
 
       pub link_turn : Linking w₀ at n capacity (set (set w (at.nexts + j) (get_or w (marks_at + h) 0)) (marks_at + h) (k - 1)) (k - 1)
-      link_turn = let z : k - 1 ≡ j = sym e in rw z (linking_more m j e h (q ∙ g))
-
-  -- the slot as it is read of the words from the plans on
-  pub plans_slot : 0 < k → (cand (take (length w - at.plans) (drop at.plans w)) (2 * (k - 1))).id ≡ (cand w (at.plans + 2 * (k - 1))).id
-  plans_slot m = ap (λ (c : Candidate). c.id) (cand_part w at.plans (length w - at.plans) (k - 1) (omega (arith, link_in m refl)))
-
-  pub linking_done : k ≤ 0 → Chained w₀ at n capacity w
-  linking_done h =
-      let z : k ≡ 0 = omega arith in
-      let y : n - 0 ≡ n = omega arith in
-      record { chains = λ t l. rw (z, y) at (f.chains t l); size = f.size; same = f.same }
+      link_turn = let z : k - 1 ≡ j = sym e in rw z (linking_more m j e h slot_read)
 
 pub chain_fits : {w : List ℕ} {at : Layout} {n capacity : ℕ} → Chainable w at n capacity → marks_at + capacity ≤ length w
 chain_fits o = omega (arith, o.heads_in, o.spread.plans_in, o.spread.sources_in, o.spread.nexts_in, o.room)
@@ -268,10 +262,6 @@ pub record Taking (w₀ : List ℕ) (at : Layout) (n t m : ℕ) (w : List ℕ) (
   pub size : length w ≡ length w₀
   pub same : Outside (at.list + 2 * m) (2 * n) w₀ w
 
-pub taking_none : {w : List ℕ} {at : Layout} {n t m : ℕ} → Takeable w at n t m → Taking w at n t m w m (get_or w (marks_at + t) 0)
-taking_none {w} {at} {n} {t} {m} q =
-    record { from = 0; rest = at_slot w at t 0 n; chain = q.chain; goes = refl; first = omega arith; few = omega arith; size = refl; same = outside_none (at.list + 2 * m) (2 * n) w }
-
 module _ {w₀ : List ℕ} {at : Layout} {n t m : ℕ} {w : List ℕ} {r k : ℕ} (q : Takeable w₀ at n t m) (f : Taking w₀ at n t m w r k) where
   pub taking_done : n ≤ k → Took w₀ at n t m r w
   taking_done h =
@@ -297,14 +287,14 @@ module _ {w₀ : List ℕ} {at : Layout} {n t m : ℕ} {w : List ℕ} {r k : ℕ
         let o = q.spread in
         (omega (arith, o.plans_in, o.sources_in, o.nexts_in, o.ends_in), omega (arith, o.sources_in, o.nexts_in, o.ends_in), omega (arith, o.nexts_in, o.ends_in), omega (arith, f.size, q.room))
 
-    -- the words as they are read from the plans on, and written from the list on
-    pub plans_dist : {j : ℕ} → j ≡ k → (cand (take (length w - at.plans) (drop at.plans w)) (2 * j)).dist ≡ (cand w (at.plans + 2 * j)).dist
+    -- words from the plans on are read, and words from the list on written
+    plans_dist : {j : ℕ} → j ≡ k → (cand (take (length w - at.plans) (drop at.plans w)) (2 * j)).dist ≡ (cand w (at.plans + 2 * j)).dist
     plans_dist {j} e = ap (λ (c : Candidate). c.dist) (cand_part w at.plans (length w - at.plans) j (omega (arith, (taking_in e).0, (taking_in e).3)))
 
     pub list_put : (d s : ℕ) → put_mid at.list (length w - at.list) w (put (take (length w - at.list) (drop at.list w)) (2 * r) d s) ≡ put w (at.list + 2 * r) d s
     list_put d s = put_part w at.list (length w - at.list) r d s (omega (arith, room_for)) (omega (arith, room_for))
 
-    module _ {j d : ℕ} (e : j ≡ k) (y : d ≡ (cand w (at.plans + 2 * j)).dist) where
+    module _ {j d : ℕ} (e : j ≡ k) (y : d ≡ (cand (take (length w - at.plans) (drop at.plans w)) (2 * j)).dist) where
       abbrev appended : List ℕ
       appended = put w (at.list + 2 * r) d (get_or w (at.sources + j) 0)
 
@@ -314,7 +304,7 @@ module _ {w₀ : List ℕ} {at : Layout} {n t m : ℕ} {w : List ℕ} {r k : ℕ
           let l = u.0 in
           let g : f.from ≤ k = u.2 in
           let b = taking_in e in
-          let c : d ≡ get_or w₀ (at.plans + 2 * k) 0 = y ∙ before_list (at.plans + 2 * j) (omega (arith, b.0)) ∙ rw e in
+          let c : d ≡ get_or w₀ (at.plans + 2 * k) 0 = y ∙ plans_dist e ∙ before_list (at.plans + 2 * j) (omega (arith, b.0)) ∙ rw e in
           let i : get_or w (at.sources + j) 0 ≡ get_or w₀ (at.sources + k) 0 = before_list (at.sources + j) b.1 ∙ rw e in
           let x : get_or appended (at.nexts + j) 0 ≡ get_or w₀ (at.nexts + k) 0 =
           put_outside w (at.list + 2 * r) d (get_or w (at.sources + j) 0) (at.nexts + j) (λ (z : at.list + 2 * r ≤ at.nexts + j). absurd (omega (arith, b.2)))

@@ -57,9 +57,6 @@ module _ {degree capacity m : ℕ} {w : List ℕ} {at : Layout} (s : m ≤ 256) 
   few : n ≤ 256 * degree
   few = laid_most f.laid s
 
-  pub link_fits : n ≤ 8388608
-  link_fits = omega (arith, few, o.spread.sources_in, o.spread.nexts_in, o.spread.ends_in, o.list_in, o.chosen_in, o.below)
-
   pub link_chainable : Chainable w₁ at n capacity
   link_chainable =
       record {

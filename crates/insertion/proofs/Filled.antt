@@ -1,5 +1,5 @@
 -- The slots that a batch fills: the lowest free ones are found, and each gets its vector. Assumes nothing.
-use Prim.Native.Nat.{ℕ, suc, ◌+◌, ◌-◌, ◌*◌, ◌≤◌, ◌<◌}
+use Prim.Native.Nat.{ℕ, suc, ◌+◌, ◌-◌, ◌≤◌, ◌<◌}
 use mathlib.Core.Bool.{Bool, true, false, not}
 use mathlib.Core.Path.{◌≡◌, refl, ap, sym, ◌∙◌}
 use mathlib.Core.List.{List, [], ◌∷◌, ◌++◌, append_assoc, append-nil}
@@ -9,17 +9,15 @@ use lib.ListN.{length, take, drop, get_or, set, length-set, take-append-drop}
 use lib.Seq.{length-take-le, take-suc-set, drop-set-lt, drop-drop, take-nil}
 use Rattle.lists.specs.Lists.{filter, range, part, put_front}
 use Rattle.lists.proofs.Parts.{fits_in}
-use Rattle.vectors.proofs.Distances.{length_part}
 use Rattle.slots.specs.Store.{Store, is_valid, store_ops, arrays}
 use Rattle.slots.specs.Inner.Writing.{SlotIn, Filled}
 use Rattle.slots.proofs.Places.{shape_fits}
-use Rattle.row.specs.Row.{Together, index_of}
-use Rattle.row.proofs.Kept.{index_with}
+use Rattle.row.specs.Row.{Together}
 use Rattle.insert.specs.Insert.{fill_all}
 use Rattle.insertion.specs.declared.inserter.Inserter.{Inserter}
 use Rattle.insertion.specs.Inner.Filling.{fillings_from, chunk_of, Fillable}
 use Rattle.insertion.specs.Inner.Inserting.{held, index_in, SameInserter, Inserted}
-use Rattle.insertion.proofs.Same.{AsLong, together_as, long_filled, inserter_none, inserter_then, inserter_marks}
+use Rattle.insertion.proofs.Same.{AsLong, together_as, long_filled, inserter_then}
 
 -- ---- free slots
 abbrev free : List ℕ → ℕ → Bool
@@ -72,9 +70,6 @@ module _ {marks slots₀ : List ℕ} {count : ℕ} {slots : List ℕ} {n s : ℕ
       let c : length (take n slots) ≡ n = length-take-le n slots (omega (arith, f.most, f.size)) in
       rw (← e, c, ← f.rest) (sym (take-append-drop n slots))
 
-  pub gathering_full : n ≡ count → slots ≡ put_front (take count (filter (free marks) (range 0 (length marks)))) slots₀
-  gathering_full h = let z : count - n ≡ 0 = omega arith in ends (rw (z, append-nil) at f.goes)
-
   pub gathering_done : length marks ≤ s → slots ≡ put_front (take count (filter (free marks) (range 0 (length marks)))) slots₀
   gathering_done h =
       let z : length marks - s ≡ 0 = omega arith in
@@ -102,9 +97,6 @@ module _ (i : Inserter) {s : ℕ} {v : List ℕ} (h : s < length i.graph.now.mar
     pub slot_together : Together (arrays i.graph.now.dim i.graph.now.degree vectors targets edges i.graph.now.versions.now marks)
     slot_together = together_as slot_long i.together
 
-    pub slot_filled : index_of i.how.alpha i.how.entry (arrays i.graph.now.dim i.graph.now.degree vectors targets edges i.graph.now.versions.now marks) ≡ store_ops.fill (index_in i) s v
-    slot_filled = index_with i.how.alpha i.how.entry (held i) (arrays i.graph.now.dim i.graph.now.degree vectors targets edges i.graph.now.versions.now marks) slot_long.marks ∙ g.does.does (index_in i) refl h
-
 -- ---- all slots of a chunk
 pub record FilledUpTo (bytes slots : List ℕ) (i₀ i : Inserter) (k : ℕ) : Type 0 where
   pub goes : fill_all store_ops (index_in i) (fillings_from i₀.graph.now.dim bytes slots k (length slots - k))
@@ -112,20 +104,9 @@ pub record FilledUpTo (bytes slots : List ℕ) (i₀ i : Inserter) (k : ℕ) : T
   pub bound : k ≤ length slots
   pub same : SameInserter i₀ i
 
-pub filled_none : (bytes slots : List ℕ) (i : Inserter) → FilledUpTo bytes slots i i 0
-filled_none bytes slots i =
-    let e : length slots - 0 ≡ length slots = omega arith in
-    record { goes = rw e; bound = omega arith; same = inserter_none i }
-
 module _ {i₀ : Inserter} {bytes slots : List ℕ} (o : Fillable i₀.graph.now.dim (length i₀.graph.now.marks.now) bytes slots) {i : Inserter} {k : ℕ}
     (f : FilledUpTo bytes slots i₀ i k) (h : k < length slots) where
-  pub fill_vector : k * i₀.graph.now.dim + i₀.graph.now.dim ≤ length bytes
-  fill_vector = fits_in i₀.graph.now.dim (length slots) k (length bytes) h o.long
-
   module _ {s : ℕ} (e : s ≡ get_or slots k 0) {v : List ℕ} (q : v ≡ part i₀.graph.now.dim k bytes) where
-    pub fill_fits : (s < length i.graph.now.marks.now) × (length v ≡ i.graph.now.dim)
-    fill_fits = (rw (e, inserter_marks f.same) (o.inside k h), rw (q, f.same.slices.dim) (length_part i₀.graph.now.dim k bytes fill_vector))
-
     pub filled_more : {i' : Inserter} → Inserted i (store_ops.fill (index_in i) s v) i' → FilledUpTo bytes slots i₀ i' (k + 1)
     unfolding fillings_from
     filled_more g =

@@ -1,6 +1,6 @@
 -- Rows that are worked out and written at once leave the same index as `chunk_rows`, all worked out before the first is written. Assumes nothing.
 use Prim.Native.Nat.{ℕ, zero, suc, ◌≤◌, ◌<◌}
-use mathlib.Core.Bool.{Bool, true, false, cond, not, ◌||◌, true≢false}
+use mathlib.Core.Bool.{Bool, true, false, cond, not, or-true, true≢false}
 use mathlib.Core.Path.{◌≡◌, refl, ap, sym, ◌∙◌, fun_ext}
 use mathlib.Core.List.{List, [], ◌∷◌, ◌++◌, map}
 use native.Mathlib.Omega.{arith}
@@ -17,10 +17,6 @@ use Rattle.prune.specs.Prune.{prune}
 use Rattle.row.specs.Row.{live_scored}
 use Rattle.row.proofs.Kept.{scored_kept, prune_kept}
 use Rattle.insert.specs.Insert.{Plan, incoming, outgoing_row, target_row}
-
-or-true : (p : Bool) → p || true ≡ true
-or-true true = refl
-or-true false = refl
 
 -- ---- any store of rows
 module _ {B : Type 0} (Ok : B → Type 0) (write : B → ℕ → List ℕ → B) (w : Writes Ok write) where

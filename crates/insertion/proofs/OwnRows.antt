@@ -5,17 +5,16 @@ use mathlib.Core.List.{List, ◌++◌}
 use native.Mathlib.Numerals.{add-one}
 use native.Mathlib.Omega.{arith}
 use borrow.Author.Tests.{lt-ltb, le-ltb}
-use Rattle.std.proofs.lemmas.List.{get_or-take, length-take-le, length-drop}
+use Rattle.std.proofs.lemmas.List.{get_or-take, length-take-le}
 use lib.ListN.{length, take, drop, get_or}
 use Rattle.lists.specs.Lists.{foldl, range}
 use Rattle.slots.specs.Scratch.{marks_at}
 use Rattle.slots.specs.Store.{Store, store_ops, arrays}
-use Rattle.slots.proofs.Places.{shape_fits}
 use Rattle.candidates.specs.Candidates.{ids}
 use Rattle.candidates.specs.Inner.Words.{cands, cands_of}
 use Rattle.candidates.proofs.Parts.{part_length, whole_part}
 use Rattle.candidates.proofs.Words.{cands_agree}
-use Rattle.row.specs.Row.{Together, index_of, Writable}
+use Rattle.row.specs.Row.{Together, index_of}
 use Rattle.slots.specs.Inner.Writing.{Wrote}
 use Rattle.row.specs.Lent.{held, SamePruner}
 use Rattle.row.specs.declared.pruner.Pruner.{Pruner}
@@ -35,9 +34,6 @@ module _ (p : Pruner 0) (at : Layout) (n : ℕ) {s : ℕ} {w : List ℕ} (b e : 
   unnamed_not q h = let k : head w s < n = rw q at h in (λ entry. record { index = rw (lt-ltb _ _ k); same = pruner_none p }, below_none at.chosen w)
 
   module _ (h : s < length p.marks.now) (o : OwnRow p.rows.now.degree s w at b e) where
-    pub own_bounds : (at.chosen ≤ length w) × (at.plans + 2 * e ≤ length (take at.chosen w)) × (e - b ≤ length (drop at.chosen w))
-    own_bounds = (omega (arith, o.room), omega (arith, o.plans_in, length-take-le at.chosen w (omega (arith, o.room))), omega (arith, o.few, o.room, length-drop at.chosen w))
-
     pub own_list : (length (take (at.plans + 2 * e - (at.plans + 2 * b)) (drop (at.plans + 2 * b) (take at.chosen w))) / 2 ≡ e - b)
         × (cands_of (take (at.plans + 2 * e - (at.plans + 2 * b)) (drop (at.plans + 2 * b) (take at.chosen w))) ≡ cands w (at.plans + 2 * b) (e - b))
     own_list =
@@ -48,9 +44,6 @@ module _ (p : Pruner 0) (at : Layout) (n : ℕ) {s : ℕ} {w : List ℕ} (b e : 
           whole_part (take at.chosen w) (at.plans + 2 * b) k (e - b) m (omega (arith, o.rising))
               ∙ cands_agree w (take at.chosen w) (at.plans + 2 * b) (e - b) (λ j x y. get_or-take at.chosen w j 0 (omega (arith, o.rising, o.plans_in))),
         )
-
-    pub own_writable : Writable p.rows.now.degree p.rows.now.targets.now p.rows.now.edges.now s
-    own_writable = let r = shape_fits p.together.rows s h in record { targets_in = r.0; edges_in = r.1 }
 
     module _ {targets edges : List ℕ}
         (f : Wrote p.rows.now.degree p.rows.now.targets.now p.rows.now.edges.now p.rows.now.versions.now s (ids (cands_of (take (at.plans + 2 * e - (at.plans + 2 * b)) (drop (at.plans + 2 * b) (take at.chosen w))))) targets edges) where
@@ -78,16 +71,8 @@ pub record OutgoingUpTo (slots w₀ : List ℕ) (at : Layout) (n : ℕ) (p₀ p 
   pub same : SamePruner p₀ p
   pub words : Below at.chosen w₀ w
 
-pub outgoing_none : (slots w : List ℕ) (at : Layout) (n : ℕ) (p : Pruner 0) → OutgoingUpTo slots w at n p p w 0 0
-outgoing_none slots w at n p =
-    let e : length slots - 0 ≡ length slots = omega arith in
-    record { goes = λ entry. rw e; from = refl; bound = omega arith; same = pruner_none p; words = below_none at.chosen w }
-
 module _ {slots w₀ : List ℕ} {at : Layout} {n : ℕ} {p₀ : Pruner 0} (o : OutgoingRows p₀.rows.now.degree (length p₀.marks.now) slots w₀ at n) {p : Pruner 0} {w : List ℕ} {b i : ℕ}
     (f : OutgoingUpTo slots w₀ at n p₀ p w b i) (h : i < length slots) where
-  pub outgoing_end : at.ends + i < length w
-  outgoing_end = omega (arith, f.words.size, o.few, o.spread.ends_in, o.list_in, o.room)
-
   module _ {e : ℕ} (q : e ≡ get_or w (at.ends + i) 0) where
     end_is : e ≡ get_or w₀ (at.ends + i) 0
     end_is = q ∙ f.words.same (at.ends + i) (omega (arith, o.few, o.spread.ends_in, o.list_in))
@@ -99,20 +84,6 @@ module _ {slots w₀ : List ℕ} {at : Layout} {n : ℕ} {p₀ : Pruner 0} (o : 
         let z = o.each_few i h in
         let s = o.spread in
         (omega (arith, end_is, f.from), omega (arith, end_is), omega (arith, end_is, f.from), omega (arith, s.plans_in, s.sources_in, s.nexts_in, s.ends_in, o.list_in))
-
-    pub outgoing_fits : (get_or slots i 0 < length p.marks.now) × OwnRow p.rows.now.degree (get_or slots i 0) w at b e
-    outgoing_fits =
-        let l = after in (
-          rw f.same.marks (o.inside i h),
-          rw f.same.slices.degree (record {
-            rising = l.0;
-            few = l.2;
-            plans_in = omega (arith, l.1, l.3);
-            head_in = omega (arith, o.inside i h, o.heads_in, l.3);
-            room = omega (arith, f.words.size, o.room);
-            below = o.below;
-          }),
-        )
 
     list_is : cands w (at.plans + 2 * b) (e - b) ≡ plan_cands w₀ at i
     list_is =
@@ -136,7 +107,3 @@ module _ {slots w₀ : List ℕ} {at : Layout} {n : ℕ} {p₀ : Pruner 0} (o : 
             same = pruner_then f.same (g 0).same;
             words = below_then f.words k;
           }
-
-pub outgoing_done : {slots w₀ : List ℕ} {at : Layout} {n : ℕ} {p₀ p : Pruner 0} {w : List ℕ} {b i : ℕ} → OutgoingUpTo slots w₀ at n p₀ p w b i → length slots ≤ i
-    → ((entry : ℕ) → Written entry p₀ (foldl (own_at w₀ at n slots) (index_by entry p₀) (range 0 (length slots))) p) × Below at.chosen w₀ w
-outgoing_done {slots = slots} {i = i} f h = let z : length slots - i ≡ 0 = omega arith in (λ entry. record { index = rw z at f.goes entry; same = f.same }, f.words)

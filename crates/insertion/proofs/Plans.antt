@@ -10,14 +10,12 @@ use lib.Ieee.{Float}
 use lib.ListN.{length, take, drop, get_or, set, length-set}
 use lib.Seq.{get_or-set_same, get_or-set_other}
 use Rattle.lists.specs.Lists.{All, part}
-use Rattle.lists.proofs.Parts.{before_next, fits_in}
+use Rattle.lists.proofs.Parts.{before_next}
 use Rattle.vectors.specs.Space.{slot_distance, space}
-use Rattle.vectors.proofs.Distances.{length_part}
 use Rattle.slots.specs.Store.{is_valid, store_view}
 use Rattle.slots.specs.Lent.{graph_of}
 use Rattle.candidates.specs.Inner.Words.{cands, cands_of, Small}
 use Rattle.candidates.proofs.Words.{cands_agree}
-use Rattle.walk.specs.Inner.Scratch as Walk
 use Rattle.walk.specs.Inner.Scratch.{Pool}
 use Rattle.prune.specs.Prune.{prune_scored}
 use Rattle.prune.specs.Inner.Selecting.{Ready, Pruned}
@@ -27,7 +25,7 @@ use Rattle.slots.proofs.Places.{live_inside}
 use Rattle.lists.proofs.All.{all_map}
 use Rattle.candidates.proofs.Parts.{part_length, cands_front, cands_written, written_length, outside_written, both_written}
 use borrow.Rule.Slice.PartMut.{put_mid}
-use Rattle.std.proofs.lemmas.List.{get_or-take, length-take-le, length-drop}
+use Rattle.std.proofs.lemmas.List.{get_or-take, length-take-le}
 use Rattle.row.specs.Row.{index_of}
 use Rattle.insertion.specs.declared.layout.Layout.{Layout}
 use Rattle.insert.specs.Insert.{Plan, plan}
@@ -73,18 +71,6 @@ chose {degree} {alpha} {live} {d} {source} {r} w k to v u h l m o f =
 
 -- ---- one plan, of the slot at i, behind n candidates of the plans before
 module _ (p : Planner) {i n : ℕ} (w : List ℕ) (h : i < length p.slots.now) (few : n ≤ i * p.graph.rows.degree) (enough : Enough p.graph.rows.degree (length p.graph.rows.marks.now) w) where
-  pub next_vector : i * p.graph.space.dim + p.graph.space.dim ≤ length p.bytes.now
-  next_vector = fits_in p.graph.space.dim (length p.slots.now) i (length p.bytes.now) h p.fillable.long
-
-  pub next_ready : {width : ℕ} → width ≡ max p.how.beam p.graph.rows.degree → {query : List ℕ} → query ≡ part p.graph.space.dim i p.bytes.now → Walk.Ready (graph_of p.graph) query p.how.entry width w
-  next_ready e q =
-      record {
-        query_long = rw q (length_part p.graph.space.dim i p.bytes.now next_vector);
-        start_inside = p.entry_in;
-        beam_most = omega (arith, p.beam_most, p.degree_most);
-        room = omega (arith, enough);
-      }
-
   next_spread : Spread (n + p.graph.rows.degree) p.at
   next_spread =
       let r : i * p.graph.rows.degree + p.graph.rows.degree ≤ 256 * p.graph.rows.degree = before_next p.graph.rows.degree i 256 (omega (arith, p.fillable.few)) in
@@ -119,9 +105,6 @@ module _ (p : Planner) {i n : ℕ} (w : List ℕ) (h : i < length p.slots.now) (
     to_in =
         let s = next_spread in
         (omega (arith, found, p.parts.heads_in), omega (arith, f.size, s.plans_in, s.sources_in, s.nexts_in, s.ends_in, room))
-
-    pub plan_bounds : (p.at.plans + 2 * n ≤ length w₁) × (2 * k ≤ length (take (p.at.plans + 2 * n) w₁)) × (2 * p.graph.rows.degree ≤ length (drop (p.at.plans + 2 * n) w₁))
-    plan_bounds = let t = to_in in (omega arith, omega (arith, length-take-le (p.at.plans + 2 * n) w₁ (omega arith)), omega (arith, length-drop (p.at.plans + 2 * n) w₁))
 
     pub plan_ready : Ready p.graph.space.dim p.graph.space.vectors.now p.graph.rows.marks.now (take (2 * k) (take (p.at.plans + 2 * n) w₁))
     plan_ready =
@@ -237,10 +220,6 @@ laid_agree {at = at} {m} {n} {w} {w'} g f =
     }
 
 -- ---- one plan after the other
-pub laid_none : (degree capacity : ℕ) (plans : ℕ → Plan) (w : List ℕ) (at : Layout) → AllPlanned degree capacity plans w at 0 0 w
-laid_none degree capacity plans w at =
-    record { laid = record { last = refl; few = omega arith; each = λ k h. absurd (omega arith); within = λ k h. absurd (omega arith) }; size = refl }
-
 module _ (p : Planner) {w₀ w : List ℕ} {i n : ℕ} (t : Enough p.graph.rows.degree (length p.graph.rows.marks.now) w₀)
     (f : AllPlanned p.graph.rows.degree (length p.graph.rows.marks.now) (plan_by p) w₀ p.at i n w) (h : i < length p.slots.now) where
   pub next_asks : (i < length p.slots.now) × (n ≤ i * p.graph.rows.degree) × Enough p.graph.rows.degree (length p.graph.rows.marks.now) w
@@ -301,7 +280,3 @@ module _ (p : Planner) {w₀ w : List ℕ} {i n : ℕ} (t : Enough p.graph.rows.
               };
           size = g.size ∙ f.size;
         }
-
-pub laid_done : {degree capacity : ℕ} {plans : ℕ → Plan} {w : List ℕ} {at : Layout} {i n : ℕ} {w' : List ℕ} (m : ℕ) → i ≤ m → m ≤ i
-    → AllPlanned degree capacity plans w at i n w' → AllPlanned degree capacity plans w at m n w'
-laid_done {i = i} m h k f = let z : i ≡ m = omega arith in rw z at f

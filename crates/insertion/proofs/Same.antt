@@ -25,12 +25,6 @@ pub record AsLong (a₀ a : Arrays) : Type 0 where
   pub edges : length a.edges ≡ length a₀.edges
   pub marks : length a.marks ≡ length a₀.marks
 
-pub as_long : (a : Arrays) → AsLong a a
-as_long a = record { vectors = refl; targets = refl; edges = refl; marks = refl }
-
-pub as_long_then : {a₀ a a' : Arrays} → AsLong a₀ a → AsLong a a' → AsLong a₀ a'
-as_long_then f g = record { vectors = g.vectors ∙ f.vectors; targets = g.targets ∙ f.targets; edges = g.edges ∙ f.edges; marks = g.marks ∙ f.marks }
-
 pub together_as : {a₀ : Arrays} {vectors targets edges marks : List ℕ} → AsLong a₀ (arrays a₀.dim a₀.degree vectors targets edges a₀.versions marks) → Together a₀
     → Together (arrays a₀.dim a₀.degree vectors targets edges a₀.versions marks)
 together_as f x = together_kept f.vectors f.targets f.edges f.marks x
@@ -62,9 +56,6 @@ long_filled a s v x l h f =
     shapes_long (together_shaped x) (rw (filled_arrays f) g) refl refl
 
 -- ---- an inserter
-pub inserter_none : (i : Inserter) → SameInserter i i
-inserter_none i = record { graph = refl; slices = record { dim = refl; degree = refl; vectors = refl; targets = refl; edges = refl; versions = refl; marks = refl }; how = refl }
-
 pub inserter_then : {i i' i'' : Inserter} → SameInserter i i' → SameInserter i' i'' → SameInserter i i''
 inserter_then f g =
     let s = f.slices in

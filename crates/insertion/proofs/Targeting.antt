@@ -20,15 +20,15 @@ use Rattle.candidates.specs.Inner.Words.{cands, cands_of, Small}
 use Rattle.candidates.proofs.Words.{cands_agree}
 use Rattle.candidates.proofs.Parts.{part_length, whole_part, cands_written, written_length, outside_written}
 use Rattle.prune.specs.Prune.{prune}
-use Rattle.row.specs.Row.{Together, index_of, live_scored, LiveScored, WrotePruned}
+use Rattle.row.specs.Row.{index_of, live_scored, LiveScored, WrotePruned}
 use Rattle.insertion.specs.declared.layout.Layout.{Layout}
 use Rattle.insertion.specs.Inner.Chains.{head, at_slot, incoming_at, Takeable, Took}
 use Rattle.insertion.specs.Inner.Targets.{renewed_at, Renewable}
 use Rattle.row.specs.Lent.{SamePruner}
 use Rattle.row.specs.declared.pruner.Pruner.{Pruner}
-use Rattle.row.proofs.Kept.{pruner_none, pruner_then}
+use Rattle.row.proofs.Kept.{pruner_then}
 use Rattle.insertion.specs.Inner.Writing.{index_by, Written, Below}
-use Rattle.insertion.proofs.Same.{together_as, long_written, below_none, below_then}
+use Rattle.insertion.proofs.Same.{below_then}
 use Rattle.insertion.proofs.Chaining.{Agrees, incoming_agree, chain_agree}
 
 -- ---- what comes in
@@ -133,9 +133,6 @@ module _ {a : Arrays} {s : ℕ} {w : List ℕ} {at : Layout} {n : ℕ} {z : ℕ}
 
         module _ {alpha : Float} {targets edges : List ℕ}
             (g : WrotePruned alpha a s (cands_of (take (at.list + 2 * m - at.list) (drop at.list (take at.chosen w₂)))) (arrays a.dim a.degree a.vectors targets edges a.versions a.marks)) where
-          pub renewed_together : Together a → Together (arrays a.dim a.degree a.vectors targets edges a.versions a.marks)
-          renewed_together x = together_as (long_written a s _ x (g.row 0)) x
-
           pub renewed_new : get_or w (marks_at + z) 0 < n → (entry : ℕ)
               → index_of alpha entry (arrays a.dim a.degree a.vectors targets edges a.versions a.marks) ≡ renewed_at w at n (index_of alpha entry a) s
           unfolding renewed_at
@@ -170,11 +167,6 @@ pub record Sweeping (w₀ : List ℕ) (at : Layout) (n : ℕ) (p₀ p : Pruner 0
   pub same : SamePruner p₀ p
   pub words : Below at.list w₀ w
 
-pub sweeping_none : (w : List ℕ) (at : Layout) (n : ℕ) (p : Pruner 0) → Sweeping w at n p p w 0
-sweeping_none w at n p =
-    let e : length p.marks.now - 0 ≡ length p.marks.now = omega arith in
-    record { goes = λ entry. rw e; same = pruner_none p; words = below_none at.list w }
-
 module _ {w₀ : List ℕ} {at : Layout} {n : ℕ} {p₀ : Pruner 0} (q : Renewable p₀.rows.now.degree (length p₀.marks.now) w₀ at n) {p : Pruner 0} {w : List ℕ} {s : ℕ} (f : Sweeping w₀ at n p₀ p w s) where
   module _ (h : s < length p₀.marks.now) where
     pub sweep_asks : (s < length p.marks.now) × Renewable p.rows.now.degree (length p.marks.now) w at n
@@ -191,7 +183,3 @@ module _ {w₀ : List ℕ} {at : Layout} {n : ℕ} {p₀ : Pruner 0} (q : Renewa
           same = pruner_then f.same (g 0).same;
           words = below_then f.words k;
         }
-
-pub sweeping_done : {w₀ : List ℕ} {at : Layout} {n : ℕ} {p₀ p : Pruner 0} {w : List ℕ} {s : ℕ} → Sweeping w₀ at n p₀ p w s → length p₀.marks.now ≤ s
-    → (entry : ℕ) → Written entry p₀ (foldl (renewed_at w₀ at n) (index_by entry p₀) (range 0 (length p₀.marks.now))) p
-sweeping_done {p₀ = p₀} {s = s} f h entry = let z : length p₀.marks.now - s ≡ 0 = omega arith in record { index = rw z at f.goes entry; same = f.same }

@@ -11,7 +11,7 @@ use Rattle.lists.specs.Lists.{All, filter, elem, least_of}
 use Rattle.lists.proofs.All.{by_cases, all_append}
 use Rattle.lists.proofs.Filtered.{filter_all}
 use Rattle.lists.proofs.Least.{least_with, least_cons, least_min}
-use Rattle.std.proofs.lemmas.List.{at_drop_more, drop_all, length-take-le}
+use Rattle.std.proofs.lemmas.List.{at_drop_more, length-take-le}
 use Rattle.lists.proofs.Unique.{or_false_l, or_false_r}
 use Rattle.vectors.specs.Space.{Measured}
 use Rattle.candidates.specs.Candidates.{Candidate, scored}
@@ -134,17 +134,6 @@ module _ {space : Space} {d : ℕ → ℕ → ℕ} {l : List ℕ} {w₀ : List �
         within = omega (arith, f.within, g.within);
         near = g.near;
         size = g.size ∙ f.size;
-      }
-
-  pub drawn_done : (entry : ℕ) {w₁ : List ℕ} {n₁ : ℕ} → Drew w₁ n₁ (drawn d entry (cands w₁ 0 n₁)) w₀ n → length l ≤ i
-      → Drew w₁ n₁ (drawn_all d (entry ∷ l) (cands w₁ 0 n₁)) w m
-  drawn_done entry g h =
-      let e : cands w 0 m ≡ drawn_all d l (cands w₀ 0 n) = rw (drop_all i l h) at f.goes in
-      record {
-        list = e ∙ ap (drawn_all d l) g.list;
-        within = omega (arith, f.within, g.within);
-        near = f.near;
-        size = f.size ∙ g.size;
       }
 
 -- ---- a sample that is drawn to some references has its least distances to them

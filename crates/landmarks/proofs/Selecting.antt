@@ -13,8 +13,9 @@ use Rattle.lists.proofs.Parts.{fits_in}
 use Rattle.candidates.specs.Candidates.{scored}
 use Rattle.candidates.specs.Inner.Words.{cands}
 use Rattle.landmarks.specs.declared.sample.Free.{Free}
-use Rattle.landmarks.specs.Inner.Samples.{far, free, on_stride, sampled, stride_of, sample_by, Taken}
-use Rattle.vectors.specs.Lent.{HasVector}
+use Rattle.landmarks.specs.Inner.Samples.{far, remains, free, on_stride, sampled, stride_of, sample_by, Taken}
+use Rattle.vectors.specs.Lent.{HasVector, space_of}
+use Rattle.vectors.specs.Space.{slot_distance}
 use Rattle.vectors.specs.declared.Space.{Space}
 use Rattle.landmarks.specs.Inner.Choices.{drawn_all, chosen, landmarks_by, Listed, Selectable, Drew, Fronted}
 use Rattle.landmarks.proofs.Sampling.{sample_all, sample_inside}
@@ -55,32 +56,37 @@ module _ {space : Space} {o : Free} {wanted sample : ℕ} {list w : List ℕ} (f
   taken_listed {p} {stride} g = record { small = f.bytes.small; room = omega (arith, g.room, g.size); inside = rw g.list (sample_vectors far p stride) }
 
   -- ---- what is left
-  module _ (d : ℕ → ℕ → ℕ) (stays : ℕ → Bool) where
-    pub selected_none : wanted ≡ 0 → Fronted (landmarks_by d stays capacity o.entry wanted sample o.kept.now) list list 0
-    unfolding landmarks_by chosen
-    selected_none e = rw e (record { list = refl; count = refl })
+  abbrev d : ℕ → ℕ → ℕ
+  d = slot_distance (space_of space)
 
-    -- the sample
-    abbrev taken : List ℕ
-    taken = sample_by (free stays references) capacity (stride_of capacity sample) wanted
+  abbrev stays : ℕ → Bool
+  stays = remains o.marks.now o.ids.now
 
-    module _ {w₀ w₁ w₂ : List ℕ} {n m : ℕ} (g : Taken (free stays references) capacity (stride_of capacity sample) wanted w₀ w₁ n)
-        (h : Drew w₁ n (drawn_all d references (cands w₁ 0 n)) w₂ m) where
-      drawn_is : cands w₂ 0 m ≡ scored (λ s. least_of (d s) references) taken
-      drawn_is = drawn_sample d o.entry o.kept.now taken (sample_free stays references capacity (stride_of capacity sample) wanted) g.list h
+  pub selected_none : wanted ≡ 0 → Fronted (landmarks_by d stays capacity o.entry wanted sample o.kept.now) list list 0
+  unfolding landmarks_by chosen
+  selected_none e = rw e (record { list = refl; count = refl })
 
-      pub drawn_listed : Listed space w₂ m
-      drawn_listed =
-          record {
-            small = f.bytes.small;
-            room = omega (arith, g.room, g.size, h.size, h.within);
-            inside = rw drawn_is (sample_vectors (λ s. least_of (d s) references) (free stays references) (stride_of capacity sample));
-          }
+  -- the sample
+  abbrev taken : List ℕ
+  taken = sample_by (free stays references) capacity (stride_of capacity sample) wanted
 
-      pub selected : {l' : List ℕ} {r : ℕ} → Fronted (chosen d wanted (cands w₂ 0 m)) list l' r
-          → Fronted (landmarks_by d stays capacity o.entry wanted sample o.kept.now) list l' r
-      unfolding landmarks_by
-      selected k = rw drawn_is at k
+  module _ {w₀ w₁ w₂ : List ℕ} {n m : ℕ} (g : Taken (free stays references) capacity (stride_of capacity sample) wanted w₀ w₁ n)
+      (h : Drew w₁ n (drawn_all d references (cands w₁ 0 n)) w₂ m) where
+    drawn_is : cands w₂ 0 m ≡ scored (λ s. least_of (d s) references) taken
+    drawn_is = drawn_sample d o.entry o.kept.now taken (sample_free stays references capacity (stride_of capacity sample) wanted) g.list h
+
+    pub drawn_listed : Listed space w₂ m
+    drawn_listed =
+        record {
+          small = f.bytes.small;
+          room = omega (arith, g.room, g.size, h.size, h.within);
+          inside = rw drawn_is (sample_vectors (λ s. least_of (d s) references) (free stays references) (stride_of capacity sample));
+        }
+
+    pub selected : {l' : List ℕ} {r : ℕ} → Fronted (chosen d wanted (cands w₂ 0 m)) list l' r
+        → Fronted (landmarks_by d stays capacity o.entry wanted sample o.kept.now) list l' r
+    unfolding landmarks_by
+    selected k = rw drawn_is at k
 
 -- ---- how many they are, and where
 module _ (d : ℕ → ℕ → ℕ) (stays : ℕ → Bool) (capacity entry wanted sample : ℕ) (existing : List ℕ) where

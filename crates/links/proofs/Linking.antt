@@ -1,5 +1,5 @@
 -- Links applied to the stored rows: a row is read with distances, takes a target, is pruned and written; link follows link. Assumes nothing.
-use Prim.Native.Nat.{ℕ, ◌+◌, ◌*◌, ◌/◌, ◌≤◌, ◌<◌}
+use Prim.Native.Nat.{ℕ, ◌+◌, ◌*◌, ◌≤◌, ◌<◌}
 use mathlib.Core.Bool.{Bool, true, false, cond}
 use mathlib.Core.Path.{◌≡◌, refl, ap, sym, ◌∙◌, subst}
 use mathlib.Core.List.{List, [], ◌∷◌, ◌++◌, map-append, append_assoc, append-nil}
@@ -8,7 +8,6 @@ use lib.Dec.{eqb}
 use lib.Ieee.{Float}
 use lib.ListN.{length, take, get_or}
 use Rattle.lists.specs.Lists.{elem, filter, foldl, concat_map}
-use Rattle.lists.proofs.Places.{all_at}
 use Rattle.lists.proofs.Ranges.{foldl_append}
 use Rattle.vectors.specs.Space.{Measured, slot_distance, space}
 use Rattle.candidates.specs.Candidates.{Candidate, scored, ids}
@@ -29,7 +28,7 @@ use Rattle.repair.specs.Repair.{Link, insert_and_prune}
 use Rattle.repair.proofs.Sources.{both_ways}
 use Rattle.std.proofs.lemmas.List.{take_more}
 use Rattle.links.specs.declared.span.Pair.{Pair}
-use Rattle.links.specs.Inner.Linking.{between, apply_link, link, from, from_each, by_source, pairs_of, link_words, Pairs, Joined, Linked, Applied, Made}
+use Rattle.links.specs.Inner.Linking.{between, apply_link, link, from, from_each, by_source, pairs_of, Joined, Linked, Applied, Made}
 
 -- ---- a target is added
 -- to the n candidates that were looked through
@@ -150,9 +149,6 @@ module _ {table : ℕ} {p p₁ : Pruner table} {ls : List Link} (f : Linked p ls
   pub linked_marks : length p₁.marks.now ≡ length p.marks.now
   linked_marks = rw f.same.marks
 
-  pub linked_words : {n : ℕ} → link_words p.rows.now.degree ≤ n → link_words p₁.rows.now.degree ≤ n
-  linked_words h = rw f.same.slices.degree h
-
   -- beside words of which k from `at` on were lent
   pub linked_made : {w w' : List ℕ} {at : ℕ} {words : ℕ → ℕ} → length w' ≡ length w → Outside at (words p.rows.now.degree) w w' → Made p ls w at words p₁ w'
   linked_made e o = record { applied = record { does = f.does; size = e; same = o }; same = f.same }
@@ -198,9 +194,6 @@ by_each b ls (s ∷ ss) = foldl_append apply_link b (from s ls) (from_each ls ss
 pub from_both : (s x p : ℕ) → {table : ℕ} {l l₁ : Pruner table} → Linked l (from s (link x p ∷ []) ++ from s (link p x ∷ [])) l₁ → Linked l (from s (both_ways x p)) l₁
 from_both s x p f = rw (from_append s (link x p ∷ []) (link p x ∷ [])) f
 
-pub pair_inside : {slots : ℕ} (ps : List Pair) → Pairs slots ps → (i : ℕ) (d : Pair) → i < length ps → ((get_or ps i d).slot < slots) × ((get_or ps i d).parent < slots)
-pair_inside {slots} ps k i d h = all_at d (λ p. (p.slot < slots) × (p.parent < slots)) ps k i h
-
 pub source_then : (s : ℕ) (ps : List Pair) (i : ℕ) (d : Pair) → i < length ps → {table : ℕ} {l l₁ l₂ : Pruner table}
     → Linked l (from s (pairs_of (take i ps))) l₁ → Linked l₁ (from s (both_ways (get_or ps i d).slot (get_or ps i d).parent)) l₂
     → Linked l (from s (pairs_of (take (i + 1) ps))) l₂
@@ -214,7 +207,3 @@ pub each_then : (ls : List Link) (w : List ℕ) (i : ℕ) {s : ℕ} {table : ℕ
     → Linked l (from_each ls (ids (cands w 0 i))) l₁ → Linked l₁ (filter (λ l. eqb l.source s) ls) l₂
     → Linked l (from_each ls (ids (cands w 0 (i + 1)))) l₂
 each_then ls w i e f g = rw (sources_more ls w i, ← e) (linked_then f g)
-
-pub each_done : (ls : List Link) (w : List ℕ) (i : ℕ) {table : ℕ} {l l₁ : Pruner table} → i ≤ length w / 2 → length w / 2 ≤ i → Linked l (from_each ls (ids (cands w 0 i))) l₁
-    → Linked l (from_each ls (ids (cands_of w))) l₁
-each_done ls w i {l = l} {l₁} h k f = let e : i ≡ length w / 2 = omega arith in subst (λ (j : ℕ). Linked l (from_each ls (ids (cands w 0 j))) l₁) e f

@@ -1,6 +1,6 @@
 -- The links of a whole plan, and of one plan after the other. Assumes nothing.
 use Prim.Native.Nat.{ℕ, zero, suc, ◌+◌, ◌-◌, ◌*◌, ◌/◌, ◌≤◌, ◌<◌}
-use mathlib.Core.Bool.{Bool, true, false, cond, not, ◌&&◌, ◌||◌}
+use mathlib.Core.Bool.{Bool, true, false, cond, not, and-true, or-true}
 use mathlib.Core.Path.{◌≡◌, refl, ap, ap₂, sym, ◌∙◌, subst}
 use mathlib.Core.List.{List, [], ◌∷◌, ◌++◌, map-id}
 use native.Mathlib.Nat.{zero-add}
@@ -75,11 +75,7 @@ plan_fewer f (a ∷ rest) i h s =
 -- of live slots `keep_valid` drops the source alone
 kept_other : (marks : List ℕ) (s x : ℕ) → is_valid marks x ≡ true → kept marks s x ≡ not (eqb x s)
 unfolding kept
-kept_other marks s x h = rw h (go (not (eqb x s)))
-  where
-    go : (b : Bool) → b && true ≡ b
-    go true = refl
-    go false = refl
+kept_other marks s x h = rw h (and-true (not (eqb x s)))
 
 pub filter_scored : (p : ℕ → Bool) (d : ℕ → ℕ) (xs : List ℕ) → filter (λ c. p c.id) (scored d xs) ≡ scored d (filter p xs)
 filter_scored p d [] = refl
@@ -115,117 +111,132 @@ pairs_sources P (q ∷ l) h = ((h.0, h.1.0), pairs_sources P l h.1.1)
 each_in : (l : List ℕ) → All (λ x. elem x l ≡ true) l
 each_in [] = tt
 each_in (x ∷ l) = (rw (eq-eqb x x refl), all_map (λ y. elem y l ≡ true) (λ y. elem y (x ∷ l) ≡ true) (λ y e. rw e (or-true (eqb y x))) l (each_in l))
-  where
-    or-true : (b : Bool) → b || true ≡ true
-    or-true true = refl
-    or-true false = refl
 
-module _ {a : Arrays} {w : List ℕ} {entry : ℕ} (o : Together a) (he : entry < length a.marks) (p : Plan a.marks w 0 (length w / 2)) (some : 2 ≤ length w) where
+-- a plan is asked for, of the list w
+pub record Asked (a : Arrays) (w : List ℕ) (entry : ℕ) : Type 0 where
+  pub together : Together a
+  pub entry_in : entry < length a.marks
+  pub plan : Plan a.marks w 0 (length w / 2)
+  pub some : 2 ≤ length w
+
+-- its start is the nearest to the entry of the list x
+pub record Begun (a : Arrays) (w : List ℕ) (entry : ℕ) (x : List ℕ) (i start : ℕ) : Type 0 where
+  pub asked : Asked a w entry
+  pub long : length x ≡ length w
+  pub distances : cands_of x ≡ scored (λ s. between a.dim a.vectors s entry) (ids (cands_of w))
+  pub nearest : Nearest (cands_of x) i
+  pub read : start ≡ (cand x (2 * i)).id
+
+-- it is the first of the words c₂; the others remain, m in the words y₂
+pub record Parted (a : Arrays) (w : List ℕ) (start : ℕ) (c c₂ y : List ℕ) (m : ℕ) (y₂ : List ℕ) : Type 0 where
+  pub room : 2 ≤ length c
+  pub placed : c₂ ≡ put c 0 0 start
+  pub distances : cands_of y ≡ scored (λ s. between a.dim a.vectors s start) (ids (cands_of w))
+  pub remain : Remain y (filter (λ s. kept a.marks start s.id) (cands_of y)) m y₂
+  pub within : 2 * m ≤ length y₂
+
+module _ {a : Arrays} {w : List ℕ} {entry : ℕ} (p : Asked a w entry) where
   inside : All (λ c. c.id < length a.marks) (cands_of w)
-  inside = all_map (λ c. is_valid a.marks c.id ≡ true) (λ c. c.id < length a.marks) (λ c. live_inside a.marks c.id) (cands_of w) p.live
+  inside = all_map (λ c. is_valid a.marks c.id ≡ true) (λ c. c.id < length a.marks) (λ c. live_inside a.marks c.id) (cands_of w) p.plan.live
 
   pub plan_ready : Stored a.dim a.vectors entry (cands_of w)
-  plan_ready = stored_in o inside he
+  plan_ready = stored_in p.together inside p.entry_in
 
-  -- the start is the nearest to the entry of the list x
-  module _ (x : List ℕ) (long : length x ≡ length w) (f : cands_of x ≡ scored (λ x. between a.dim a.vectors x entry) (ids (cands_of w))) {i : ℕ} (s : Nearest (cands_of x) i) where
-    pub start_within : i < length x / 2
-    start_within = omega (arith, s.within, cands_length x 0 (length x / 2))
+pub start_within : (x : List ℕ) {i : ℕ} → Nearest (cands_of x) i → i < length x / 2
+start_within x s = omega (arith, s.within, cands_length x 0 (length x / 2))
 
-    module _ {start : ℕ} (e : start ≡ (cand x (2 * i)).id) where
-      start_is : start ≡ (get_or (cands_of x) i (pair 0 0)).id
-      start_is = e ∙ ap (λ (c : Candidate). c.id) (sym (front_at x (length x / 2) i start_within))
+module _ {a : Arrays} {w : List ℕ} {entry : ℕ} {x : List ℕ} {i start : ℕ} (b : Begun a w entry x i start) where
+  start_is : start ≡ (get_or (cands_of x) i (pair 0 0)).id
+  start_is = b.read ∙ ap (λ (c : Candidate). c.id) (sym (front_at x (length x / 2) i (start_within x b.nearest)))
 
-      start_inside : start < length a.marks
-      start_inside =
-          let h : All (λ c. c.id < length a.marks) (cands_of x) =
-          rw f (all_scored (λ c. c.id < length a.marks) _ (ids (cands_of w)) (all_ids (λ x. x < length a.marks) (cands_of w) inside)) in
-          rw e (front_each (λ c. c.id < length a.marks) x (length x / 2) h i start_within)
+  start_inside : start < length a.marks
+  start_inside =
+      let h : All (λ c. c.id < length a.marks) (cands_of x) =
+      rw b.distances (all_scored (λ c. c.id < length a.marks) _ (ids (cands_of w)) (all_ids (λ x. x < length a.marks) (cands_of w) (inside b.asked))) in
+      rw b.read (front_each (λ c. c.id < length a.marks) x (length x / 2) h i (start_within x b.nearest))
 
-      pub plan_remain : Stored a.dim a.vectors start (cands_of w)
-      plan_remain = stored_in o inside start_inside
+  pub plan_remain : Stored a.dim a.vectors start (cands_of w)
+  plan_remain = stored_in b.asked.together (inside b.asked) start_inside
 
-      -- it is the first of the words c; the others remain, m in the words y₂
-      module _ (c c₂ : List ℕ) (hc : 2 ≤ length c) (e₂ : c₂ ≡ put c 0 0 start) (y : List ℕ) (g : cands_of y ≡ scored (λ x. between a.dim a.vectors x start) (ids (cands_of w)))
-          {m : ℕ} {y₂ : List ℕ} (l : Remain y (filter (λ c. kept a.marks start c.id) (cands_of y)) m y₂) (hy : 2 * m ≤ length y₂) where
-        abbrev others : List ℕ
-        others = filter (λ x. not (eqb x start)) (ids (cands_of w))
+  module _ {c c₂ y : List ℕ} {m : ℕ} {y₂ : List ℕ} (k : Parted a w start c c₂ y m y₂) where
+    abbrev others : List ℕ
+    others = filter (λ x. not (eqb x start)) (ids (cands_of w))
 
-        remaining : cands_of (take (2 * m) y₂) ≡ cands y₂ 0 m
-        remaining = cands_front y₂ m hy
+    remaining : cands_of (take (2 * m) y₂) ≡ cands y₂ 0 m
+    remaining = cands_front y₂ m k.within
 
-        rest : cands y₂ 0 m ≡ scored (λ x. between a.dim a.vectors x start) others
-        rest =
-            l.list
-            ∙ ap (filter (λ c. kept a.marks start c.id)) g
-            ∙ filter_scored (kept a.marks start) (λ x. between a.dim a.vectors x start) (ids (cands_of w))
-            ∙ ap (scored (λ x. between a.dim a.vectors x start)) (filter_among (kept a.marks start) (λ x. not (eqb x start)) (ids (cands_of w))
-            (all_map (λ x. is_valid a.marks x ≡ true) (λ x. kept a.marks start x ≡ not (eqb x start)) (kept_other a.marks start) (ids (cands_of w)) (all_ids (λ x. is_valid a.marks x ≡ true) (cands_of w) p.live)))
+    rest : cands y₂ 0 m ≡ scored (λ x. between a.dim a.vectors x start) others
+    rest =
+        k.remain.list
+        ∙ ap (filter (λ c. kept a.marks start c.id)) k.distances
+        ∙ filter_scored (kept a.marks start) (λ x. between a.dim a.vectors x start) (ids (cands_of w))
+        ∙ ap (scored (λ x. between a.dim a.vectors x start)) (filter_among (kept a.marks start) (λ x. not (eqb x start)) (ids (cands_of w))
+        (all_map (λ x. is_valid a.marks x ≡ true) (λ x. kept a.marks start x ≡ not (eqb x start)) (kept_other a.marks start) (ids (cands_of w)) (all_ids (λ x. is_valid a.marks x ≡ true) (cands_of w) b.asked.plan.live)))
 
-        rest_ids : ids (cands y₂ 0 m) ≡ others
-        rest_ids = ap ids rest ∙ ids_scored _ others
+    rest_ids : ids (cands y₂ 0 m) ≡ others
+    rest_ids = ap ids rest ∙ ids_scored _ others
 
-        rest_long : length others ≡ m
-        rest_long = ap length (sym rest_ids) ∙ ids_length (cands y₂ 0 m) ∙ cands_length y₂ 0 m
+    rest_long : length others ≡ m
+    rest_long = ap length (sym rest_ids) ∙ ids_length (cands y₂ 0 m) ∙ cands_length y₂ 0 m
 
-        first : cands c₂ 0 1 ≡ pair 0 start ∷ []
-        unfolding cands
-        first = rw e₂ (ap (λ (c : Candidate). c ∷ []) (put_cand c 0 0 start (omega arith)))
+    first : cands c₂ 0 1 ≡ pair 0 start ∷ []
+    unfolding cands
+    first = rw k.placed (ap (λ (c : Candidate). c ∷ []) (put_cand c 0 0 start (omega (arith, k.room))))
 
-        same₁ : ids (cands_of x) ≡ ids (cands_of w)
-        same₁ = ap ids f ∙ ids_scored _ (ids (cands_of w))
+    same₁ : ids (cands_of x) ≡ ids (cands_of w)
+    same₁ = ap ids b.distances ∙ ids_scored _ (ids (cands_of w))
 
-        dists : All (λ c. c.dist ≡ between a.dim a.vectors c.id entry) (cands_of x)
-        dists = rw f (scored_dists (λ x. between a.dim a.vectors x entry) (ids (cands_of w)))
+    dists : All (λ c. c.dist ≡ between a.dim a.vectors c.id entry) (cands_of x)
+    dists = rw b.distances (scored_dists (λ x. between a.dim a.vectors x entry) (ids (cands_of w)))
 
-        rest_fewer : m < length w / 2
-        rest_fewer =
-            let h : length (filter (λ y. not (eqb y (get_or (cands_of x) i (pair 0 0)).id)) (ids (cands_of x))) < length (cands_of x) = plan_fewer (λ x. between a.dim a.vectors x entry) (cands_of x) i dists s in
-            let k : length others < length (cands_of x) = rw (same₁, ← start_is) at h in
-            omega (arith, rest_long, cands_length x 0 (length x / 2), long)
+    rest_fewer : m < length w / 2
+    rest_fewer =
+        let h : length (filter (λ y. not (eqb y (get_or (cands_of x) i (pair 0 0)).id)) (ids (cands_of x))) < length (cands_of x) = plan_fewer (λ x. between a.dim a.vectors x entry) (cands_of x) i dists b.nearest in
+        let q : length others < length (cands_of x) = rw (same₁, ← start_is) at h in
+        omega (arith, q, rest_long, cands_length x 0 (length x / 2), b.long)
 
-        pub plan_planned : Planned a.dim a.vectors (cands c₂ 0 1) (cands_of (take (2 * m) y₂))
-        plan_planned =
-            let fits : (x : ℕ) → x < length a.marks → x * a.dim + a.dim ≤ length a.vectors = λ x i. fits_in a.dim (length a.marks) x (length a.vectors) i o.bytes.long in
-            let others_in : All (λ x. x * a.dim + a.dim ≤ length a.vectors) others =
-            all_map (λ x. x < length a.marks) (λ x. x * a.dim + a.dim ≤ length a.vectors) fits others (all_filter (λ x. x < length a.marks) (λ x. not (eqb x start)) (ids (cands_of w)) (all_ids (λ x. x < length a.marks) (cands_of w) inside)) in
-            record {
-              short = o.bytes.small;
-              some = omega (arith, cands_length c₂ 0 1);
-              few = rw remaining (omega (arith, p.few, rest_fewer, cands_length c₂ 0 1, cands_length y₂ 0 m));
-              connected_in = rw first (fits start start_inside, tt);
-              remaining_in = rw (remaining, rest) (all_scored (λ c. c.id * a.dim + a.dim ≤ length a.vectors) _ others others_in);
-              least = rw (remaining, rest, first) (scored_least (between a.dim a.vectors) start others);
-              distinct = rw (remaining, rest_ids) (unique_apart others (unique_others (λ x. not (eqb x start)) (ids (cands_of w)) p.once));
-            }
+    pub plan_planned : Planned a.dim a.vectors (cands c₂ 0 1) (cands_of (take (2 * m) y₂))
+    plan_planned =
+        let fits : (x : ℕ) → x < length a.marks → x * a.dim + a.dim ≤ length a.vectors = λ x i. fits_in a.dim (length a.marks) x (length a.vectors) i b.asked.together.bytes.long in
+        let others_in : All (λ x. x * a.dim + a.dim ≤ length a.vectors) others =
+        all_map (λ x. x < length a.marks) (λ x. x * a.dim + a.dim ≤ length a.vectors) fits others (all_filter (λ x. x < length a.marks) (λ x. not (eqb x start)) (ids (cands_of w)) (all_ids (λ x. x < length a.marks) (cands_of w) (inside b.asked))) in
+        record {
+          short = b.asked.together.bytes.small;
+          some = omega (arith, cands_length c₂ 0 1);
+          few = rw remaining (omega (arith, b.asked.plan.few, rest_fewer, cands_length c₂ 0 1, cands_length y₂ 0 m));
+          connected_in = rw first (fits start start_inside, tt);
+          remaining_in = rw (remaining, rest) (all_scored (λ c. c.id * a.dim + a.dim ≤ length a.vectors) _ others others_in);
+          least = rw (remaining, rest, first) (scored_least (between a.dim a.vectors) start others);
+          distinct = rw (remaining, rest_ids) (unique_apart others (unique_others (λ x. not (eqb x start)) (ids (cands_of w)) b.asked.plan.once));
+        }
 
-        module _ {repair_degree : ℕ} {pairs : List Pair} {r : ℕ} (t : Spanned a.dim a.vectors repair_degree (cands c₂ 0 1) (cands_of (take (2 * m) y₂)) pairs r) where
-          abbrev ss : List ℕ
-          ss = ids (cands_of w)
+    module _ {repair_degree : ℕ} {pairs : List Pair} {r : ℕ} (t : Spanned a.dim a.vectors repair_degree (cands c₂ 0 1) (cands_of (take (2 * m) y₂)) pairs r) where
+      abbrev ss : List ℕ
+      ss = ids (cands_of w)
 
-          plan_list : pairs_of (take r pairs) ≡ repair_links (between a.dim a.vectors) repair_degree entry ss
-          plan_list =
-              let q = plan_first (between a.dim a.vectors) repair_degree entry (cands_of x) i m dists s in
-              let few : length (filter (λ y. not (eqb y (get_or (cands_of x) i (pair 0 0)).id)) (ids (cands_of x))) ≤ m = rw (same₁, ← start_is) (omega (arith, rest_long)) in
-              let k : span (between a.dim a.vectors) repair_degree m (start ∷ []) others ≡ repair_links (between a.dim a.vectors) repair_degree entry ss = rw (same₁, ← start_is) at (q few) in
-              let n : length (cands_of (take (2 * m) y₂)) ≡ m = rw remaining (cands_length y₂ 0 m) in
-              t.paired
-              ∙ ap (λ (j : ℕ). span_at a.dim a.vectors repair_degree (cands c₂ 0 1) (cands_of (take (2 * m) y₂)) j) n
-              ∙ ap₂ (λ (u v : List ℕ). span (between a.dim a.vectors) repair_degree m u v) (ap ids first) (ap ids remaining ∙ rest_ids) ∙ k
+      plan_list : pairs_of (take r pairs) ≡ repair_links (between a.dim a.vectors) repair_degree entry ss
+      plan_list =
+          let q = plan_first (between a.dim a.vectors) repair_degree entry (cands_of x) i m dists b.nearest in
+          let few : length (filter (λ y. not (eqb y (get_or (cands_of x) i (pair 0 0)).id)) (ids (cands_of x))) ≤ m = rw (same₁, ← start_is) (omega (arith, rest_long)) in
+          let g : span (between a.dim a.vectors) repair_degree m (start ∷ []) others ≡ repair_links (between a.dim a.vectors) repair_degree entry ss = rw (same₁, ← start_is) at (q few) in
+          let n : length (cands_of (take (2 * m) y₂)) ≡ m = rw remaining (cands_length y₂ 0 m) in
+          t.paired
+          ∙ ap (λ (j : ℕ). span_at a.dim a.vectors repair_degree (cands c₂ 0 1) (cands_of (take (2 * m) y₂)) j) n
+          ∙ ap₂ (λ (u v : List ℕ). span (between a.dim a.vectors) repair_degree m u v) (ap ids first) (ap ids remaining ∙ rest_ids) ∙ g
 
-          plan_sources : (P : ℕ → Type 0) → All P ss → All (λ l. P l.source) (pairs_of (take r pairs))
-          plan_sources P h = rw plan_list (repair_sources P (between a.dim a.vectors) repair_degree entry ss h)
+      plan_sources : (P : ℕ → Type 0) → All P ss → All (λ l. P l.source) (pairs_of (take r pairs))
+      plan_sources P h = rw plan_list (repair_sources P (between a.dim a.vectors) repair_degree entry ss h)
 
-          pub plan_pairs : Pairs (length a.marks) (take r pairs)
-          plan_pairs = pairs_sources (λ x. x < length a.marks) (take r pairs) (plan_sources (λ x. x < length a.marks) (all_ids (λ x. x < length a.marks) (cands_of w) inside))
+      pub plan_pairs : Pairs (length a.marks) (take r pairs)
+      plan_pairs = pairs_sources (λ x. x < length a.marks) (take r pairs) (plan_sources (λ x. x < length a.marks) (all_ids (λ x. x < length a.marks) (cands_of w) (inside b.asked)))
 
-          pub plan_done : (b : Store) → b.arrays ≡ a → Whole b → b.capacity ≤ 65536 → {b' : Store} → b' ≡ foldl apply_link b (from_each (pairs_of (take r pairs)) ss)
-              → b' ≡ foldl apply_link b (repair_links (between a.dim a.vectors) repair_degree entry ss)
-          plan_done b _ k few v =
-              v
-              ∙ by_each b (pairs_of (take r pairs)) ss
-              ∙ sources_in_turn b (pairs_of (take r pairs)) ss k few p.once (plan_sources (λ x. elem x ss ≡ true) (each_in ss))
-              ∙ ap (foldl apply_link b) plan_list
+      pub plan_done : (s : Store) → s.arrays ≡ a → Whole s → s.capacity ≤ 65536 → {b' : Store} → b' ≡ foldl apply_link s (from_each (pairs_of (take r pairs)) ss)
+          → b' ≡ foldl apply_link s (repair_links (between a.dim a.vectors) repair_degree entry ss)
+      plan_done s _ z few v =
+          v
+          ∙ by_each s (pairs_of (take r pairs)) ss
+          ∙ sources_in_turn s (pairs_of (take r pairs)) ss z few b.asked.plan.once (plan_sources (λ x. elem x ss ≡ true) (each_in ss))
+          ∙ ap (foldl apply_link s) plan_list
 
 -- ---- plan after plan
 -- the plans below base, in words of their own
@@ -274,9 +285,6 @@ module _ {table : ℕ} {l l₁ : Pruner table} {w : List ℕ} (repair_degree ent
 
   list_is : cands_of list ≡ cands w at (count_at w stats j)
   list_is = whole_part w at (at + 2 * count_at w stats j - at) (count_at w stats j) (omega (arith, bounds)) (omega arith)
-
-  pub plans_bounds : (stats + 4 * j + 2 < length w) × (plans + 640 * j + 2 * count_at w stats j ≤ length w)
-  plans_bounds = (omega (arith, b.counted), bounds)
 
   pub plans_next : Plan l₁.marks.now (take (plans + 640 * j + 2 * count_at w stats j - (plans + 640 * j)) (drop (plans + 640 * j) w)) 0
       (length (take (plans + 640 * j + 2 * count_at w stats j - (plans + 640 * j)) (drop (plans + 640 * j) w)) / 2) × (length (take (plans + 640 * j + 2 * count_at w stats j - (plans + 640 * j)) (drop (plans + 640 * j) w)) ≤ 640)

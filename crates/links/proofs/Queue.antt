@@ -1,7 +1,7 @@
 -- Links applied one after the other leave the same rows as one queue of targets for each source, in any store of rows where a written row is read back
 -- and no other changes; so do the links of one source after those of the other. Assumes nothing.
 use Prim.Native.Nat.{ℕ}
-use mathlib.Core.Bool.{Bool, true, false, cond, not, ◌||◌, true≢false}
+use mathlib.Core.Bool.{Bool, true, false, cond, not, ◌||◌, or-true, true≢false}
 use mathlib.Core.Path.{◌≡◌, refl, ap, sym, ◌∙◌, fun_ext}
 use mathlib.Core.List.{List, [], ◌∷◌, map}
 use mathlib.Core.Logic.{◌⊎◌, inl, inr}
@@ -84,10 +84,6 @@ targets_in : (s : ℕ) (es : List Link) → (targets s es ≡ []) ⊎ (elem s (l
 targets_in s [] = inl refl
 targets_in s (e ∷ es) = go (eqb e.source s) refl (targets_in s es)
   where
-    or-true : (b : Bool) → b || true ≡ true
-    or-true true = refl
-    or-true false = refl
-
     go : (c : Bool) → eqb e.source s ≡ c → (targets s es ≡ []) ⊎ (elem s (link_sources es) ≡ true)
         → (map (λ e. e.target) (cond c (e ∷ filter (λ e. eqb e.source s) es) (filter (λ e. eqb e.source s) es)) ≡ []) ⊎ (elem s (link_sources (e ∷ es)) ≡ true)
     go true k r = inr (rw (eq-eqb s e.source (sym (eqb-true e.source s k))))

@@ -1,7 +1,7 @@
 -- The loops over lists of candidates: the nearest, distances to a slot, distances lowered. Assumes nothing.
 use Prim.Native.Nat.{ℕ, ◌+◌, ◌*◌, ◌/◌, ◌≤◌, ◌<◌, min}
 use mathlib.Core.Bool.{cond}
-use mathlib.Core.Path.{◌≡◌, refl, ap, sym, ◌∙◌, subst}
+use mathlib.Core.Path.{◌≡◌, refl, ap, sym, ◌∙◌}
 use mathlib.Core.List.{List, [], ◌∷◌, ◌++◌, map, map-append}
 use native.Mathlib.Omega.{arith}
 use borrow.Author.Tests.{lt-ltb, le-ltb}
@@ -10,7 +10,7 @@ use lib.ListN.{length, get_or}
 use Rattle.lists.specs.Lists.{least_from}
 use Rattle.vectors.specs.Space.{Measured}
 use Rattle.candidates.specs.Candidates.{Candidate, scored, ids}
-use Rattle.candidates.specs.Inner.Words.{pair, cand, cands, cands_of, put}
+use Rattle.candidates.specs.Inner.Words.{pair, cand, cands, put}
 use Rattle.candidates.proofs.Words.{cands_length, front_snoc, front_push, front_each, front_at, put_length, put_outside}
 use Rattle.candidates.proofs.Scored.{scored_append}
 use Rattle.links.specs.Inner.Planning.{Stored, first_least, Nearest, lower_to}
@@ -47,9 +47,6 @@ module _ (w : List ℕ) (i : ℕ) {best : ℕ} (f : Nearest (cands w 0 i) best) 
   pub nearest_keep : e ≤ d → Nearest (cands w 0 (i + 1)) best
   nearest_keep l = record { within = omega (arith, inside, cands_length w 0 (i + 1)); least = front_at w (i + 1) best (omega (arith, inside)) ∙ sym (turn ∙ rw (le-ltb d e l)) }
 
-pub nearest_done : (w : List ℕ) (i : ℕ) {best : ℕ} → i ≤ length w / 2 → length w / 2 ≤ i → Nearest (cands w 0 i) best → Nearest (cands_of w) best
-nearest_done w i {best} h k f = let e : i ≡ length w / 2 = omega arith in subst (λ (j : ℕ). Nearest (cands w 0 j) best) e f
-
 -- ---- distances to a slot
 -- what the distance asks
 pub stored_ready : {dim : ℕ} {vectors : List ℕ} {y : ℕ} (w : List ℕ) (n : ℕ) → Stored dim vectors y (cands w 0 n) → (k : ℕ) → k < n → {x : ℕ} → x ≡ (cand w (2 * k)).id
@@ -66,12 +63,6 @@ scored_more f w to k {x} {r} g h e m =
     front_push to r x k h
     ∙ rw (g, m.equals, e, front_snoc w k, map-append (λ c. c.id) (cands w 0 k) (cand w (2 * k) ∷ []))
     (sym (scored_append f (ids (cands w 0 k)) ((cand w (2 * k)).id ∷ [])))
-
-pub scored_done : (f : ℕ → ℕ) (w to : List ℕ) (k : ℕ) → length to ≡ length w → k ≤ length w / 2 → length w / 2 ≤ k → cands to 0 k ≡ scored f (ids (cands w 0 k)) → cands_of to ≡ scored f (ids (cands_of w))
-scored_done f w to k l h i g =
-    let u : length to / 2 ≡ k = omega arith in
-    let v : k ≡ length w / 2 = omega arith in
-    ap (λ (j : ℕ). cands to 0 j) u ∙ g ∙ ap (λ (j : ℕ). scored f (ids (cands w 0 j))) v
 
 -- ---- distances lowered: the first k are
 pub record Lowering (f : ℕ → ℕ) (w₀ w : List ℕ) (k : ℕ) : Type 0 where
@@ -101,9 +92,3 @@ module _ {f : ℕ → ℕ} {w₀ w : List ℕ} {k : ℕ} (g : Lowering f w₀ w 
         size = put_length w (2 * k) r x ∙ g.size;
         same = λ i h. put_outside w (2 * k) r x i (λ _. omega arith) ∙ g.same i (omega arith);
       }
-
-  pub lowering_done : k ≤ length w₀ / 2 → length w₀ / 2 ≤ k → cands_of w ≡ map (lower_to f) (cands_of w₀)
-  lowering_done h i =
-      let u : length w / 2 ≡ k = omega (arith, g.size) in
-      let v : k ≡ length w₀ / 2 = omega arith in
-      ap (λ (j : ℕ). cands w 0 j) u ∙ g.list ∙ ap (λ (j : ℕ). map (lower_to f) (cands w₀ 0 j)) v

@@ -145,24 +145,31 @@ span_first d repair_degree con (c ∷ cs) i h n f =
     ap (λ (x : ℕ). links d repair_degree con x ++ span d repair_degree f (con ++ (x ∷ [])) (swap_remove x (c.id ∷ ids cs))) (sym y)
 
 -- the first k of the words c are connected, and those of the words w remain
-module _ {dim : ℕ} {vectors : List ℕ} (c w : List ℕ) (k : ℕ) (p : Planned dim vectors (cands c 0 k) (cands_of w)) (some : 2 ≤ length w) (long : length c ≡ 640)
-    {i : ℕ} (f : Nearest (cands_of w) i) {next : ℕ} (e : next ≡ (cand w (2 * i)).id) where
+-- and the next is the nearest of these
+pub record Next (dim : ℕ) (vectors c w : List ℕ) (k i next : ℕ) : Type 0 where
+  pub planned : Planned dim vectors (cands c 0 k) (cands_of w)
+  pub some : 2 ≤ length w
+  pub long : length c ≡ 640
+  pub nearest : Nearest (cands_of w) i
+  pub read : next ≡ (cand w (2 * i)).id
+
+module _ {dim : ℕ} {vectors c w : List ℕ} {k i next : ℕ} (f : Next dim vectors c w k i next) where
   few : k + length w / 2 ≤ 320
-  few = omega (arith, p.few, cands_length c 0 k, cands_length w 0 (length w / 2))
+  few = omega (arith, f.planned.few, cands_length c 0 k, cands_length w 0 (length w / 2))
 
   within : i < length w / 2
-  within = omega (arith, f.within, cands_length w 0 (length w / 2))
+  within = omega (arith, f.nearest.within, cands_length w 0 (length w / 2))
 
   pub connect_within : (2 * i + 1 < length w) × (2 * k + 1 < length c)
-  connect_within = (omega (arith, within), omega (arith, few))
+  connect_within = (omega (arith, within), omega (arith, few, f.long))
 
   next_inside : next * dim + dim ≤ length vectors
-  next_inside = rw e (front_each (λ c. c.id * dim + dim ≤ length vectors) w (length w / 2) p.remaining_in i within)
+  next_inside = rw f.read (front_each (λ c. c.id * dim + dim ≤ length vectors) w (length w / 2) f.planned.remaining_in i within)
 
   pub connect_near : Stored dim vectors next (cands_of (take (2 * k) c)) × (length (take (2 * k) c) ≤ 640)
   connect_near = (
-    record { short = p.short; own = next_inside; stored = rw (cands_front c k (omega (arith, few))) p.connected_in },
-    omega (arith, few, length-take-le (2 * k) c (omega (arith, few))),
+    record { short = f.planned.short; own = next_inside; stored = rw (cands_front c k (omega (arith, few, f.long))) f.planned.connected_in },
+    omega (arith, few, length-take-le (2 * k) c (omega (arith, few, f.long))),
   )
 
   abbrev con : List ℕ
@@ -195,17 +202,17 @@ module _ {dim : ℕ} {vectors : List ℕ} (c w : List ℕ) (k : ℕ) (p : Planne
   left_swap : swap_remove (cand w (2 * i)).id xs ≡ ids left
   left_swap =
       ap (λ (x : ℕ). swap_remove x xs) (sym (xs_at i within))
-      ∙ swap_is xs last i xs_long (omega (arith, within)) p.distinct
+      ∙ swap_is xs last i xs_long (omega (arith, within)) f.planned.distinct
       ∙ sym left_ids
 
   left_distinct : Distinct (ids left)
-  left_distinct = rw left_ids (distinct_swap xs last i xs_long (omega (arith, within)) p.distinct)
+  left_distinct = rw left_ids (distinct_swap xs last i xs_long (omega (arith, within)) f.planned.distinct)
 
   left_all : (P : Candidate → Type 0) → All P (cands_of w) → All P left
   left_all P h = all_take P last _ (all_set P (cands_of w) i end (front_each P w (length w / 2) h last (omega arith)) h)
 
   con₂ : cands (put c (2 * k) 0 next) 0 (k + 1) ≡ cands c 0 k ++ (pair 0 next ∷ [])
-  con₂ = front_push c 0 next k (omega (arith, few))
+  con₂ = front_push c 0 next k (omega (arith, few, f.long))
 
   module _ (repair_degree : ℕ) {pairs' : List Pair} {r : ℕ} (s : PairedNearest (links (between dim vectors) repair_degree (ids (cands_of (take (2 * k) c))) next) pairs' r)
       {c₂ : List ℕ} (e₂ : c₂ ≡ put c (2 * k) 0 next) {d x : ℕ} (ed : d ≡ (cand w (2 * (length w / 2 - 1))).dist) (ex : x ≡ (cand w (2 * (length w / 2 - 1))).id)
@@ -221,7 +228,7 @@ module _ {dim : ℕ} {vectors : List ℕ} (c w : List ℕ) (k : ℕ) (p : Planne
         ∙ ap (take last) (a ∙ rw (ed, ex))
 
     pub connect_stored : Stored dim vectors next (cands_of (take (2 * (length w / 2 - 1)) w₂))
-    connect_stored = record { short = p.short; own = next_inside; stored = rw rem₂ (left_all (λ c. c.id * dim + dim ≤ length vectors) p.remaining_in) }
+    connect_stored = record { short = f.planned.short; own = next_inside; stored = rw rem₂ (left_all (λ c. c.id * dim + dim ≤ length vectors) f.planned.remaining_in) }
 
     module _ (v : List ℕ) (m : length v ≡ length (take (2 * (length w / 2 - 1)) w₂))
         (l : cands_of v ≡ map (lower_to (λ c. between dim vectors c next)) (cands_of (take (2 * (length w / 2 - 1)) w₂))) where
@@ -247,67 +254,81 @@ module _ {dim : ℕ} {vectors : List ℕ} (c w : List ℕ) (k : ℕ) (p : Planne
       rem_ids = ap ids rem₃ ∙ ids_lowered (λ c. between dim vectors c next) left
 
       some_con : 0 < length con
-      some_con = omega (arith, ids_length (cands c 0 k), p.some)
+      some_con = omega (arith, ids_length (cands c 0 k), f.planned.some)
 
       turn : (n : ℕ) → span (between dim vectors) repair_degree (suc n) con xs
           ≡ links (between dim vectors) repair_degree con next ++ span (between dim vectors) repair_degree n (ids (cands c₂ 0 (k + 1))) (ids (cands w₃ 0 (length w / 2 - 1)))
       turn n =
-          (rw (front_at w (length w / 2) i within) at (span_first (between dim vectors) repair_degree con (cands_of w) i p.least f n))
-          ∙ rw (con_ids, rem_ids, ← left_swap, e)
+          (rw (front_at w (length w / 2) i within) at (span_first (between dim vectors) repair_degree con (cands_of w) i f.planned.least f.nearest n))
+          ∙ rw (con_ids, rem_ids, ← left_swap, f.read)
 
       added : pairs_of (take r pairs') ≡ links (between dim vectors) repair_degree con next
-      added = s.added ∙ ap (λ (cs : List Candidate). links (between dim vectors) repair_degree (ids cs) next) (cands_front c k (omega (arith, few)))
+      added = s.added ∙ ap (λ (cs : List Candidate). links (between dim vectors) repair_degree (ids cs) next) (cands_front c k (omega (arith, few, f.long)))
 
       pub connect_done : Connected dim vectors repair_degree (cands c 0 k) (cands_of w) (cands c₂ 0 (k + 1)) (cands w₃ 0 (length w / 2 - 1)) pairs' r
       connect_done =
           record {
             planned = record {
-              short = p.short;
+              short = f.planned.short;
               some = omega (arith, cands_length c₂ 0 (k + 1));
               few = omega (arith, few, cands_length c₂ 0 (k + 1), cands_length w₃ 0 (length w / 2 - 1));
-              connected_in = rw con₃ (all_append (λ c. c.id * dim + dim ≤ length vectors) (cands c 0 k) (pair 0 next ∷ []) p.connected_in (next_inside, tt));
-              remaining_in = rw rem₃ (all_lowered (λ s. s * dim + dim ≤ length vectors) _ left (left_all (λ c. c.id * dim + dim ≤ length vectors) p.remaining_in));
-              least = rw (rem₃, con_ids) (least_lowered (between dim vectors) con next some_con left (left_all (λ c. c.dist ≡ least_of (between dim vectors c.id) con) p.least));
+              connected_in = rw con₃ (all_append (λ c. c.id * dim + dim ≤ length vectors) (cands c 0 k) (pair 0 next ∷ []) f.planned.connected_in (next_inside, tt));
+              remaining_in = rw rem₃ (all_lowered (λ s. s * dim + dim ≤ length vectors) _ left (left_all (λ c. c.id * dim + dim ≤ length vectors) f.planned.remaining_in));
+              least = rw (rem₃, con_ids) (least_lowered (between dim vectors) con next some_con left (left_all (λ c. c.dist ≡ least_of (between dim vectors c.id) con) f.planned.least));
               distinct = rw rem_ids left_distinct;
             };
             goes = λ n. turn n ∙ ap (λ (l : List Link). l ++ span_at dim vectors repair_degree (cands c₂ 0 (k + 1)) (cands w₃ 0 (length w / 2 - 1)) n) (sym added);
             more = s.more;
           }
 
+-- the pairs from t on
+part_length : (l : List Pair) (t k : ℕ) → t + k ≤ length l → length (take k (drop t l)) ≡ k
+part_length l t k h = grind (arith, common_steps)
+
+part_written : (l : List Pair) (t : ℕ) (v : List Pair) → t ≤ length l → length v ≡ length (take (length l - t) (drop t l)) → length (put_mid t (length l - t) l v) ≡ length l
+part_written l t v h e =
+    let long : length v ≡ length l - t = e ∙ part_length l t (length l - t) (omega arith) in
+    size l t (length l - t) v (omega arith) long
+  where
+    size : (l : List Pair) (t k : ℕ) (v : List Pair) → t + k ≤ length l → length v ≡ k → length (put_mid t k l v) ≡ length l
+    size l t k v h e = search (rules, places)
+
 -- ---- until none remains: of the words c₀ and w₀ i are connected to the first, by t pairs
-pub record Spanning (dim : ℕ) (vectors : List ℕ) (repair_degree : ℕ) (c₀ w₀ : List ℕ) (pairs₀ : List Pair) (c w : List ℕ) (pairs : List Pair) (t i : ℕ) : Type 0 where
+pub record Spanning (dim : ℕ) (vectors : List ℕ) (repair_degree : ℕ) (c₀ w₀ c w : List ℕ) (pairs : List Pair) (t i : ℕ) : Type 0 where
   pub planned : Planned dim vectors (cands c 0 (i + 1)) (cands w 0 (length w₀ / 2 - i))
   pub goes : pairs_of (take t pairs) ++ span_at dim vectors repair_degree (cands c 0 (i + 1)) (cands w 0 (length w₀ / 2 - i)) (length w₀ / 2 - i)
       ≡ span_at dim vectors repair_degree (cands c₀ 0 1) (cands_of w₀) (length w₀ / 2)
   pub few : t ≤ 16 * i
   pub bound : i ≤ length w₀ / 2
-  pub pairs_long : length pairs ≡ length pairs₀
+  pub most : length w₀ / 2 < 320
+  pub pairs_long : length pairs ≡ 5120
   pub size : length w ≡ length w₀
 
-pub spanning_none : (dim : ℕ) (vectors : List ℕ) (repair_degree : ℕ) (c w : List ℕ) (pairs : List Pair) → Planned dim vectors (cands c 0 1) (cands_of w) → Spanning dim vectors repair_degree c w pairs c w pairs 0 0
-spanning_none dim vectors repair_degree c w pairs p =
+pub spanning_none : (dim : ℕ) (vectors : List ℕ) (repair_degree : ℕ) (c w : List ℕ) (pairs : List Pair) → Planned dim vectors (cands c 0 1) (cands_of w) → length pairs ≡ 5120 → Spanning dim vectors repair_degree c w c w pairs 0 0
+spanning_none dim vectors repair_degree c w pairs p l =
     let z : length w / 2 - 0 ≡ length w / 2 = omega arith in
-    record { planned = rw z p; goes = rw z; few = omega arith; bound = omega arith; pairs_long = refl; size = refl }
+    record { planned = rw z p; goes = rw z; few = omega arith; bound = omega arith; most = omega (arith, p.few, cands_length c 0 1, cands_length w 0 (length w / 2)); pairs_long = l; size = refl }
 
-module _ {dim : ℕ} {vectors : List ℕ} {repair_degree : ℕ} {c₀ w₀ : List ℕ} {pairs₀ : List Pair} {c w : List ℕ} {pairs : List Pair} {t i : ℕ} (f : Spanning dim vectors repair_degree c₀ w₀ pairs₀ c w pairs t i) where
+module _ {dim : ℕ} {vectors : List ℕ} {repair_degree : ℕ} {c₀ w₀ c w : List ℕ} {pairs : List Pair} {t i : ℕ} (f : Spanning dim vectors repair_degree c₀ w₀ c w pairs t i) where
   total : i + 1 + (length w₀ / 2 - i) ≤ 320
   total = omega (arith, f.planned.few, cands_length c 0 (i + 1), cands_length w 0 (length w₀ / 2 - i))
 
-  pub spanning_room : length pairs₀ ≡ 5120 → i < length w₀ / 2 → (t + 16 ≤ length pairs) × (2 * (length w₀ / 2 - i) ≤ length w)
-  spanning_room l h = (omega (arith, f.few, f.pairs_long, total), omega (arith, f.size))
+  room : i < length w₀ / 2 → t + 16 ≤ length pairs
+  room h = omega (arith, f.few, f.pairs_long, f.most)
 
   part_is : cands_of (take (2 * (length w₀ / 2 - i)) w) ≡ cands w 0 (length w₀ / 2 - i)
   part_is = cands_front w (length w₀ / 2 - i) (omega (arith, f.size))
 
-  pub spanning_asks : i < length w₀ / 2 → Planned dim vectors (cands c 0 (i + 1)) (cands_of (take (2 * (length w₀ / 2 - i)) w)) × (2 ≤ length (take (2 * (length w₀ / 2 - i)) w))
-  spanning_asks h = (rw part_is f.planned, omega (arith, length-take-le (2 * (length w₀ / 2 - i)) w (omega (arith, f.size))))
+  pub spanning_asks : i < length w₀ / 2 → Planned dim vectors (cands c 0 (i + 1)) (cands_of (take (2 * (length w₀ / 2 - i)) w)) × (2 ≤ length (take (2 * (length w₀ / 2 - i)) w)) × (16 ≤ length (take (length pairs - t) (drop t pairs)))
+  spanning_asks h = (rw part_is f.planned, omega (arith, length-take-le (2 * (length w₀ / 2 - i)) w (omega (arith, f.size))), omega (arith, room h, part_length pairs t (length pairs - t) (omega (arith, room h))))
 
-  pub spanning_more : length pairs₀ ≡ 5120 → i < length w₀ / 2 → {c' : List ℕ} (v : List ℕ) {part : List Pair} {r : ℕ} → length v ≡ length (take (2 * (length w₀ / 2 - i)) w)
+  pub spanning_more : i < length w₀ / 2 → {c' : List ℕ} (v : List ℕ) {part : List Pair} {r : ℕ} → length v ≡ length (take (2 * (length w₀ / 2 - i)) w)
       → Connected dim vectors repair_degree (cands c 0 (i + 1)) (cands_of (take (2 * (length w₀ / 2 - i)) w)) (cands c' 0 (i + 1 + 1)) (cands v 0 (length (take (2 * (length w₀ / 2 - i)) w) / 2 - 1)) part r
-      → length part ≡ length pairs - t → length (put_mid t (length pairs - t) pairs part) ≡ length pairs
-      → Spanning dim vectors repair_degree c₀ w₀ pairs₀ c' (v ++ drop (2 * (length w₀ / 2 - i)) w) (put_mid t (length pairs - t) pairs part) (t + r) (i + 1)
-  spanning_more l h {c'} v {part} {r} m g lp lq =
+      → length part ≡ length (take (length pairs - t) (drop t pairs))
+      → Spanning dim vectors repair_degree c₀ w₀ c' (v ++ drop (2 * (length w₀ / 2 - i)) w) (put_mid t (length pairs - t) pairs part) (t + r) (i + 1)
+  spanning_more h {c'} v {part} {r} m g o =
       let n = length w₀ / 2 in
+      let lp : length part ≡ length pairs - t = o ∙ part_length pairs t (length pairs - t) (omega (arith, room h)) in
       let w' = v ++ drop (2 * (n - i)) w in
       let y : n - i ≡ suc (n - (i + 1)) = omega arith in
       let long : length (take (2 * (n - i)) w) ≡ 2 * (n - i) = length-take-le (2 * (n - i)) w (omega (arith, f.size)) in
@@ -318,7 +339,7 @@ module _ {dim : ℕ} {vectors : List ℕ} {repair_degree : ℕ} {c₀ w₀ : Lis
       let rest = span_at dim vectors repair_degree (cands c' 0 (i + 1 + 1)) (cands w' 0 (n - (i + 1))) (n - (i + 1)) in
       let p : take (t + r) (put_mid t (length pairs - t) pairs part) ≡ take t pairs ++ take r part =
       (rw tl at (take-append-add (take t pairs) (part ++ drop (length pairs - t) (drop t pairs)) r))
-      ∙ ap (λ (ps : List Pair). take t pairs ++ ps) (take-append-le r part (drop (length pairs - t) (drop t pairs)) (omega (arith, next.more, f.few, total, f.pairs_long))) in
+      ∙ ap (λ (ps : List Pair). take t pairs ++ ps) (take-append-le r part (drop (length pairs - t) (drop t pairs)) (omega (arith, next.more, f.few, total, f.pairs_long, lp))) in
       record {
         planned = next.planned;
         goes =
@@ -329,7 +350,8 @@ module _ {dim : ℕ} {vectors : List ℕ} {repair_degree : ℕ} {c₀ w₀ : Lis
             ∙ f.goes;
         few = omega (arith, next.more, f.few);
         bound = omega arith;
-        pairs_long = lq ∙ f.pairs_long;
+        most = f.most;
+        pairs_long = part_written pairs t part (omega (arith, room h)) o ∙ f.pairs_long;
         size = written_length w v 0 (2 * (n - i)) (omega (arith, f.size)) (m ∙ long) ∙ f.size;
       }
 
@@ -344,15 +366,3 @@ module _ {dim : ℕ} {vectors : List ℕ} {repair_degree : ℕ} {c₀ w₀ : Lis
             ∙ ap (λ (j : ℕ). span_at dim vectors repair_degree (cands c₀ 0 1) (cands_of w₀) j) (sym (cands_length w₀ 0 (length w₀ / 2)));
         few = omega (arith, f.few, f.bound, total);
       }
-
--- the pairs from t on
-pub part_length : (l : List Pair) (t k : ℕ) → t + k ≤ length l → length (take k (drop t l)) ≡ k
-part_length l t k h = grind (arith, common_steps)
-
-pub part_written : (l : List Pair) (t : ℕ) (v : List Pair) → t ≤ length l → length v ≡ length (take (length l - t) (drop t l)) → length (put_mid t (length l - t) l v) ≡ length l
-part_written l t v h e =
-    let long : length v ≡ length l - t = e ∙ part_length l t (length l - t) (omega arith) in
-    size l t (length l - t) v (omega arith) long
-  where
-    size : (l : List Pair) (t k : ℕ) (v : List Pair) → t + k ≤ length l → length v ≡ k → length (put_mid t k l v) ≡ length l
-    size l t k v h e = search (rules, places)

@@ -10,6 +10,7 @@ use lib.ListN.{length, length-append, length-take}
 use lib.Seq.{take_all}
 use lib.Dec.{eqb, leb}
 use lib.Ieee.{Float, lt}
+use Rattle.std.proofs.lemmas.Bool.{and_parts}
 use Rattle.lists.specs.Lists.{All, In, filter, elem, foldl, sort_by, distinct_by}
 use Rattle.lists.proofs.All.{by_cases, all_map, each_in, all_append, all_take, all_filter, all_sort, filter_test}
 use Rattle.lists.proofs.Unique.{Unique, all_distinct, unique_snoc, unique_distinct, unique_take, keys_snoc, or_false_l, or_false_r, eqb_flip}
@@ -20,14 +21,6 @@ use Rattle.slots.specs.View.{View}
 use Rattle.prune.specs.Prune.{Selection, passes, considered, prune_scored, prune, thresholds}
 use Rattle.prune.proofs.Passes.{raised_to, raised, scan, scan_again, scan_frame, start, passes_scan, elem_other}
 use Rattle.prune.proofs.Thresholds.{Accepted, Threshold, all_thresholds, threshold_largest, below_largest}
-
-and_l : (a b : Bool) → (a && b) ≡ true → a ≡ true
-and_l true b e = refl
-and_l false b e = e
-
-and_r : (a b : Bool) → (a && b) ≡ true → b ≡ true
-and_r true b e = e
-and_r false b e = absurd (true≢false (sym e))
 
 -- ---- what is selected from
 -- at most 750 candidates, and all where there are no more
@@ -56,7 +49,7 @@ considered_kept live source cs =
     all_considered (λ c. not (eqb c.id source) && live c.id ≡ true) live source cs (filter_test (λ c. not (eqb c.id source) && live c.id) cs)
 
 pub considered_live : (live : ℕ → Bool) (source : ℕ) (cs : List Candidate) → All (λ c. live c.id ≡ true) (considered live source cs)
-considered_live live source cs = all_map _ _ (λ c e. and_r (not (eqb c.id source)) (live c.id) e) (considered live source cs) (considered_kept live source cs)
+considered_live live source cs = all_map _ _ (λ c e. (and_parts (not (eqb c.id source)) (live c.id) e).1) (considered live source cs) (considered_kept live source cs)
 
 pub considered_unique : (live : ℕ → Bool) (source : ℕ) (cs : List Candidate) → Unique (ids (considered live source cs))
 unfolding considered
@@ -159,10 +152,10 @@ module _ (degree : ℕ) (alpha : Float) (live : ℕ → Bool) (d : ℕ → ℕ �
   kept = all_passes degree alpha d (λ c. not (eqb c.id source) && live c.id ≡ true) (considered live source cs) (considered_kept live source cs)
 
   pub chosen_live : All (λ c. live c.id ≡ true) (prune_scored degree alpha live d source cs)
-  chosen_live = all_map _ _ (λ c e. and_r (not (eqb c.id source)) (live c.id) e) (prune_scored degree alpha live d source cs) kept
+  chosen_live = all_map _ _ (λ c e. (and_parts (not (eqb c.id source)) (live c.id) e).1) (prune_scored degree alpha live d source cs) kept
 
   pub chosen_not_source : All (λ c. eqb c.id source ≡ false) (prune_scored degree alpha live d source cs)
-  chosen_not_source = all_map _ _ (λ c e. not-true (eqb c.id source) (and_l (not (eqb c.id source)) (live c.id) e)) (prune_scored degree alpha live d source cs) kept
+  chosen_not_source = all_map _ _ (λ c e. not-true (eqb c.id source) (and_parts (not (eqb c.id source)) (live c.id) e).0) (prune_scored degree alpha live d source cs) kept
 
   pub chosen_few : length (prune_scored degree alpha live d source cs) ≤ degree
   unfolding prune_scored

@@ -51,9 +51,6 @@ zero_is = refl
 as_many : (n m : ℕ) (z : Float) → m ≤ n → length (take m (replicate n z)) ≡ m
 as_many n m z h = ap length (take-replicate m n z h) ∙ length-replicate m z
 
-pub given_for : {space : Space} {w : List ℕ} {m : ℕ} (most : ℕ) (z : Float) → m ≤ most → Given space w m → Given space w (length (take m (replicate most z)))
-given_for {m = m} most z h g = rw (as_many most m z h) g
-
 pub picked : {degree : ℕ} {alpha : Float} {d : ℕ → ℕ → ℕ} (w : List ℕ) (n : ℕ) {r : ℕ} {w' : List ℕ} (factors : List Float) → factors ≡ replicate n zero_factor
     → Selected degree alpha d factors (cands w 0 (length factors)) r w' → Picked degree alpha d (cands w 0 n) r w'
 unfolding passes

@@ -29,9 +29,6 @@ same_then f g = record { alpha = g.alpha ∙ f.alpha; kept = g.kept ∙ f.kept; 
 
 -- ---- one candidate
 module _ (alpha : Float) (d : ℕ → ℕ → ℕ) (t : Float) (i : ℕ) (factors : List Float) (w : List ℕ) (m : ℕ) where
-  pub considered_over : (c : List Candidate) → lt t (get_or factors i nan) ≡ true → Considered alpha d c t i factors w m factors w m
-  considered_over c e = record { does = rw e; more = omega arith; sizes = refl }
-
   pub considered_taken : (l : List ℕ) (n : ℕ) {factors' : List Float} {dist id : ℕ} → lt t (get_or factors i nan) ≡ false → i < n → m < length w / 2
       → length factors' ≡ length factors → factors' ≡ settled alpha d (cands l 0 n) i factors → dist ≡ (cand l (2 * i)).dist → id ≡ (cand l (2 * i)).id
       → Considered alpha d (cands l 0 n) t i factors w m factors' (put w (2 * m) dist id) (m + 1)

@@ -11,14 +11,12 @@ use lib.Seq.{set-get_or}
 use lib.Ieee.{Float, nan, lt}
 use Rattle.lists.specs.Lists.{foldl, range}
 use Rattle.vectors.specs.Space.{Measured}
-use Rattle.vectors.specs.Lent.{HasVector}
-use Rattle.vectors.specs.declared.Space.{Space}
 use Rattle.candidates.specs.Candidates.{Candidate}
 use Rattle.candidates.specs.Quotient.{largest, fmax, quotient}
 use Rattle.candidates.specs.Inner.Words.{cand, cands}
 use Rattle.candidates.proofs.Words.{front_at, cands_length}
 use Rattle.prune.specs.Prune.{raise}
-use Rattle.prune.specs.Inner.Selecting.{raised_factor, settled, Given}
+use Rattle.prune.specs.Inner.Selecting.{raised_factor, settled}
 
 -- ---- one factor
 pub raised_over : (alpha : Float) (own pair : ℕ) (f : Float) → lt alpha f ≡ true → f ≡ raised_factor alpha own pair f
@@ -35,9 +33,6 @@ module _ (alpha : Float) (d : ℕ → ℕ → ℕ) (w : List ℕ) (n : ℕ) (x :
   pub record Raising (factors₀ : List Float) (j₀ : ℕ) (factors : List Float) (j : ℕ) : Type 0 where
     pub size : length factors ≡ n
     pub goes : foldl (raise 0 alpha d (cands w 0 n) x) factors (range j (n - j)) ≡ foldl (raise 0 alpha d (cands w 0 n) x) factors₀ (range j₀ (n - j₀))
-
-  pub raising_none : (factors : List Float) (j : ℕ) → length factors ≡ n → Raising factors j factors j
-  raising_none factors j e = record { size = e; goes = refl }
 
   one : (factors : List Float) (j : ℕ) → j < n → length factors ≡ n
       → raise 0 alpha d (cands w 0 n) x factors j
@@ -66,14 +61,3 @@ unfolding settled
 raising_done {alpha} {d} {w} {n} {i} factors₀ {factors} {j} h l f =
     let k : n - j ≡ 0 = omega arith in
     rw (front_at w n i h, cands_length w 0 n, ← add-one i) (rw k at f.goes)
-
--- ---- what the candidates are asked
-module _ {space : Space} {w : List ℕ} {n : ℕ} (g : Given space w n) {k : ℕ} (h : k < n) where
-  pub given_small : {own : ℕ} → own ≡ (cand w (2 * k)).dist → own ≤ 16777216
-  given_small e = rw e (g.small k h)
-
-  pub given_stored : {s : ℕ} → s ≡ (cand w (2 * k)).id → HasVector space s
-  given_stored e = rw e (g.stored k h)
-
-  pub given_numbered : {s : ℕ} → s ≡ (cand w (2 * k)).id → s < 65536
-  given_numbered e = rw e (g.numbered k h)

@@ -78,10 +78,6 @@ two_positive : T (positive (f32 2))
 unfolding f32 of_int
 two_positive = tt
 
-growth_positive : T (positive growth)
-unfolding growth of_bits
-growth_positive = tt
-
 -- the constant is the decimal 1.2, rounded once
 pub growth_value : growth ≡ round binary32 false 12 10
 unfolding growth of_bits round

@@ -70,7 +70,7 @@ put_below (suc k) (suc n) v x l h f =
     omega (arith, put_next k v x, four_times n)
 
 -- ---- as the code puts it: a shift cuts what is above 32 bits
-module _ (k v x : ℕ) {o : ℕ} (h : k < 16) (l : v < 4) (f : x < 2 ^ 32) (e : o ≡ field k x) where
+module _ {k v x o : ℕ} (h : (k < 16) × (v < 4)) (f : x < 2 ^ 32) (e : o ≡ field k x) where
   old_shifted : (o * 2 ^ (2 * k)) % 2 ^ 32 ≡ field k x * 2 ^ (2 * k)
   old_shifted = ap (λ (n : ℕ). (n * 2 ^ (2 * k)) % 2 ^ 32) e ∙ mod-eq_of_lt (lt_of_le_of_lt (field_within k x) f)
 
@@ -79,15 +79,15 @@ module _ (k v x : ℕ) {o : ℕ} (h : k < 16) (l : v < 4) (f : x < 2 ^ 32) (e : 
 
   pub put_shifted : x - (o * 2 ^ (2 * k)) % 2 ^ 32 + (v * 2 ^ (2 * k)) % 2 ^ 32 ≡ put_field k v x
   unfolding put_field
-  put_shifted = ap₂ (λ (m n : ℕ). x - m + n) old_shifted (shl_exact 2 (2 * k) 32 l (omega arith))
+  put_shifted = ap₂ (λ (m n : ℕ). x - m + n) old_shifted (shl_exact 2 (2 * k) 32 h.1 (omega (arith, h.0)))
 
   pub put_fits : x - (o * 2 ^ (2 * k)) % 2 ^ 32 + (v * 2 ^ (2 * k)) % 2 ^ 32 < 2 ^ 32
-  put_fits = rw put_shifted (put_below k 16 v x h l f)
+  put_fits = rw put_shifted (put_below k 16 v x h.0 h.1 f)
 
 -- where the field is 0, v is added
 module _ (k v x : ℕ) (h : k < 16) (l : v < 4) (f : x < 2 ^ 32) (e : field k x ≡ 0) where
   pub add_shifted : x + (v * 2 ^ (2 * k)) % 2 ^ 32 ≡ put_field k v x
-  add_shifted = omega (arith, put_shifted k v x h l f (sym e))
+  add_shifted = omega (arith, put_shifted (h, l) f (sym e))
 
   pub add_fits : x + (v * 2 ^ (2 * k)) % 2 ^ 32 < 2 ^ 32
-  add_fits = omega (arith, put_fits k v x h l f (sym e))
+  add_fits = omega (arith, put_fits (h, l) f (sym e))

@@ -1,11 +1,7 @@
 -- All factors are 0.
-use Rattle.std.proofs.Common.{rules}
 use Rattle.std.proofs.lemmas.List.{take-replicate}
-use Rattle.prune.proofs.Scored.{given_for, picked}
+use Rattle.prune.proofs.Scored.{picked}
 use Rattle.prune.proofs.pick.Goals as goal
-
-pub run_passes-requires : goal.run_passes-requires
-run_passes-requires g c = (search rules, given_for 750 _ c.requires.1 c.requires.0)
 
 pub returns : goal.returns
 returns g c = (picked c.args.list.now _ _ (take-replicate _ 750 _ c.requires.1) c.run_passes.ensures.0, c.run_passes.ensures.1)

@@ -1,15 +1,7 @@
 use Rattle.std.proofs.Common.{rules}
 use mathlib.Core.Path.{refl}
-use Rattle.deletion.proofs.Acting.{settled, made_plans, made_area, repaired_finish, repaired}
+use Rattle.deletion.proofs.Acting.{settled, repaired_finish, repaired}
 use Rattle.deletion.proofs.acts.repair_rows.Goals as goal
-
-pub link_rows-requires : goal.link_rows-requires
-link_rows-requires c =
-    let m = rw c.read-read.ensures at c.make_plans.ensures in
-    record {
-      together = c.requires.together;
-      linkable = (c.requires.repairable.makes.entry_in, made_plans c.requires.together c.requires.repairable m, made_area c.requires.together c.requires.repairable m, c.requires.repairable.makes.degree_most);
-    }
 
 pub finish_all-requires : goal.finish_all-requires
 finish_all-requires c =

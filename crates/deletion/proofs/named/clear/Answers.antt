@@ -1,8 +1,5 @@
-use Rattle.deletion.proofs.Naming.{clearing_none, clearing_inside, clearing_more, clearing_done}
+use Rattle.deletion.proofs.Naming.{clearing_inside, clearing_more, clearing_done}
 use Rattle.deletion.proofs.named.clear.Goals as goal
-
-pub loop-k-init : goal.loop-k-init
-loop-k-init c = clearing_none _ _
 
 pub kill-requires : goal.kill-requires
 kill-requires c = clearing_inside c.loop-k.invariant c.requires c.loop-k-test.true c.id_at.ensures

@@ -1,6 +1,6 @@
 use mathlib.Core.Path.{sym, ◌∙◌}
 use native.Mathlib.Omega.{arith}
-use Rattle.deletion.proofs.Naming.{gathering_none, gathering_more, gathering_skip, gathering_done}
+use Rattle.deletion.proofs.Naming.{gathering_none, gathering_more, gathering_skip}
 use Rattle.deletion.proofs.named.gather.Goals as goal
 use Rattle.deletion.proofs.named.gather.Goals.{then-is_valid, else-is_valid}
 
@@ -13,6 +13,3 @@ loop-id-preserved c =
       | then-is_valid w ↦ rw (w.list-is, w.n-is, w.put.ensures) (gathering_more c.loop-id.invariant (omega arith) (sym c.is_valid.ensures ∙ w.if-is_valid.true) c.requires)
       | else-is_valid w ↦ rw (w.list-is, w.n-is) (gathering_skip c.loop-id.invariant (omega arith) (sym c.is_valid.ensures ∙ w.if-is_valid.false))
     ]
-
-pub returns : goal.returns
-returns c = gathering_done c.loop-id.invariant (omega arith)

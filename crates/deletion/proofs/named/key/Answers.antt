@@ -1,5 +1,4 @@
-use native.Mathlib.Omega.{arith}
-use Rattle.deletion.proofs.Naming.{keying_none, keying_more, keying_done}
+use Rattle.deletion.proofs.Naming.{keying_none, keying_more}
 use Rattle.deletion.proofs.named.key.Goals as goal
 
 pub loop-k-init : goal.loop-k-init
@@ -7,6 +6,3 @@ loop-k-init c = keying_none _
 
 pub loop-k-preserved : goal.loop-k-preserved
 loop-k-preserved c = rw c.put.ensures (keying_more c.loop-k.invariant c.loop-k-test.true c.id_at-id.ensures)
-
-pub returns : goal.returns
-returns c = keying_done c.loop-k.invariant (omega (arith, c.loop-k.auto.k-end, c.loop-k-test.false))

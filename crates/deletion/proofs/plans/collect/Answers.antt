@@ -1,40 +1,36 @@
-use Prim.Native.Nat.{◌+◌, ◌*◌}
+use Prim.Native.Nat.{◌+◌, ◌-◌, ◌*◌, ◌≤◌}
 use mathlib.Core.Path.{sym}
 use native.Mathlib.Omega.{arith}
+use lib.ListN.{length}
+use borrow.Rule.Slice.PartMut.{put_mid}
 use Rattle.std.proofs.lemmas.List.{length-take-le}
-use Rattle.deletion.proofs.Collecting.{collect_vector, collect_ready, collect_rows, collect_few, collect_in, collected}
+use Rattle.deletion.proofs.Collecting.{collect_rows, collect_fits, collected}
+use Rattle.deletion.proofs.plans.collect.Goals.{After-recover-q}
 use Rattle.deletion.proofs.plans.collect.Goals as goal
-
-pub vector-query-requires : goal.vector-query-requires
-vector-query-requires c = collect_vector c.requires c.args.graph.now.bytes
-
-pub search_pool-n-requires : goal.search_pool-n-requires
-search_pool-n-requires c = collect_ready c.requires c.vector-query.ensures.bytes c.args.graph.now.bytes
 
 pub recover-q-requires : goal.recover-q-requires
 recover-q-requires c =
     let parts = c.split_at_mut-found.ensures in
     rw (parts.front, parts.back) (collect_rows c.requires c.vector-query.ensures.bytes c.search_pool-n.ensures c.args.graph.now.shape)
 
-pub overflow_add-r : goal.overflow_add-r
-overflow_add-r c =
+-- the row and those recovered fit in the words of a plan
+fits : (c : After-recover-q)
+    → (c.args.r + c.recover-q.result ≤ 320) × (2 * (c.args.r + c.recover-q.result) ≤ length (put_mid (2 * c.args.r) (640 - 2 * c.args.r) c.split_at_mut-found.result.1.now c.recover-q.new.to))
+fits c =
     let parts = c.split_at_mut-found.ensures in
-    omega (arith, collect_few c.requires c.vector-query.ensures.bytes c.search_pool-n.ensures _ (rw parts.back at c.recover-q.auto.to) (rw parts.front at c.recover-q.ensures))
+    rw parts.back (collect_fits c.requires c.vector-query.ensures.bytes c.search_pool-n.ensures _ (rw parts.back at c.recover-q.auto.to) (rw parts.front at c.recover-q.ensures))
+
+pub overflow_add-r : goal.overflow_add-r
+overflow_add-r c = omega (arith, (fits (goal.at.overflow_add-r c).After-recover-q).0)
 
 pub overflow_mul-r-2 : goal.overflow_mul-r-2
-overflow_mul-r-2 c =
-    let parts = c.split_at_mut-found.ensures in
-    omega (arith, collect_few c.requires c.vector-query.ensures.bytes c.search_pool-n.ensures _ (rw parts.back at c.recover-q.auto.to) (rw parts.front at c.recover-q.ensures))
+overflow_mul-r-2 c = omega (arith, (fits (goal.at.overflow_mul-r-2 c).After-recover-q).0)
 
 pub slice_bounds-sort_set-end : goal.slice_bounds-sort_set-end
-slice_bounds-sort_set-end c =
-    let parts = c.split_at_mut-found.ensures in
-    rw parts.back (collect_in c.requires c.vector-query.ensures.bytes c.search_pool-n.ensures _ (rw parts.back at c.recover-q.auto.to) (rw parts.front at c.recover-q.ensures))
+slice_bounds-sort_set-end c = (fits (goal.at.slice_bounds-sort_set-end c).After-recover-q).1
 
 pub slice_bounds-sort_set-end-2 : goal.slice_bounds-sort_set-end-2
-slice_bounds-sort_set-end-2 c =
-    let parts = c.split_at_mut-found.ensures in
-    rw parts.back (sym (length-take-le (2 * (c.args.r + c.recover-q.result)) _ (collect_in c.requires c.vector-query.ensures.bytes c.search_pool-n.ensures _ (rw parts.back at c.recover-q.auto.to) (rw parts.front at c.recover-q.ensures))))
+slice_bounds-sort_set-end-2 c = sym (length-take-le (2 * (c.args.r + c.recover-q.result)) _ (fits (goal.at.slice_bounds-sort_set-end-2 c).After-recover-q).1)
 
 pub returns : goal.returns
 returns c =

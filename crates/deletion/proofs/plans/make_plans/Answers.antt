@@ -1,16 +1,12 @@
-use mathlib.Core.Path.{◌∙◌}
 use native.Mathlib.Omega.{arith}
-use Rattle.deletion.proofs.Making.{slot_part, making_collects, making_room, making_more, making_done}
+use Rattle.deletion.proofs.Making.{making_collects, making_more, making_done}
 use Rattle.deletion.proofs.plans.make_plans.Goals as goal
 
 pub collect-c-requires : goal.collect-c-requires
-collect-c-requires c = making_collects c.loop-k.invariant c.requires (omega arith) (c.id_at-s.ensures ∙ slot_part c.loop-k.scratch c.args.at.from c.loop-k.k (omega (arith, c.requires.table, c.loop-k.invariant.size)))
-
-pub put_counts-requires : goal.put_counts-requires
-put_counts-requires c = (making_room c.loop-k.invariant c.requires (omega arith) (c.id_at-s.ensures ∙ slot_part c.loop-k.scratch c.args.at.from c.loop-k.k (omega (arith, c.requires.table, c.loop-k.invariant.size))) c.collect-c.ensures, omega (arith, c.collect-c.ensures.found), omega (arith, c.collect-c.ensures.plan.few), omega (arith, c.attempted-n.ensures.few))
+collect-c-requires c = making_collects c.loop-k.invariant c.requires (omega arith) c.id_at-s.ensures
 
 pub loop-k-preserved : goal.loop-k-preserved
-loop-k-preserved c = making_more c.loop-k.invariant c.requires (omega arith) (c.id_at-s.ensures ∙ slot_part c.loop-k.scratch c.args.at.from c.loop-k.k (omega (arith, c.requires.table, c.loop-k.invariant.size))) c.collect-c.ensures c.attempted-n.ensures c.put_counts.ensures
+loop-k-preserved c = making_more c.loop-k.invariant c.requires (omega arith) c.id_at-s.ensures c.collect-c.ensures c.attempted-n.ensures c.put_counts.ensures
 
 pub returns : goal.returns
 returns c = making_done c.loop-k.invariant c.requires (omega arith)

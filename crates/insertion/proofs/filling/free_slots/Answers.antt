@@ -1,13 +1,7 @@
-use Rattle.insertion.proofs.Filled.{gathering_none, gathering_live, gathering_free, gathering_full, gathering_done}
+use Rattle.insertion.proofs.Filled.{gathering_live, gathering_free}
 use mathlib.Core.Path.{sym, ◌∙◌}
 use Rattle.insertion.proofs.filling.free_slots.Goals as goal
 use Rattle.insertion.proofs.filling.free_slots.Goals.{then-not-is_valid, else-not-is_valid}
-
-pub loop-s-init : goal.loop-s-init
-loop-s-init c = gathering_none _ _ _
-
-pub returns-then-n-count : goal.returns-then-n-count
-returns-then-n-count c = gathering_full c.loop-s.invariant c.requires.0 c.if-n-count.true
 
 pub loop-s-preserved : goal.loop-s-preserved
 loop-s-preserved c =
@@ -15,6 +9,3 @@ loop-s-preserved c =
       | then-not-is_valid w ↦ rw (w.slots-is, w.n-is) (gathering_free c.loop-s.invariant c.requires.0 c.loop-s-test.true (sym c.is_valid.ensures ∙ w.if-not-is_valid.true) c.if-n-count.false)
       | else-not-is_valid w ↦ rw (w.slots-is, w.n-is) (gathering_live c.loop-s.invariant c.requires.0 c.loop-s-test.true (sym c.is_valid.ensures ∙ w.if-not-is_valid.false))
     ]
-
-pub returns : goal.returns
-returns c = gathering_done c.loop-s.invariant c.requires.0 c.loop-s-test.false

@@ -1,11 +1,8 @@
-use mathlib.Core.Path.{refl, ◌∙◌}
+use mathlib.Core.Path.{◌∙◌}
 use native.Mathlib.Omega.{arith}
-use Rattle.links.proofs.Linking.{linked_none, linked_marks}
+use Rattle.links.proofs.Linking.{linked_marks}
 use Rattle.links.proofs.Planning.{plans_next, plans_more}
 use Rattle.links.proofs.plan.apply_all.Goals as goal
-
-pub loop-j-init : goal.loop-j-init
-loop-j-init c = (linked_none _, refl)
 
 pub apply_plan-requires : goal.apply_plan-requires
 apply_plan-requires c =

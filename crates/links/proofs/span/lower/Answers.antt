@@ -1,4 +1,4 @@
-use Rattle.links.proofs.Scoring.{lowering_none, stored_ready, lowering_id, lowering_more, lowering_done}
+use Rattle.links.proofs.Scoring.{lowering_none, stored_ready, lowering_id, lowering_more}
 use Rattle.links.proofs.span.lower.Goals as goal
 
 pub loop-k-init : goal.loop-k-init
@@ -9,6 +9,3 @@ slot_distance-dist-requires c = stored_ready _ _ c.requires _ c.loop-k-test.true
 
 pub loop-k-preserved : goal.loop-k-preserved
 loop-k-preserved c = rw c.put.ensures (lowering_more c.loop-k.invariant c.loop-k-test.true c.id_at-x.ensures c.dist_at-was.ensures c.slot_distance-dist.ensures c.min.ensures)
-
-pub returns : goal.returns
-returns c = lowering_done c.loop-k.invariant c.loop-k.auto.k-end c.loop-k-test.false

@@ -1,6 +1,6 @@
 use native.Mathlib.Omega.{arith}
 use Rattle.candidates.proofs.Words.{cands_length}
-use Rattle.links.proofs.Scoring.{nearest_first, nearest_take, nearest_keep, nearest_done}
+use Rattle.links.proofs.Scoring.{nearest_first, nearest_take, nearest_keep}
 use Rattle.links.proofs.span.nearest.Goals as goal
 use Rattle.links.proofs.span.nearest.Goals.{then-dist_at, else-dist_at}
 
@@ -16,6 +16,3 @@ loop-i-preserved c =
       | then-dist_at w ↦ rw w.best-is (nearest_take _ _ c.loop-i.invariant c.dist_at.ensures c.dist_at-in-loop-i.ensures w.if-dist_at.true)
       | else-dist_at w ↦ rw w.best-is (nearest_keep _ _ c.loop-i.invariant c.dist_at.ensures c.dist_at-in-loop-i.ensures w.if-dist_at.false)
     ]
-
-pub returns : goal.returns
-returns c = nearest_done _ _ (omega arith) c.loop-i-test.false c.loop-i.invariant

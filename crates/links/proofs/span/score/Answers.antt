@@ -1,6 +1,5 @@
-use mathlib.Core.Path.{◌∙◌}
 use native.Mathlib.Omega.{arith}
-use Rattle.links.proofs.Scoring.{scored_none, stored_ready, scored_more, scored_done}
+use Rattle.links.proofs.Scoring.{scored_none, stored_ready, scored_more}
 use Rattle.links.proofs.span.score.Goals as goal
 
 pub loop-k-init : goal.loop-k-init
@@ -11,6 +10,3 @@ slot_distance-dist-requires c = stored_ready _ _ c.requires.0 _ c.loop-k-test.tr
 
 pub loop-k-preserved : goal.loop-k-preserved
 loop-k-preserved c = rw c.put.ensures (scored_more _ _ _ _ c.loop-k.invariant (omega arith) c.id_at-x.ensures c.slot_distance-dist.ensures)
-
-pub returns : goal.returns
-returns c = scored_done _ _ _ _ (c.loop-k.auto.to ∙ c.requires.1) c.loop-k.auto.k-end c.loop-k-test.false c.loop-k.invariant

@@ -1,10 +1,7 @@
 -- Either nothing changes, or the candidate is taken and written behind those taken before.
 use mathlib.Core.Path.{◌∙◌}
-use Rattle.prune.proofs.Selecting.{same_none, considered_over, considered_taken}
+use Rattle.prune.proofs.Selecting.{considered_taken}
 use Rattle.prune.proofs.Selector.consider.Goals as goal
-
-pub returns-then-self-i : goal.returns-then-self-i
-returns-then-self-i g c = (considered_over _ _ _ _ _ _ _ _ c.if-self-i.true, same_none _)
 
 pub returns : goal.returns
 returns g c =

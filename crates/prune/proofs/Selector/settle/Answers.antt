@@ -1,22 +1,7 @@
-use Rattle.std.proofs.Common.{refl, ◌∙◌, rules}
+use Rattle.std.proofs.Common.{refl, ◌∙◌}
 use Rattle.candidates.specs.Quotient.{largest}
-use Rattle.prune.proofs.Settling.{raising_more, raising_done, given_small, given_stored, given_numbered}
+use Rattle.prune.proofs.Settling.{raising_more, raising_done}
 use Rattle.prune.proofs.Selector.settle.Goals as goal
-
-pub raised-requires : goal.raised-requires
-raised-requires g c =
-    let sized = c.args.self.now.kept.now.sized in
-    let given = c.args.self.now.given in (
-      search rules,
-      rw c.loop-j.invariant.1 (
-        given_small given c.loop-j-test.true c.dist_at-own.ensures,
-        given_stored given c.loop-j-test.true c.id_at-x.ensures,
-        given_stored given c.requires c.id_at-y.ensures,
-        given.short,
-        given_numbered given c.loop-j-test.true c.id_at-x.ensures,
-        given_numbered given c.requires c.id_at-y.ensures,
-      ),
-    )
 
 pub loop-j-preserved : goal.loop-j-preserved
 loop-j-preserved g c = (raising_more c.loop-j.invariant.0 c.loop-j-test.true c.dist_at-own.ensures c.id_at-x.ensures c.id_at-y.ensures (rw c.loop-j.invariant.1 at c.raised.ensures.0), c.raised.ensures.1 ∙ c.loop-j.invariant.1)
