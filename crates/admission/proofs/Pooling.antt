@@ -14,13 +14,11 @@ use Rattle.lists.specs.Lists.{filter, put_front}
 use Rattle.lists.proofs.Filtered.{count_cons}
 use Rattle.lists.proofs.Front.{front_snoc}
 use Rattle.vectors.specs.Space.{slot_distance, space}
-use Rattle.vectors.specs.declared.Space as lent
 use Rattle.slots.specs.Scratch.{size_answer}
 use Rattle.slots.specs.View.{emptied}
 use Rattle.slots.specs.Store.{Store, store_view}
-use Rattle.landmarks.specs.declared.sample.Free.{Free}
 use Rattle.landmarks.specs.Inner.Samples.{remains}
-use Rattle.landmarks.specs.Inner.Choices.{landmarks_by, Selectable, Fronted}
+use Rattle.landmarks.specs.Inner.Choices.{landmarks_by, Fronted}
 use Rattle.landmarks.proofs.Selecting.{landmarks_few}
 use Rattle.guard.specs.Guard.{config, landmark_pool}
 use Rattle.admission.specs.Inner.Pools.{guard_words, Poolable, Pooled}
@@ -35,19 +33,6 @@ share_enough capacity h = omega arith
 module _ {dim : ℕ} {vectors marks : List ℕ} {entry count multiplier sample : ℕ} {pool w : List ℕ} (f : Poolable dim vectors marks entry count multiplier sample pool w) where
   pub wanted_most : count * multiplier ≤ 1024
   wanted_most = mul-le-mul f.count_most f.multiplier_most
-
-  pub pool_selectable : {space : lent.Space} → space.dim ≡ dim → space.vectors.now ≡ vectors → {o : Free} → o.marks.now ≡ marks → o.entry ≡ entry → o.kept.now ≡ [] → {wanted : ℕ}
-      → wanted ≡ count * multiplier → Selectable space o wanted sample pool w
-  pool_selectable d v m s k e =
-      record {
-        bytes = rw (d, v, m) f.bytes;
-        few = rw m f.few;
-        references = rw (m, s, k) (f.entry_inside, tt);
-        wanted_most = omega (arith, e, wanted_most);
-        sample_some = f.sample_some;
-        list_long = omega (arith, e, wanted_most, f.pool_long);
-        room = rw m f.room;
-      }
 
   some_wanted : max count (count * multiplier) ≡ count * multiplier
   some_wanted = go multiplier f.multiplier_some
@@ -140,9 +125,6 @@ module _ {p : ℕ → Bool} {pool : List ℕ} {count : ℕ} {l₀ l : List ℕ} 
 
   done : f.taken ≡ take count (filter p pool) → Fronted (take count (filter p pool)) l₀ l m
   done e = rw (← e) (record { list = f.list; count = f.many })
-
-  pub keeping_full : m ≡ count → Fronted (take count (filter p pool)) l₀ l m
-  keeping_full e = let z : count - m ≡ 0 = omega arith in done (rw (z, append-nil) at f.goes)
 
   pub keeping_done : length pool ≤ i → Fronted (take count (filter p pool)) l₀ l m
   keeping_done h = done (rw (take-nil (count - m), append-nil) at (rw (drop_of_length-le pool h) at f.goes))

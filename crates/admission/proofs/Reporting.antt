@@ -25,8 +25,8 @@ use Rattle.landmarks.proofs.Selecting.{landmarks_few, landmarks_inside}
 use Rattle.guard.specs.Guard.{Config, config, Report, no_landmarks, stays, residual_entry, select_landmarks, reaches, probe, assess_slots, assess_delete_admission}
 use Rattle.guard.specs.Lent.{entry_of}
 use Rattle.admission.specs.Inner.Pools.{Entered}
-use Rattle.admission.specs.Inner.Trials.{meets, Walks, Tried}
-use Rattle.admission.specs.Inner.Reports.{kept_by, others_by, probe_by, Reports, Assessable, Checkable, Checks, Assessed}
+use Rattle.admission.specs.Inner.Trials.{meets, Tried}
+use Rattle.admission.specs.Inner.Reports.{kept_by, others_by, probe_by, Reports, Checkable, Checks, Assessed}
 use Rattle.admission.specs.declared.report.Report as Value
 use Rattle.admission.proofs.Seen.{stays_same, selects_same, reaches_same, reaches_all}
 use Rattle.admission.proofs.Entering.{remains_live, remains_inside}
@@ -94,9 +94,6 @@ module _ {slots : ℕ} {stays : ℕ → Bool} {select : ℕ → List ℕ → Lis
   pub checked_front : take n l' ≡ chosen
   checked_front = rw (g.many, g.list) (take-append_seam chosen (drop (length chosen) l))
 
-  pub checked_inside : All (λ s. s < slots) (take n l')
-  checked_inside = rw checked_front g.inside
-
   -- the numbers of a report
   pub probed : {before after : ℕ → Bool} {lost lost' : List ℕ} {b r o start n' more' : ℕ} {admitted : Bool} → Tried before after (take n l') lost lost' b r o
       → admitted ≡ (ltb 0 b && eqb o 0) → n' ≡ n → more' ≡ more
@@ -125,14 +122,6 @@ pub names : (stays before after : ℕ → Bool) (select : ℕ → List ℕ → L
 unfolding probe_by
 names stays before after select count start pool requested f e =
     rw e (record { admits = f.admits; requests = refl; enters = f.enters; checks = f.checks; meets_before = f.meets_before; meets_after = f.meets_after; loses = f.loses; adds = f.adds; checked_list = f.checked_list; lost_list = f.lost_list })
-
--- ---- what is asked
-module _ {a : Arrays} {count sample beam : ℕ} {pool : List ℕ} {pooled : ℕ} {ids checked lost w : List ℕ} (f : Assessable a count sample beam pool pooled ids checked lost w) where
-  pub assess_checkable : {start : ℕ} → start < length a.marks → Checkable (length a.marks) start count sample checked w
-  assess_checkable h = record { entry_inside = h; count_most = f.count_most; sample_some = f.sample_some; checked_long = f.checked_long; room = f.room }
-
-  pub assess_walks : {start : ℕ} {w' : List ℕ} → start < length a.marks → length w' ≡ length w → Walks a start beam w'
-  assess_walks h e = record { entry_inside = h; beam_most = f.beam_most; room = omega (arith, f.room, e) }
 
 -- ---- the report of the view
 none_named : (v : View) (c : Config) (pool deleted : List ℕ) → length deleted ≡ 0 → assess_slots v c pool deleted ≡ no_landmarks true 0

@@ -10,12 +10,11 @@ use Rattle.lists.specs.Lists.{filter, elem, part, put_front}
 use Rattle.lists.proofs.Front.{front_snoc}
 use Rattle.lists.proofs.Parts.{fits_in}
 use Rattle.vectors.specs.Vector.{Bytes}
-use Rattle.vectors.proofs.Distances.{length_part}
 use Rattle.candidates.specs.Candidates.{Candidate, ids}
 use Rattle.candidates.specs.Inner.Words.{cands_of}
 use Rattle.candidates.proofs.Parts.{cands_front}
 use Rattle.slots.specs.Store.{Arrays}
-use Rattle.walk.specs.Inner.Scratch.{near_but, Ready, Found}
+use Rattle.walk.specs.Inner.Scratch.{near_but, Found}
 use Rattle.admission.specs.Inner.Trials.{meets, lost_of, Walks, Tried}
 use Rattle.admission.proofs.Pooling.{Counting, counting_done}
 
@@ -23,15 +22,6 @@ use Rattle.admission.proofs.Pooling.{Counting, counting_done}
 module _ {a : Arrays} (y : Bytes a.dim (length a.marks) a.vectors) {entry beam : ℕ} {w : List ℕ} (f : Walks a entry beam w) {landmark : ℕ} (h : landmark < length a.marks) where
   pub walks_vector : landmark * a.dim + a.dim ≤ length a.vectors
   walks_vector = fits_in a.dim (length a.marks) landmark (length a.vectors) h y.long
-
-  pub walks_ready : {query : List ℕ} → query ≡ part a.dim landmark a.vectors → Ready a query entry beam w
-  walks_ready g =
-      record {
-        query_long = rw g (length_part a.dim landmark a.vectors walks_vector);
-        start_inside = f.entry_inside;
-        beam_most = f.beam_most;
-        room = f.room;
-      }
 
   pub walks_few : {query w' : List ℕ} {near : Arrays → ℕ → List ℕ} {n : ℕ} → Found a query near entry beam w w' n → 2 * n ≤ length w'
   walks_few k = omega (arith, k.few, k.size, f.beam_most, f.room)

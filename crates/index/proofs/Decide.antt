@@ -158,23 +158,7 @@ three_more false true q₃ q rest f e = e
 three_more false false true q rest f e = rw (f refl) e
 three_more false false false q rest f e = cc
 
--- what `check_sizes` finds
-module _ (dim capacity degree : ℕ) (alpha : Float) (lent : Lengths) {r₁ : Bool} (sized : (alpha : Float) → r₁ ≡ not (sizes_ok limits (sizes dim capacity degree alpha))) where
-  pub sizes_refused : r₁ ≡ true → some 1 ≡ by_three dim capacity degree alpha lent
-  sizes_refused t₁ = rw (sym (sized alpha) ∙ t₁) refl
-
-  module _ {r₂ : Bool} (t₁ : r₁ ≡ false) (grown : r₂ ≡ not (alpha_ok alpha)) where
-    pub alpha_refused : r₂ ≡ true → some 2 ≡ by_three dim capacity degree alpha lent
-    alpha_refused t₂ = rw (sym (sized alpha) ∙ t₁, sym grown ∙ t₂) refl
-
-    module _ {r₃ : Bool} (t₂ : r₂ ≡ false) (long : (alpha : Float) → r₃ ≡ not (lengths_ok limits (sizes dim capacity degree alpha) lent)) where
-      pub lengths_refused : r₃ ≡ true → some 3 ≡ by_three dim capacity degree alpha lent
-      lengths_refused t₃ = rw (sym (sized alpha) ∙ t₁, sym grown ∙ t₂, sym (long alpha) ∙ t₃) refl
-
-      pub sizes_passed : r₃ ≡ false → none ≡ by_three dim capacity degree alpha lent
-      sizes_passed t₃ = rw (sym (sized alpha) ∙ t₁, sym grown ∙ t₂, sym (long alpha) ∙ t₃) refl
-
--- what follows of that for an index
+-- what `check_sizes` finds, for an index
 module _ (index : Index) (s : Slices) {A : Type 0} {r₁ : Result A Refusal} {lent : Lengths}
     (sized : Sized index.dim index.capacity index.degree index.alpha lent r₁) (alike : lent ≡ lengths_of s) where
   pub index_refused : {wrong : Bool} {B : Type 0} {e : Refusal} → r₁ ≡ Err e → Decided index s wrong [] {A = B} (Err e)

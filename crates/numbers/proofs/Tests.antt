@@ -4,12 +4,11 @@ use mathlib.Core.Bool.{Bool, true, false, not, ◌&&◌, ◌||◌, true≢false,
 use mathlib.Core.Logic.{◌⊎◌, inl, inr}
 use mathlib.Core.Path.{◌≡◌, refl, ap, sym, ◌∙◌}
 use mathlib.Core.List.{List, [], ◌∷◌, ◌++◌}
-use native.Mathlib.Decide.{dec_lt}
 use native.Mathlib.Numerals.{add-one}
 use native.Mathlib.Omega.{arith}
-use borrow.Author.Tests.{le-ltb, lt-ltb}
+use borrow.Author.Tests.{le-ltb}
 use lib.Dec.{eqb, ltb}
-use lib.ListN.{length, take, drop, get_or, drop_of_length-le, length-append, get_or-eq_default}
+use lib.ListN.{length, take, drop, get_or, drop_of_length-le, length-append}
 use lib.Seq.{drop-cons}
 use Rattle.std.specs.List.{list_any}
 use Rattle.lists.specs.Lists.{range}
@@ -108,13 +107,6 @@ module _ {numbers ss : List ℕ} {low i m : ℕ} (h : i < length ss) (k : Rising
 
   pub rising_low : m ≤ low → true ≡ not (rising (length numbers) numbers 0 ss)
   rising_low l = ap not (sym (ap (λ b. b && rising (length numbers) numbers m (drop (i + 1) ss)) (and-false (ltb (get_or ss i 0) (length numbers)))) ∙ (rw (le-ltb low m l) at next))
-
-  pub rising_more : low < m → RisingTo numbers ss m (i + 1)
-  rising_more l = let o : get_or ss i 0 < length numbers = inside (dec_lt (get_or ss i 0) (length numbers)) in record { rest = rw (lt-ltb (get_or ss i 0) (length numbers) o, lt-ltb low m l) at next }
-    where
-      inside : Dec (get_or ss i 0 < length numbers) → get_or ss i 0 < length numbers
-      inside (yes o) = o
-      inside (no o) = let z : length numbers ≤ get_or ss i 0 = omega arith in absurd (omega (arith, e, get_or-eq_default numbers 0 z))
 
 -- ---- blanks
 

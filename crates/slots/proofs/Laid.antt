@@ -1,7 +1,7 @@
 -- A front that is copied, one by one; and then one value. Assumes nothing.
 use Rattle.std.proofs.Common.{◌≡◌, ℕ, ◌+◌, ◌-◌, ◌<◌, ◌≤◌, List, [], ◌∷◌, ◌++◌, length, get_or, set, take, drop, replicate, sym, refl, ap, ◌∙◌, add-one, arith, length-append, length-drop, length-take, drop_of_length-le}
 use mathlib.Core.List.{append-nil}
-use lib.Seq.{take-suc, take_all, take_at, drop_at}
+use lib.Seq.{take-suc, take_at, drop_at}
 use borrow.Rule.Slice.PartMut.{put_mid}
 use Rattle.lists.specs.Lists.{put_front}
 use Rattle.lists.proofs.Front.{front_snoc}
@@ -15,9 +15,6 @@ module _ {X : Type 0} (to from : List X) {place : ℕ} {now : List X} where
       let t : take (place + 1) from ≡ take place from ++ (x ∷ []) = rw (add-one, take-suc from place x h, ← e) in
       ap (λ (xs : List X). set xs place x) f ∙ ap (λ k. set (put_front (take place from) to) k x) (sym n) ∙ front_snoc (take place from) x to (omega arith)
       ∙ ap (λ xs. put_front xs to) (sym t)
-
-  pub copied_done : length from ≤ place → now ≡ put_front (take place from) to → now ≡ put_front from to
-  copied_done h f = f ∙ ap (λ xs. put_front xs to) (take_all place from h)
 
 -- one value behind what is copied
 pub laid : {X : Type 0} (to from : List X) (v : X) {now back : List X} → length from ≤ length to → now ≡ put_front from to
