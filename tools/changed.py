@@ -17,7 +17,11 @@ BECAME = [
     ('row', 'write_pruned', 'Pruner::write_pruned'), ('index', 'index_refusal', 'check_index'), ('updating', 'delete_ids', 'delete_batch'), ('updating', 'by_numbers', 'by_slots'),
     ('updating', 'translate', 'by_slots'), ('words', 'put_inserted', 'put_changed'), ('words', 'put_found', 'put'),
 ]
-THEOREMS = ['create_meets', 'delete_tells', 'standing_tells', 'same_value', 'landmarks_view']
+# crate, name before, name now
+THEOREMS = [
+    ('index', 'create_meets', 'create_meets'), ('exported', 'delete_tells', 'delete_tells'), ('exported', 'standing_tells', 'standing_tells'),
+    ('exported', 'guarded_words', 'words_guarded'), ('prune', 'pruned_given', 'pruned_given'), ('admission', 'landmarks_view', 'landmarks_view'),
+]
 
 
 def sources(root, crate):
@@ -109,10 +113,10 @@ for title in ('definitions', 'ghost items and constants'):
         *name, was, now = change
         out += both(' '.join(name), flat(was), flat(now))
 out += ['', '### Theorems in proofs/ that README or docs/ name', '']
-for name in THEOREMS:
-    before, after = statements(old, name), statements(new, name)
-    for crate in sorted(before):
-        was, now = sorted(before[crate] - after.get(crate, set())), sorted(after.get(crate, set()) - before[crate])
-        if was:
-            out += both(f'{crate} {name}', ' '.join(was), ' '.join(now))
+for crate, name, name_now in THEOREMS:
+    was, now = statements(old, name).get(crate, set()), statements(new, name_now).get(crate, set())
+    if not was or not now:
+        raise SystemExit(f'no theorem {crate} {name}')
+    if was != now:
+        out += both(f'{crate} {name}', ' '.join(sorted(was - now)), ' '.join(sorted(now - was)))
 print('\n'.join(out))

@@ -5,6 +5,7 @@ use mathlib.Core.List.{List, [], ◌∷◌, map}
 use mathlib.Core.Logic.{◌⊎◌, inl, inr, ⊎_elim}
 use mathlib.Core.Option.{Option, none, some}
 use mathlib.Core.Path.{◌≡◌, refl, sym, ap, ◌∙◌, subst}
+use borrow.Author.Tests.{eqb-true, eqb-false}
 use lib.Dec.{eqb}
 use lib.Ieee.{Float}
 use lib.ListN.{length, get_or, length-map}
@@ -119,6 +120,21 @@ as_run state_of r answer =
       scratch_before = r.scratch;
       scratch_after = r.scratch';
     }
+
+-- ---- a status tells whether the call is carried out
+
+-- the answer of a call that answers `a` where the status is 0
+abbrev by_status : ℕ → Answer → Answer
+by_status status a = cond (eqb status 0) a (refused status)
+
+module _ (status : ℕ) (a : Answer) (before after : Places) where
+  status_tells : (status ≡ 0 → put a before ≡ (0, after)) → ((status ≡ 0 → ⊥) → after ≡ before) → (status, after) ≡ put (by_status status a) before
+  unfolding put
+  status_tells done kept = go (eqb status 0) refl
+    where
+      go : (b : Bool) → eqb status 0 ≡ b → (status, after) ≡ put (cond b a (refused status)) before
+      go true e = let z = eqb-true status 0 e in ap (λ n. (n, after)) z ∙ sym (done z)
+      go false e = ap (λ o. (status, o)) (kept (eqb-false status 0 e))
 
 -- ---- the run of a call
 
