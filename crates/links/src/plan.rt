@@ -27,7 +27,7 @@ pub struct Table {
     pub base: usize,
 }
 
-// How many links the plan of `n` candidates has. Tried with `map` and `sum`: the check did not find that the total fits its type.
+// How many links the plan of `n` candidates has. Tried with `map` and `sum`, and the proof that the total fits its type did not close.
 pub fn attempted(repair_degree: usize, n: usize) -> usize
     requires { (repair_degree ≤ 16) × (n ≤ 320) }
     ensures { Attempted repair_degree n result }
