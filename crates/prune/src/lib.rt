@@ -155,12 +155,7 @@ fn run_passes<const N: usize>(
 
 // Selects from a list of 750 candidates at most. The factors are an array of this function alone, so that they take the same part of the stack as what `prepare`
 // needs before.
-fn pick<const N: usize>(
-    alpha: f32,
-    kept: &mut Kept<'_, N>,
-    list: &[u32],
-    out: &mut [u32],
-) -> usize
+fn pick<const N: usize>(alpha: f32, kept: &mut Kept<'_, N>, list: &[u32], out: &mut [u32]) -> usize
     requires { Given kept.old.space list.now (length list.now / 2) × (length list.now / 2 ≤ 750) }
     ensures { Picked (length out.old / 2) alpha (slot_distance (space_of kept.old.space)) (cands_of list.now) result out.new × (kept.new.space ≡ kept.old.space) }
 {
