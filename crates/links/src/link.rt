@@ -8,8 +8,8 @@ use distances::{KEPT, slot_distance};
 use row::{Pruner, live_scored};
 use vectors::Space;
 
-// Adds the target `t`, with its distance to slot `s`, to the first `n` candidates of a list with room for more, unless one of them has it. Returns how many they
-// are then.
+// Adds the target `t`, with its distance to slot `s`, to the first `n` candidates of a list, unless one of them has it. Returns how many they are then. The list
+// has room behind the `n` for one more.
 fn add_target(space: &Space<'_>, s: u32, t: u32, list: &mut [u32], n: usize) -> usize
     requires { HasVector space.now s × HasVector space.now t × (space.now.dim ≤ 256) × (2 * n + 2 ≤ length list.old) }
     ensures { Joined space.now.dim space.now.vectors.now s t list.old n result list.new }

@@ -25,9 +25,10 @@ pub struct Table {
     pub plans: usize,
     pub count: usize,
     pub base: usize,
+    pub ghost degree_most: { degree ≤ 16 },
 }
 
-// How many links the plan of `n` candidates has. Tried with `map` and `sum`: the check did not find that the total fits its type.
+// How many links the plan of `n` candidates has. Tried with `map` and `sum`, and the proof that the total fits its type did not close.
 pub fn attempted(repair_degree: usize, n: usize) -> usize
     requires { (repair_degree ≤ 16) × (n ≤ 320) }
     ensures { Attempted repair_degree n result }
@@ -48,7 +49,7 @@ fn apply_plan(
     list: &[u32],
     words: &mut [u32],
 )
-    requires { (table.entry < length pruner.old.marks.now) × Plan pruner.old.marks.now list.now 0 (length list.now / 2) × (length list.now ≤ 640) × (length words.old ≡ plan_words pruner.old.rows.now.degree) × (table.degree ≤ 16) × (length pairs.old ≡ 5120) }
+    requires { (table.entry < length pruner.old.marks.now) × Plan pruner.old.marks.now list.now 0 (length list.now / 2) × (length list.now ≤ 640) × (length words.old ≡ plan_words pruner.old.rows.now.degree) × (length pairs.old ≡ 5120) }
     ensures { Linked pruner.old (repair_links (between pruner.old.kept.now.space.dim pruner.old.kept.now.space.vectors.now) table.degree table.entry (ids (cands_of list.now))) pruner.new }
 {
     if list.len() < 2 {
@@ -81,7 +82,7 @@ fn apply_all(
     plans: &[u32],
     words: &mut [u32],
 )
-    requires { (table.entry < length pruner.old.marks.now) × Plans pruner.old.marks.now plans.now table.stats table.plans table.count (length plans.now) × (length words.old ≡ plan_words pruner.old.rows.now.degree) × (table.degree ≤ 16) }
+    requires { (table.entry < length pruner.old.marks.now) × Plans pruner.old.marks.now plans.now table.stats table.plans table.count (length plans.now) × (length words.old ≡ plan_words pruner.old.rows.now.degree) }
     ensures { Linked pruner.old (plans_at (between pruner.old.kept.now.space.dim pruner.old.kept.now.space.vectors.now) table.degree table.entry plans.now table.stats table.plans table.count) pruner.new }
 {
     let mut pairs = [Pair { slot: 0, parent: 0 }; PAIRS];
@@ -94,7 +95,7 @@ fn apply_all(
 
 // Applies the links of the plans of a table in order, each with its candidates in 640 words and their number in the third of its four counts.
 pub fn apply_plans(pruner: &mut Pruner<'_, '_, '_, '_, '_, KEPT>, table: Table, scratch: &mut [u32])
-    requires { (table.entry < length pruner.old.marks.now) × Plans pruner.old.marks.now scratch.old table.stats table.plans table.count table.base × Area pruner.old.rows.now.degree scratch.old table.base × (table.degree ≤ 16) }
+    requires { (table.entry < length pruner.old.marks.now) × Plans pruner.old.marks.now scratch.old table.stats table.plans table.count table.base × Area pruner.old.rows.now.degree scratch.old table.base }
     ensures { Made pruner.old (plans_at (between pruner.old.kept.now.space.dim pruner.old.kept.now.space.vectors.now) table.degree table.entry scratch.old table.stats table.plans table.count) scratch.old table.base plan_words pruner.new scratch.new }
 {
     // three lists of 640 words, and two candidates for each place of a row with one more

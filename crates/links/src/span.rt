@@ -9,7 +9,7 @@ use candidates::{dist_at, id_at, put, sort_by_distance};
 use distances::slot_distance;
 use vectors::Space;
 
-// The place of the nearest of a list, the first of equals. Tried with `min_by_key`: the check did not find that this is its result.
+// The place of the nearest of a list, the first of equals. Tried with `min_by_key`, and the proof did not close.
 pub fn nearest(list: &[u32]) -> usize
     requires { 2 ≤ length list.now }
     ensures { Nearest (cands_of list.now) result }

@@ -1,5 +1,5 @@
 -- The whole selection: what is selected from, the passes over it, and what is left. Assumes nothing.
-use Prim.Native.Nat.{ℕ, ◌*◌, ◌≤◌, ◌<◌}
+use Prim.Native.Nat.{ℕ, ◌*◌, ◌/◌, ◌≤◌, ◌<◌}
 use mathlib.Core.Path.{◌≡◌, refl, ap, sym, ◌∙◌, subst}
 use mathlib.Core.Bool.{true}
 use mathlib.Core.List.{List, ◌++◌}
@@ -59,32 +59,42 @@ picked w n factors e u = record { list = rw (passes, cands_length w 0 n, zero_is
 -- ---- from one step to the next
 module _ (space : Space) {marks w : List ℕ} (q : Ready space.dim space.vectors.now marks w) (source : ℕ) {m : ℕ} {v : List ℕ} (l : length v ≡ length w)
     (f : Remain w (considered (is_valid marks) source (cands_of w)) m v) where
-  so : (P : List Candidate → Type 0) → P (considered (is_valid marks) source (cands_of w)) → P (cands v 0 m)
-  so P h = subst P (sym f.list) h
+  -- what remains, as a list of its own
+  abbrev rest : List ℕ
+  rest = take (2 * m) v
 
-  pub still_given : Given space v m
+  abbrev count : ℕ
+  count = length rest / 2
+
+  remains : cands_of rest ≡ considered (is_valid marks) source (cands_of w)
+  remains = cands_front v m (omega (arith, f.within, l)) ∙ f.list
+
+  so : (P : List Candidate → Type 0) → P (considered (is_valid marks) source (cands_of w)) → P (cands_of rest)
+  so P h = subst P (sym remains) h
+
+  pub still_given : Given space rest count
   still_given =
       let live = is_valid marks in
       record {
         short = q.short;
-        inside = omega (arith, f.within, l);
-        small = front_each (λ c. c.dist ≤ 16777216) v m (so (All (λ c. c.dist ≤ 16777216)) (all_of_given (λ c. c.dist ≤ 16777216) live source (cands_of w) q.small));
-        stored = front_each (λ c. HasVector space c.id) v m (so (All (λ c. HasVector space c.id))
+        inside = omega arith;
+        small = front_each (λ c. c.dist ≤ 16777216) rest count (so (All (λ c. c.dist ≤ 16777216)) (all_of_given (λ c. c.dist ≤ 16777216) live source (cands_of w) q.small));
+        stored = front_each (λ c. HasVector space c.id) rest count (so (All (λ c. HasVector space c.id))
             (all_map (λ c. live c.id ≡ true) (λ c. HasVector space c.id) (λ c e. fits_in space.dim (length marks) c.id (length space.vectors.now) (live_inside marks c.id e) q.bytes)
             (considered live source (cands_of w)) (considered_live live source (cands_of w))));
-        numbered = front_each (λ c. c.id < 65536) v m (so (All (λ c. c.id < 65536))
+        numbered = front_each (λ c. c.id < 65536) rest count (so (All (λ c. c.id < 65536))
             (all_map (λ c. live c.id ≡ true) (λ c. c.id < 65536) (λ c e. omega (arith, live_inside marks c.id e, q.few))
             (considered live source (cands_of w)) (considered_live live source (cands_of w))));
       }
 
-  pub still_few : m ≤ 750
-  still_few = omega (arith, sym (cands_length v 0 m) ∙ ap length f.list, considered_most (is_valid marks) source (cands_of w))
+  pub still_few : count ≤ 750
+  still_few = omega (arith, sym (cands_length rest 0 count) ∙ ap length remains, considered_most (is_valid marks) source (cands_of w))
 
-  pub pruned : {degree : ℕ} {alpha : Float} {d : ℕ → ℕ → ℕ} {r : ℕ} {w' : List ℕ} → Picked degree alpha d (cands v 0 m) r w' → Pruned degree alpha (is_valid marks) d source (cands_of w) r w'
+  pub pruned : {degree : ℕ} {alpha : Float} {d : ℕ → ℕ → ℕ} {r : ℕ} {w' : List ℕ} → Picked degree alpha d (cands_of rest) r w' → Pruned degree alpha (is_valid marks) d source (cands_of w) r w'
   unfolding prune_scored
   pruned {degree} {alpha} {d} {r} {w'} u =
       let live = is_valid marks in
-      let e : cands w' 0 r ≡ prune_scored degree alpha live d source (cands_of w) = u.list ∙ ap (passes degree alpha d) f.list in
+      let e : cands w' 0 r ≡ prune_scored degree alpha live d source (cands_of w) = u.list ∙ ap (passes degree alpha d) remains in
       record {
         list = e;
         count = sym (cands_length w' 0 r) ∙ ap length e;

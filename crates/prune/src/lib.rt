@@ -153,18 +153,13 @@ fn run_passes<const N: usize>(
     selector.select()
 }
 
-// Selects from the first `n` candidates of a list, 750 at most. The factors are an array of this function alone, so that they take the same part of the stack as
-// what `prepare` needs before.
-fn pick<const N: usize>(
-    alpha: f32,
-    kept: &mut Kept<'_, N>,
-    list: &[u32],
-    n: usize,
-    out: &mut [u32],
-) -> usize
-    requires { Given kept.old.space list.now n × (n ≤ 750) }
-    ensures { Picked (length out.old / 2) alpha (slot_distance (space_of kept.old.space)) (cands list.now 0 n) result out.new × (kept.new.space ≡ kept.old.space) }
+// Selects from a list of 750 candidates at most. The factors are an array of this function alone, so that they take the same part of the stack as what `prepare`
+// needs before.
+fn pick<const N: usize>(alpha: f32, kept: &mut Kept<'_, N>, list: &[u32], out: &mut [u32]) -> usize
+    requires { Given kept.old.space list.now (length list.now / 2) × (length list.now / 2 ≤ 750) }
+    ensures { Picked (length out.old / 2) alpha (slot_distance (space_of kept.old.space)) (cands_of list.now) result out.new × (kept.new.space ≡ kept.old.space) }
 {
+    let n = list.len() / 2;
     let mut factors = [0.0f32; 750];
     run_passes(alpha, kept, &mut factors[..n], list, out)
 }
@@ -193,5 +188,5 @@ pub fn prune_scored<const N: usize>(
     ensures { Pruned (length out.old / 2) alpha (is_valid marks.now) (slot_distance (space_of kept.old.space)) source (cands_of list.old) result out.new × (kept.new.space ≡ kept.old.space) }
 {
     let m = prepare(marks, source, list);
-    pick(alpha, kept, list, m, out)
+    pick(alpha, kept, &list[..2 * m], out)
 }

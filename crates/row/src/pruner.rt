@@ -45,7 +45,7 @@ impl<const N: usize> Pruner<'_, '_, '_, '_, '_, N> {
         let kept = &mut *self.kept;
         let chosen = &mut out[..2 * rows.degree];
         let r = prune::prune_scored(alpha, kept, marks, s, list, chosen);
-        candidates::pack_ids(&mut chosen[..2 * r]);
+        candidates::pack_ids(&mut chosen[..2 * r], 0);
         rows.write(s as usize, &chosen[..r]);
     }
 }

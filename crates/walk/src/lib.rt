@@ -44,7 +44,7 @@ fn unmet_at(graph: &Graph<'_>, s: usize, place: usize, scratch: &[u32]) -> Optio
     None
 }
 
-// Marks slot `id`, which is not met, as met and writes it behind the `n` slots of `fresh`. Touches its vector.
+// Marks slot `id`, which is not met, as met and writes it behind the `n` slots of `fresh`, whose number changes at each turn. Touches its vector.
 fn add(space: &Space<'_>, id: u32, n: usize, scratch: &mut [u32], fresh: &mut [u32]) -> u32
     requires has_vector { HasVector space.now id }
     requires id_in_bounds { (mark_word id < length scratch.old) × (mark scratch.old id ≡ 0) × (n < length fresh.old) }

@@ -8,7 +8,7 @@ pub apply_plan-requires : goal.apply_plan-requires
 apply_plan-requires c =
     let f = c.loop-j.invariant.0 in
     let r = plans_next c.args.table.degree c.args.table.entry f c.requires.1 c.loop-j-test.true in
-    (rw (linked_marks f) c.requires.0, r.0, r.1, rw f.same.slices.degree (c.loop-j.auto.words ∙ c.requires.2), c.requires.3, c.loop-j.invariant.1)
+    (rw (linked_marks f) c.requires.0, r.0, r.1, rw f.same.slices.degree (c.loop-j.auto.words ∙ c.requires.2), c.loop-j.invariant.1)
 
 pub loop-j-preserved : goal.loop-j-preserved
 loop-j-preserved c = (plans_more c.args.table.degree c.args.table.entry c.loop-j.invariant.0 c.requires.1 c.loop-j-test.true c.apply_plan.ensures, omega arith)

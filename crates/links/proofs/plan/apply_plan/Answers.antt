@@ -54,7 +54,7 @@ span-t-requires c =
       plan_planned (begun (goal.at.span-t-requires c).After-id_at-start) (parted (goal.at.span-t-requires c).After-keep_valid-m),
       c.put.auto.list ∙ first.front_len,
       written_length c.split_at_mut-near.result.0.now c.score.new.to 0 (length c.args.list.now) (omega (arith, near.front_len, c.requires.2)) (begun (goal.at.span-t-requires c).After-id_at-start).long ∙ near.front_len,
-      c.requires.5,
+      c.requires.4,
     )
 
 pub apply_sources-requires : goal.apply_sources-requires

@@ -11,7 +11,6 @@ apply_all-requires c =
       c.requires.0,
       rw parts.front (plans_front c.requires.1 (omega (arith, c.requires.2.inside))),
       omega (arith, length-take-le (1922 + 4 * c.args.pruner.now.rows.now.degree) c.split_at_mut-plans.result.1.now (omega (arith, room, c.requires.2.inside))),
-      c.requires.3,
     )
 
 pub returns : goal.returns
