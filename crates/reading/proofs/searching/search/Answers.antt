@@ -1,5 +1,4 @@
 use mathlib.Core.Path.{refl}
-use Rattle.index.specs.Lent.{slices_of}
 use Rattle.index.proofs.Decide.{passed, passed_bytes, passed_rows, handed_on}
 use Rattle.reading.proofs.Finds.{searches_back, search_ready, search_inside, search_list, search_fits, search_named, search_first, search_copies, searches_on}
 use Rattle.reading.proofs.searching.search.Goals as goal
