@@ -142,7 +142,7 @@ counted_from w at q m n =
     let b = set a (at + 2) m in
     let front : take at (set b (at + 3) n) ≡ take at w = take-set-le at b (at + 3) n (omega arith) ∙ take-set-le at a (at + 2) m (omega arith) ∙ take-set-le at w (at + 1) q (omega arith) in
     let back : drop at (set b (at + 3) n) ≡ counted (drop at w) q m n =
-        drop-set-add at b 3 n ∙ ap (λ (l : List ℕ). set l 3 n) (drop-set-add at a 2 m ∙ ap (λ (l : List ℕ). set l 2 m) (drop-set-add at w 1 q)) in
+    drop-set-add at b 3 n ∙ ap (λ (l : List ℕ). set l 3 n) (drop-set-add at a 2 m ∙ ap (λ (l : List ℕ). set l 2 m) (drop-set-add at w 1 q)) in
     ap₂ (λ (x y : List ℕ). x ++ y) (sym front) (sym back) ∙ take-append-drop at (set b (at + 3) n)
 
 counted_whole : (w : List ℕ) (at q m n : ℕ) → at ≤ length w → put_mid at (length w - at) w (counted (take (length w - at) (drop at w)) q m n) ≡ counted_at w at q m n

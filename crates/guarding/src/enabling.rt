@@ -97,14 +97,7 @@ pub fn enable_guard(
         vectors: slices.vectors,
     };
     let pool = &mut *slices.pool;
-    let n = choose_pool(
-        &space,
-        slices.marks,
-        start,
-        config,
-        pool,
-        scratch,
-    );
+    let n = choose_pool(&space, slices.marks, start, config, pool, scratch);
     let new = with_guard(index, config, n as u32);
     let status = status_of(new.guard, &slices.read());
     Ok(Enabled { index: new, status })
