@@ -47,6 +47,7 @@ pub fn insert(
         numbers: part_mut(arrays.figures, lent.figures),
         beam: line.argument(),
     };
+    // Not by a method of the arrays: see `delete` of deleting.rt.
     let mut slices = InsertSlices {
         vectors: part_mut(arrays.vectors, lent.vectors),
         targets: part_mut(arrays.targets, lent.targets),

@@ -46,6 +46,7 @@ pub fn make(
         rows: part_mut(arrays.rows, lent.rows),
         numbers: part_mut(arrays.figures, lent.figures),
     };
+    // Not by a method of the arrays: see `delete` of deleting.rt.
     let mut slices = NewSlices {
         vectors: part_mut(arrays.vectors, lent.vectors),
         targets: part_mut(arrays.targets, lent.targets),

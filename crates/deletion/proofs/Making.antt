@@ -1,12 +1,13 @@
 -- The rows of the deleted slots are taken, and their plans made, one after the other. Assumes nothing.
 use Prim.Native.Nat.{ℕ, ◌+◌, ◌-◌, ◌*◌, ◌≤◌, ◌<◌}
 use mathlib.Core.Bool.{false}
-use mathlib.Core.Path.{◌≡◌, ap, ◌∙◌}
-use mathlib.Core.List.{List}
+use mathlib.Core.Path.{◌≡◌, ap, ap₂, sym, ◌∙◌}
+use mathlib.Core.List.{List, [], ◌++◌, append-nil}
 use native.Mathlib.Omega.{arith}
 use borrow.Author.Count.{below_more}
-use lib.ListN.{length, take, drop, get_or, set, length-set}
+use lib.ListN.{length, take, drop, get_or, set, length-set, length-drop, drop_of_length-le}
 use lib.Seq.{get_or-set_same, get_or-set_other}
+use Rattle.std.proofs.lemmas.List.{take_all, take-append-drop, take-set-le, drop-set-add}
 use Rattle.candidates.specs.Candidates.{Candidate, ids}
 use Rattle.candidates.proofs.Parts.{part_length, cand_part, cands_written, written_length, outside_written}
 use borrow.Rule.Slice.PartMut.{put_mid}
@@ -106,30 +107,50 @@ module _ {a : Arrays} {w₀ : List ℕ} {at : Layout} {w : List ℕ} {k : ℕ} (
   taking_done h = record { each = λ j l. f.each j (omega arith); size = f.size; same = f.same }
 
 -- ---- three counts behind a word
+abbrev counted_at : List ℕ → ℕ → ℕ → ℕ → ℕ → List ℕ
+counted_at w at q m n = set (set (set w (at + 1) q) (at + 2) m) (at + 3) n
+
 module _ (w : List ℕ) (at q m n : ℕ) where
-  counted_long : length (counted w at q m n) ≡ length w
+  counted_long : length (counted_at w at q m n) ≡ length w
   counted_long = length-set (set (set w (at + 1) q) (at + 2) m) (at + 3) n ∙ length-set (set w (at + 1) q) (at + 2) m ∙ length-set w (at + 1) q
 
-  counted_other : (j : ℕ) → (at < j → at + 4 ≤ j) → get_or (counted w at q m n) j 0 ≡ get_or w j 0
+  counted_other : (j : ℕ) → (at < j → at + 4 ≤ j) → get_or (counted_at w at q m n) j 0 ≡ get_or w j 0
   counted_other j h =
       get_or-set_other (set (set w (at + 1) q) (at + 2) m) (at + 3) j n 0 (λ e. absurd (omega (arith, h (omega arith))))
       ∙ get_or-set_other (set w (at + 1) q) (at + 2) j m 0 (λ e. absurd (omega (arith, h (omega arith))))
       ∙ get_or-set_other w (at + 1) j q 0 (λ e. absurd (omega (arith, h (omega arith))))
 
   module _ (l : at + 3 < length w) where
-    counted_first : get_or (counted w at q m n) (at + 1) 0 ≡ q
+    counted_first : get_or (counted_at w at q m n) (at + 1) 0 ≡ q
     counted_first =
         get_or-set_other (set (set w (at + 1) q) (at + 2) m) (at + 3) (at + 1) n 0 (λ e. absurd (omega arith))
         ∙ get_or-set_other (set w (at + 1) q) (at + 2) (at + 1) m 0 (λ e. absurd (omega arith))
         ∙ get_or-set_same w (at + 1) q 0 (omega arith)
 
-    counted_second : get_or (counted w at q m n) (at + 2) 0 ≡ m
+    counted_second : get_or (counted_at w at q m n) (at + 2) 0 ≡ m
     counted_second =
         get_or-set_other (set (set w (at + 1) q) (at + 2) m) (at + 3) (at + 2) n 0 (λ e. absurd (omega arith))
         ∙ get_or-set_same (set w (at + 1) q) (at + 2) m 0 (omega (arith, length-set w (at + 1) q))
 
-    counted_third : get_or (counted w at q m n) (at + 3) 0 ≡ n
+    counted_third : get_or (counted_at w at q m n) (at + 3) 0 ≡ n
     counted_third = get_or-set_same (set (set w (at + 1) q) (at + 2) m) (at + 3) n 0 (omega (arith, length-set (set w (at + 1) q) (at + 2) m, length-set w (at + 1) q))
+
+-- the same of the words from a place on
+counted_from : (w : List ℕ) (at q m n : ℕ) → take at w ++ counted (drop at w) q m n ≡ counted_at w at q m n
+counted_from w at q m n =
+    let a = set w (at + 1) q in
+    let b = set a (at + 2) m in
+    let front : take at (set b (at + 3) n) ≡ take at w = take-set-le at b (at + 3) n (omega arith) ∙ take-set-le at a (at + 2) m (omega arith) ∙ take-set-le at w (at + 1) q (omega arith) in
+    let back : drop at (set b (at + 3) n) ≡ counted (drop at w) q m n =
+    drop-set-add at b 3 n ∙ ap (λ (l : List ℕ). set l 3 n) (drop-set-add at a 2 m ∙ ap (λ (l : List ℕ). set l 2 m) (drop-set-add at w 1 q)) in
+    ap₂ (λ (x y : List ℕ). x ++ y) (sym front) (sym back) ∙ take-append-drop at (set b (at + 3) n)
+
+counted_whole : (w : List ℕ) (at q m n : ℕ) → at ≤ length w → put_mid at (length w - at) w (counted (take (length w - at) (drop at w)) q m n) ≡ counted_at w at q m n
+counted_whole w at q m n h =
+    let k = length w - at in
+    let e : take k (drop at w) ≡ drop at w = take_all k (drop at w) (omega (arith, length-drop at w)) in
+    let z : drop k (drop at w) ≡ [] = drop_of_length-le (drop at w) (omega (arith, length-drop at w)) in
+    rw (e, z, append-nil) (counted_from w at q m n)
 
 -- ---- the plans
 pub record Making (a : Arrays) (how : Repair) (w₀ : List ℕ) (at : Layout) (w : List ℕ) (k : ℕ) : Type 0 where
@@ -182,7 +203,11 @@ module _ {a : Arrays} {how : Repair} {w₀ : List ℕ} {at : Layout} {w : List �
     pub making_room : at.stats + 4 * k + 3 < length w₁
     making_room = omega (arith, c.size, f.size, b.table.second, b.table.third)
 
-    module _ {n : ℕ} (v : Attempted how.degree m n) {w₂ : List ℕ} (z : w₂ ≡ counted w₁ (at.stats + 4 * k) q m n) where
+    pub making_counted : {v : List ℕ} (n : ℕ) → v ≡ counted (take (length w₁ - (at.stats + 4 * k)) (drop (at.stats + 4 * k) w₁)) q m n
+        → put_mid (at.stats + 4 * k) (length w₁ - (at.stats + 4 * k)) w₁ v ≡ counted_at w₁ (at.stats + 4 * k) q m n
+    making_counted n g = rw g (counted_whole w₁ (at.stats + 4 * k) q m n (omega (arith, making_room)))
+
+    module _ {n : ℕ} (v : Attempted how.degree m n) {w₂ : List ℕ} (z : w₂ ≡ counted_at w₁ (at.stats + 4 * k) q m n) where
       off : (j : ℕ) → (at.stats + 4 * k < j → at.stats + 4 * k + 4 ≤ j) → get_or w₂ j 0 ≡ get_or w₁ j 0
       off j o = rw z (counted_other w₁ (at.stats + 4 * k) q m n j o)
 

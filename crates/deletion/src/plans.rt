@@ -85,14 +85,14 @@ fn collect(
     }
 }
 
-// Writes three counts behind word `at`.
-fn put_counts(words: &mut [u32], at: usize, q: usize, m: usize, n: usize)
-    requires { (at + 3 < length words.old) × (q ≤ 65536) × (m ≤ 65536) × (n ≤ 65536) }
-    ensures { words.new ≡ counted words.old at q m n }
+// Writes the counts of a plan but the first.
+fn put_counts(counts: &mut [u32], q: usize, m: usize, n: usize)
+    requires { (3 < length counts.old) × (q ≤ 65536) × (m ≤ 65536) × (n ≤ 65536) }
+    ensures { counts.new ≡ counted counts.old q m n }
 {
-    words[at + 1] = q as u32;
-    words[at + 2] = m as u32;
-    words[at + 3] = n as u32;
+    counts[1] = q as u32;
+    counts[2] = m as u32;
+    counts[3] = n as u32;
 }
 
 // Makes the plans of the slots of the layout: the candidates of each, and its counts.
@@ -106,6 +106,6 @@ pub fn make_plans(graph: &Graph<'_>, how: Repair, scratch: &mut [u32], at: Layou
         let r = scratch[counts] as usize;
         let c = collect(graph, s, how, scratch, at.plans + PLAN_WORDS * k, r);
         let n = attempted(how.degree, c.candidates);
-        put_counts(scratch, counts, c.recovered, c.candidates, n);
+        put_counts(&mut scratch[counts..], c.recovered, c.candidates, n);
     }
 }

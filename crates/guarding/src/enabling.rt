@@ -54,26 +54,20 @@ fn check_enable(
     Ok(())
 }
 
-// The landmark pool, written to the front of its slice. Returns its length. Seven parameters: with all slices in one struct, or a `Space` of its own made by
-// the caller, the proof did not close, since the check's borrow rules do not cover a struct of some lent slices beside another that is written.
+// The landmark pool, written to the front of its slice. Returns its length.
 fn choose_pool(
-    dim: u32,
-    vectors: &[u8],
+    space: &Space<'_>,
     marks: &[u8],
     start: u32,
     config: Config,
     pool: &mut [u32],
     scratch: &mut [u32],
 ) -> usize
-    requires { Poolable dim vectors.now marks.now start config.count config.multiplier config.sample pool.old scratch.old }
-    ensures { Pooled dim vectors.now marks.now start config.count config.multiplier config.sample pool.old pool.new result }
+    requires { Poolable space.now.dim space.now.vectors.now marks.now start config.count config.multiplier config.sample pool.old scratch.old }
+    ensures { Pooled space.now.dim space.now.vectors.now marks.now start config.count config.multiplier config.sample pool.old pool.new result }
 {
-    let space = Space {
-        dim: dim as usize,
-        vectors,
-    };
     let settings = Config::<usize>::from(config);
-    landmark_pool(&space, marks, start, settings, pool, scratch)
+    landmark_pool(space, marks, start, settings, pool, scratch)
 }
 
 // An index whose guard is on, with a pool of `n` landmarks.
@@ -98,16 +92,12 @@ pub fn enable_guard(
     check_enable(index, &slices.read(), config, scratch.len())?;
     let config = normalized(config);
     let start = residual_entry(slices.marks, &[], index.entry).unwrap_or(index.entry);
+    let space = Space {
+        dim: index.dim as usize,
+        vectors: slices.vectors,
+    };
     let pool = &mut *slices.pool;
-    let n = choose_pool(
-        index.dim,
-        slices.vectors,
-        slices.marks,
-        start,
-        config,
-        pool,
-        scratch,
-    );
+    let n = choose_pool(&space, slices.marks, start, config, pool, scratch);
     let new = with_guard(index, config, n as u32);
     let status = status_of(new.guard, &slices.read());
     Ok(Enabled { index: new, status })

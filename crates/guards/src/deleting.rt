@@ -52,6 +52,7 @@ pub fn delete(
     let mut lost = [0u32; 1024];
     let lent = state.lent;
     let asked = asked(line, part_mut(arrays.rows, lent.rows))?;
+    // Not by a method of the arrays: see `delete` of changes.
     let mut slices = DeleteSlices {
         vectors: part_mut(arrays.vectors, lent.vectors),
         targets: part_mut(arrays.targets, lent.targets),

@@ -50,6 +50,7 @@ pub fn enable(
         beam: line.argument(),
     };
     let lent = state.lent;
+    // Not by a method of the arrays: see `delete` of changes.
     let mut slices = EnableSlices {
         vectors: part_mut(arrays.vectors, lent.vectors),
         targets: part_mut(arrays.targets, lent.targets),

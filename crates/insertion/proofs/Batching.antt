@@ -2,12 +2,12 @@
 use Prim.Native.Nat.{ℕ, zero, suc, ◌+◌, ◌-◌, ◌*◌, ◌/◌, min, ◌≤◌, ◌<◌}
 use mathlib.Core.Bool.{not}
 use mathlib.Core.Path.{◌≡◌, refl, ap, ap₂, sym, ◌∙◌}
-use mathlib.Core.List.{List, [], ◌∷◌, ◌++◌, map}
+use mathlib.Core.List.{List, [], ◌∷◌, ◌++◌, map, append_assoc}
 use native.Mathlib.Nat.{add-mul, mul-le-mul_right, div-mul-le_self}
 use native.Mathlib.Omega.{arith}
 use lib.ListN.{length, take, drop, get_or, length-map, length-drop, length-append, get_or-append}
 use lib.Seq.{drop-cons, drop-drop, get_or-take, get_or-drop, length-take-le}
-use Rattle.std.proofs.lemmas.List.{take_at, drop_at}
+use Rattle.std.proofs.lemmas.List.{take_at, drop_at, take-append-drop, drop-append-le}
 use lib.Ieee.{Float}
 use Rattle.lists.specs.Lists.{All, filter, foldl, range, part, put_front, chunks, zip}
 use Rattle.lists.proofs.All.{all_filter}
@@ -198,6 +198,18 @@ front_at l slots count i k h =
 module _ {a : Arrays} {alpha : Float} {entry beam : ℕ} {bytes slots scratch : List ℕ} (o : Insertable a alpha entry beam bytes slots scratch) {count : ℕ} (q : count ≡ length bytes / a.dim) where
   enough_free : count ≤ length (free_of a.marks)
   enough_free = rw (q, ← free_is alpha entry a) o.free_in
+
+  -- what is written to the front alone is written to the list
+  pub front_noted : {front : List ℕ} → front ≡ put_front (take (length (take count slots)) (free_of a.marks)) (take count slots) → front ++ drop count slots ≡ put_front (take count (free_of a.marks)) slots
+  front_noted {front} g =
+      let free = take count (free_of a.marks) in
+      let room : count ≤ length slots = rw q o.room_in in
+      let n : length (take count slots) ≡ count = length-take-le count slots room in
+      let c : length free ≡ count = length-take-le count (free_of a.marks) enough_free in
+      let e : front ≡ put_front free (take count slots) = rw n at g in
+      ap (λ (l : List ℕ). l ++ drop count slots) e
+      ∙ append_assoc free (drop (length free) (take count slots)) (drop count slots)
+      ∙ ap (λ (l : List ℕ). free ++ l) (sym (drop-append-le (length free) (take count slots) (drop count slots) (omega (arith, n, c))) ∙ ap (drop (length free)) (take-append-drop count slots))
 
   module _ {slots₁ : List ℕ} (e : slots₁ ≡ put_front (take count (free_of a.marks)) slots) where
     -- the numbers of the slots that are filled

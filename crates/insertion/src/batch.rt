@@ -46,7 +46,7 @@ pub fn insert_batch(
 {
     let count = bytes.len() / graph.dim;
     let mut inserter = Inserter { graph, how };
-    free_slots(inserter.read().rows.marks, slots, count);
+    free_slots(inserter.read().rows.marks, &mut slots[..count]);
     inserter.insert_chunks(bytes, &slots[..count], scratch);
     count
 }

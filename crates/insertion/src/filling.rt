@@ -8,15 +8,15 @@ use slots::RowsMut;
 use slots::marks::is_valid;
 use vectors::Space;
 
-// Writes the lowest free slots to the front of `slots`: `count` of them are wanted, and they are fewer where not as many are free.
+// Writes the lowest free slots to the front of `slots`: as many as it has room for, and fewer where not as many are free.
 // Counted by hand: tried as a `for` over `filter`, `take` and `enumerate`, where no proof was found that what these yield is the list.
-pub fn free_slots(marks: &[u8], slots: &mut [u32], count: usize)
-    requires { (count ≤ length slots.old) × (length marks.now ≤ 65536) }
-    ensures { slots.new ≡ put_front (take count (filter (λ s. not (is_valid marks.now s)) (range 0 (length marks.now)))) slots.old }
+pub fn free_slots(marks: &[u8], slots: &mut [u32])
+    requires { length marks.now ≤ 65536 }
+    ensures { slots.new ≡ put_front (take (length slots.old) (filter (λ s. not (is_valid marks.now s)) (range 0 (length marks.now)))) slots.old }
 {
     let mut n: usize = 0;
     for s in 0..marks.len() {
-        if n == count {
+        if n == slots.len() {
             return;
         }
         if !is_valid(marks, s) {

@@ -34,7 +34,7 @@ impl Planner<'_, '_, '_> {
     ghost use Rattle.insertion.specs.Inner.Planning.{plan_by};
 
     // Makes the `i`-th plan: what its slot selects follows the `n` candidates of the plans before. Returns how many candidates there are then; that is
-    // the plan's end.
+    // the plan's end. `n` stands beside the scratch: it changes at each turn, and what is written lies in three parts of the layout.
     fn plan_one(&self, i: usize, n: usize, scratch: &mut [u32]) -> usize
         requires { (i < length self.now.slots.now) × (n ≤ i * self.now.graph.rows.degree) × Enough self.now.graph.rows.degree (length self.now.graph.rows.marks.now) scratch.old }
         ensures { Planned self.now.graph.rows.degree (length self.now.graph.rows.marks.now) (plan_by self.now i) scratch.old self.now.at i n result scratch.new }

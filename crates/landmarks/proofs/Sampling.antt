@@ -6,13 +6,15 @@ use mathlib.Core.List.{List, [], ◌++◌, append_assoc, append-nil}
 use native.Mathlib.Omega.{arith}
 use borrow.Author.Tests.{lt-ltb, le-ltb}
 use lib.Dec.{ltb}
-use lib.ListN.{length}
+use lib.ListN.{length, take, drop}
+use borrow.Rule.Slice.PartMut.{put_mid}
+use Rattle.candidates.proofs.Parts.{part_length, written_length, written_here, written_elsewhere}
 use Rattle.lists.specs.Lists.{All, filter, range}
 use Rattle.lists.proofs.All.{by_cases, all_append}
 use Rattle.lists.proofs.Ranges.{range_cons, range_none, filtered_below}
 use Rattle.candidates.specs.Candidates.{scored}
 use Rattle.candidates.specs.Inner.Words.{cands, put}
-use Rattle.candidates.proofs.Words.{cands_none, cands_length, front_push, put_length}
+use Rattle.candidates.proofs.Words.{cands_none, cands_length, cands_append, front_push, put_length}
 use Rattle.candidates.proofs.Scored.{scored_append, scored_length}
 use Rattle.landmarks.specs.Inner.Samples.{far, sampled, sample_by, sample_words, Sampled, Taken}
 
@@ -27,13 +29,18 @@ pub second_fails : {t r u v : Bool} → t ≡ r → t ≡ true → u ≡ v → u
 second_fails e h g k = rw (← e, h, ← g, k)
 
 -- ---- the slots before s are looked at, m candidates are there
-pub record Sampling (p : ℕ → Bool) (capacity : ℕ) (w₀ : List ℕ) (n : ℕ) (w : List ℕ) (m s : ℕ) : Type 0 where
-  pub within : m ≤ n + s
-  pub goes : cands w 0 m ++ scored far (filter p (range s (capacity - s))) ≡ cands w₀ 0 n ++ scored far (filter p (range 0 capacity))
+pub record Sampling (p : ℕ → Bool) (capacity : ℕ) (w₀ w : List ℕ) (m s : ℕ) : Type 0 where
+  pub within : m ≤ s
+  pub goes : cands w 0 m ++ scored far (filter p (range s (capacity - s))) ≡ scored far (filter p (range 0 capacity))
   pub size : length w ≡ length w₀
 
-module _ {p : ℕ → Bool} {capacity : ℕ} {w₀ : List ℕ} {n : ℕ} {w : List ℕ} {m s : ℕ} (f : Sampling p capacity w₀ n w m s) where
-  pub sampling_take : 2 * (n + capacity) ≤ length w₀ → s < capacity → p s ≡ true → Sampling p capacity w₀ n (put w (2 * m) 4294967295 s) (m + 1) (s + 1)
+pub sampling_none : (p : ℕ → Bool) (capacity : ℕ) (w : List ℕ) → Sampling p capacity w w 0 0
+sampling_none p capacity w =
+    let e : capacity - 0 ≡ capacity = omega arith in
+    record { within = omega arith; goes = rw (cands_none w 0 0 refl, e); size = refl }
+
+module _ {p : ℕ → Bool} {capacity : ℕ} {w₀ w : List ℕ} {m s : ℕ} (f : Sampling p capacity w₀ w m s) where
+  pub sampling_take : 2 * capacity ≤ length w₀ → s < capacity → p s ≡ true → Sampling p capacity w₀ (put w (2 * m) 4294967295 s) (m + 1) (s + 1)
   sampling_take l h e =
       let k : 2 * m + 1 < length w = omega (arith, f.within, f.size) in
       record {
@@ -42,10 +49,10 @@ module _ {p : ℕ → Bool} {capacity : ℕ} {w₀ : List ℕ} {n : ℕ} {w : Li
         size = put_length w (2 * m) 4294967295 s ∙ f.size;
       }
 
-  pub sampling_skip : s < capacity → p s ≡ false → Sampling p capacity w₀ n w m (s + 1)
+  pub sampling_skip : s < capacity → p s ≡ false → Sampling p capacity w₀ w m (s + 1)
   sampling_skip h e = record { within = omega (arith, f.within); goes = rw (range_cons capacity s h, e) at f.goes; size = f.size }
 
-  pub sampling_done : s ≤ capacity → capacity ≤ s → Sampled p capacity w₀ n w m
+  pub sampling_done : s ≤ capacity → capacity ≤ s → Sampled p capacity w₀ w m
   sampling_done b h =
       record { list = rw (range_none capacity s h, append-nil) at f.goes; within = omega (arith, f.within); size = f.size }
 
@@ -67,9 +74,9 @@ sample_all P free capacity stride wanted h =
 pub sample_inside : (free : ℕ → Bool) (capacity stride wanted : ℕ) → All (λ s. s < capacity) (sample_by free capacity stride wanted)
 sample_inside free capacity stride wanted = sample_all (λ s. s < capacity) free capacity stride wanted (λ b. filtered_below (sampled stride b free) capacity)
 
-module _ (free : ℕ → Bool) {capacity : ℕ} {w w₁ : List ℕ} {n stride stride' : ℕ} (e : stride ≡ stride') (f : Sampled (sampled stride false free) capacity w 0 w₁ n) where
+module _ (free : ℕ → Bool) {capacity : ℕ} {w w₁ : List ℕ} {n stride stride' : ℕ} (e : stride ≡ stride') (f : Sampled (sampled stride false free) capacity w w₁ n) where
   front : cands w₁ 0 n ≡ scored far (strided stride free capacity)
-  front = f.list ∙ rw (cands_none w 0 0 refl)
+  front = f.list
 
   many : length (strided stride free capacity) ≡ n
   many = sym (sym (cands_length w₁ 0 n) ∙ ap length front ∙ scored_length far (strided stride free capacity))
@@ -83,12 +90,18 @@ module _ (free : ℕ → Bool) {capacity : ℕ} {w w₁ : List ℕ} {n stride st
         size = f.size;
       }
 
-  pub taken_more : {w₂ : List ℕ} {wanted r : ℕ} → wanted ≤ 1024 → sample_words capacity ≤ length w → n < wanted
-      → Sampled (sampled stride true free) capacity w₁ n w₂ r → Taken free capacity stride' wanted w w₂ r
+  pub taken_more : {v : List ℕ} {wanted r : ℕ} → wanted ≤ 1024 → sample_words capacity ≤ length w → n < wanted
+      → Sampled (sampled stride true free) capacity (take (length w₁ - 2 * n) (drop (2 * n) w₁)) v r → Taken free capacity stride' wanted w (put_mid (2 * n) (length w₁ - 2 * n) w₁ v) (n + r)
   unfolding sample_by
-  taken_more {w₂} {wanted} {r} l room h g =
+  taken_more {v} {wanted} {r} l room h g =
+      let k = length w₁ - 2 * n in
+      let w₂ = put_mid (2 * n) k w₁ v in
+      let whole : 2 * n + k ≤ length w₁ = omega (arith, room, f.size, f.within) in
+      let c : length v ≡ k = g.size ∙ part_length w₁ (2 * n) k whole in
+      let first : cands w₂ 0 n ≡ cands w₁ 0 n = written_elsewhere w₁ v (2 * n) k 0 n whole c (λ u. absurd (omega arith)) in
+      let second : cands w₂ (2 * n) r ≡ cands v 0 r = written_here w₁ v n k r whole c (omega (arith, room, f.size, f.within, g.within)) in
       record {
-        list = g.list ∙ rw (front, ← e, lt-ltb (length (strided stride free capacity)) wanted (rw many h)) (sym (scored_append far (strided stride free capacity) (between stride free capacity)));
+        list = (let z : 0 + 2 * n ≡ 2 * n = omega arith in rw z at (cands_append w₂ 0 n r)) ∙ rw (first, second, g.list, front, ← e, lt-ltb (length (strided stride free capacity)) wanted (rw many h)) (sym (scored_append far (strided stride free capacity) (between stride free capacity)));
         room = omega (arith, g.within);
-        size = g.size ∙ f.size;
+        size = written_length w₁ v (2 * n) k whole c ∙ f.size;
       }

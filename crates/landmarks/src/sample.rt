@@ -26,15 +26,15 @@ impl Free<'_> {
     }
 }
 
-// The free slots that `takes` holds of, rising, follow `n` candidates. Returns how many candidates there are then.
-fn sample_slots<F>(free: &Free<'_>, takes: F, words: &mut [u32], n: usize) -> usize
+// Writes the free slots that `takes` holds of, rising, as candidates. Returns how many they are.
+fn sample_slots<F>(free: &Free<'_>, takes: F, words: &mut [u32]) -> usize
 where
     F: Fn(usize) -> bool,
     requires callable { F.IsAlwaysCallable takes }
-    requires room { (length free.now.marks.now ≤ 65536) × (2 * (n + length free.now.marks.now) ≤ length words.old) }
-    ensures { (p : ℕ → Bool) → ((s : ℕ) (r : Bool) → s < 65536 → F.post takes s r → r ≡ p s) → Sampled (λ s. p s && free_of free.now s) (length free.now.marks.now) words.old n words.new result }
+    requires room { (length free.now.marks.now ≤ 65536) × (2 * length free.now.marks.now ≤ length words.old) }
+    ensures { (p : ℕ → Bool) → ((s : ℕ) (r : Bool) → s < 65536 → F.post takes s r → r ≡ p s) → Sampled (λ s. p s && free_of free.now s) (length free.now.marks.now) words.old words.new result }
 {
-    let mut m = n;
+    let mut m: usize = 0;
     for s in 0..free.marks.len() {
         if takes(s) && free.has(s as u32) {
             put(words, m, FAR, s as u32);
@@ -51,9 +51,9 @@ pub fn take_sample(free: &Free<'_>, wanted: usize, sample: usize, words: &mut [u
     ensures { Taken (free_of free.now) (length free.now.marks.now) (stride_of (length free.now.marks.now) sample) wanted words.old words.new result }
 {
     let stride = (free.marks.len() / sample).max(1);
-    let n = sample_slots(free, |s| s % stride == 0, words, 0);
+    let n = sample_slots(free, |s| s % stride == 0, words);
     if n < wanted {
-        return sample_slots(free, |s| s % stride != 0, words, n);
+        return n + sample_slots(free, |s| s % stride != 0, &mut words[2 * n..]);
     }
     n
 }

@@ -131,7 +131,7 @@ fn lend(line: &mut Numbers<'_>, lent: &mut Lent) -> Result<(), Differs>
     line.end()
 }
 
-// Reads n numbers, each `more` than it is, into the start of `to`.
+// Reads n numbers, each `more` than it is, into the start of `to`. `n` stands beside `to`: a line may give more than there is room for, and is turned back then.
 pub fn words<T: TryFrom<u32> + Copy>(
     line: &mut Numbers<'_>,
     n: usize,

@@ -8,7 +8,7 @@ use super::naming::place;
 use super::summary::count_up;
 use sorting::sort;
 
-// Whether a place behind the chunk has the number of one in it.
+// Whether a place behind the chunk has the number of one in it. `a`, where the chunk begins, stands beside the list: the places in `order` count from the front of it.
 fn again_later(given: &[u32], order: &[u32], a: usize) -> bool
     requires { Chunk given.now order.now a (length order.now) }
     ensures { Later given.now order.now a (length order.now) result }

@@ -1,5 +1,5 @@
 -- Search: what the code finds and writes is what the definitions say. Assumes nothing.
-use Prim.Native.Nat.{ℕ, ◌+◌, ◌*◌, min, ◌≤◌, ◌<◌}
+use Prim.Native.Nat.{ℕ, ◌+◌, ◌*◌, ◌/◌, min, ◌≤◌, ◌<◌}
 use mathlib.Core.Bool.{Bool, true, false, not, ◌||◌}
 use mathlib.Core.Path.{◌≡◌, refl, sym, ap, ◌∙◌, subst}
 use mathlib.Core.List.{List, [], ◌∷◌, map, ◌++◌}
@@ -18,7 +18,8 @@ use Rattle.slots.specs.Sizes.{Slices, limits}
 use Rattle.slots.specs.Scratch.{size_answer, marks_at}
 use Rattle.candidates.specs.Candidates.{Candidate, ids}
 use Rattle.vectors.specs.Distance.{f32}
-use Rattle.candidates.specs.Inner.Words.{cand, cands, Small}
+use Rattle.candidates.specs.Inner.Words.{cand, cands, cands_of, Small}
+use Rattle.candidates.proofs.Parts.{cands_front}
 use Rattle.candidates.proofs.Words.{cands_none, cands_length, front_snoc, front_each, cands_take}
 use Rattle.slots.specs.Store.{Arrays, store_view, store_ops}
 use Rattle.numbers.specs.Numbers.{number_of}
@@ -83,7 +84,10 @@ next_shown f w i l l' v e g h =
     let n = cands_length w 0 i in
     rw (e, g, front_snoc w i) (rw n at (front_map f (cands w 0 i) (cand w (2 * i)) l (rw n h)))
 
-module _ {w : List ℕ} {n : ℕ} {slots : List ℕ} {dists : List Float} {slots' : List ℕ} {dists' : List Float} {i : ℕ} (s : Showing w n slots dists slots' dists' i) (f : Fits w n slots dists) where
+module _ {w : List ℕ} {slots : List ℕ} {dists : List Float} {slots' : List ℕ} {dists' : List Float} {i : ℕ} (s : Showing w (length w / 2) slots dists slots' dists' i) (f : Fits w slots dists) where
+  abbrev n : ℕ
+  n = length w / 2
+
   pub showing_more : {dist id : ℕ} {d : Float} {j : ℕ} → i < n → dist ≡ (cand w (2 * i)).dist → id ≡ (cand w (2 * i)).id → (d ≡ f32 dist) × (j ≡ id)
       → Showing w n slots dists (set slots' i j) (set dists' i d) (i + 1)
   showing_more h e g c =
@@ -169,14 +173,24 @@ module _ {index : Index} {s : Slices} (a : Searching) (f : Found) (scratch : Lis
                 let m : min all a.k ≡ a.k = omega arith in
                 rw m (cands_take scratch' 0 all a.k l)
 
-        pub search_fits : Fits scratch' n f.slots.now f.dists.now
+        pub search_inside : 2 * n ≤ length scratch'
+        search_inside = omega (arith, few, words, walked.size)
+
+        shown_list : cands_of (take (2 * n) scratch') ≡ cands scratch' 0 n
+        shown_list = cands_front scratch' n search_inside
+
+        pub search_list : 2 * n ≡ length (take (2 * n) scratch')
+        search_list = sym (length-take-le (2 * n) scratch' search_inside)
+
+        half : length (take (2 * n) scratch') / 2 ≡ n
+        half = omega (arith, search_list)
+
+        pub search_fits : Fits (take (2 * n) scratch') f.slots.now f.dists.now
         search_fits =
             record {
-              few = few;
-              long = omega (arith, words, walked.size);
-              small = subst Small first (all_take (λ c. c.dist ≤ 16777216) a.k (cands scratch' 0 all) walked.small);
-              slots_long = omega (arith, e, room);
-              dists_long = omega (arith, e, room);
+              small = subst Small (first ∙ sym shown_list) (all_take (λ c. c.dist ≤ 16777216) a.k (cands scratch' 0 all) walked.small);
+              slots_long = rw half (omega (arith, e, room));
+              dists_long = rw half (omega (arith, e, room));
             }
 
         -- room for their numbers, beside slots as many as before
@@ -197,8 +211,11 @@ module _ {index : Index} {s : Slices} (a : Searching) (f : Found) (scratch : Lis
         unfolding refusal tests state_of stored store_ops store_view shown room_of
         not_refused m h = let g = sym (let_through d z) ∙ h in cc
 
-        module _ {slots' : List ℕ} {dists' : List Float} {out : List ℕ} (h : Shown scratch' n f.slots.now f.dists.now slots' dists')
+        module _ {slots' : List ℕ} {dists' : List Float} {out : List ℕ} (shown : Shown (cands_of (take (2 * n) scratch')) f.slots.now f.dists.now slots' dists')
             (copied : out ≡ map (number_of s.numbers) (take (length (take n f.numbers.now)) slots')) where
+          h : Shown (cands scratch' 0 n) f.slots.now f.dists.now slots' dists'
+          h = subst (λ l. Shown l f.slots.now f.dists.now slots' dists') shown_list shown
+
           -- the numbers found
           abbrev figures : List ℕ
           figures = map (number_of s.numbers) (ids (cands scratch' 0 n))

@@ -1,6 +1,7 @@
 // Search.
 ghost use Rattle.std.specs.Prelude.{not, ◌||◌, ◌≡◌, min, eqb, ltb, length};
 ghost use Rattle.slots.specs.Sizes.{limits};
+ghost use Rattle.candidates.specs.Inner.Words.{cands_of};
 ghost use Rattle.index.specs.Lent.{slices_of};
 ghost use Rattle.index.specs.Inner.Deciding.{Decided};
 ghost use Rattle.reading.specs.Search.{searching_of, found_of, SameFound, Searches};
@@ -62,13 +63,13 @@ fn check_search(
     Ok(())
 }
 
-// Writes the `n` candidates at the front of the words to the outputs. By places: after `slots.iter_mut().zip(dists)` the proof knows nothing of what was written.
-fn show(words: &[u32], n: usize, slots: &mut [u32], dists: &mut [f32])
-    requires { Fits words.now n slots.old dists.old }
-    ensures { Shown words.now n slots.old dists.old slots.new dists.new }
+// Writes the candidates of a list to the outputs. By places: after `slots.iter_mut().zip(dists)` the proof knows nothing of what was written.
+fn show(list: &[u32], slots: &mut [u32], dists: &mut [f32])
+    requires { Fits list.now slots.old dists.old }
+    ensures { Shown (cands_of list.now) slots.old dists.old slots.new dists.new }
 {
-    for i in 0..n {
-        let c = Candidate::new(dist_at(words, i), id_at(words, i));
+    for i in 0..list.len() / 2 {
+        let c = Candidate::new(dist_at(list, i), id_at(list, i));
         slots[i] = c.id;
         dists[i] = c.dist;
     }
@@ -97,7 +98,7 @@ pub fn search(
     let slots = &mut *found.slots;
     let dists = &mut *found.dists;
     let numbers = &mut *found.numbers;
-    show(scratch, n, slots, dists);
+    show(&scratch[..2 * n], slots, dists);
     copy_numbers(slices.numbers, slots, &mut numbers[..n]);
     Ok(n as u32)
 }

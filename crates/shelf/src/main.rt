@@ -26,7 +26,7 @@ fn print_slot<F: Fn(Reading) -> Option<u32>>(rt: &impl Print, read: &F, slot: u3
     };
     print!(rt; "{slot} {mark} {version}")?;
     for place in 0..2 {
-        // blank is no target
+        // Blank is how C gets a target that is none: see `answer` of reading.
         let target = read(Reading::Target(slot, place)).filter(|t| *t != BLANK);
         if let Some(target) = target {
             print!(rt; " {target}")?;

@@ -1,7 +1,6 @@
 // Insert.
 ghost use Rattle.std.specs.Prelude.{not, ◌||◌, ◌≡◌, ◌+◌, ◌-◌, ◌/◌, ◌≤◌, eqb, ltb, length};
 ghost use Rattle.numbers.specs.Numbers as Numbers;
-ghost use Rattle.numbers.specs.Inner.Listed.{Listed};
 ghost use Rattle.insertion.specs.Batch.{Insertable, BatchInserted};
 ghost use Rattle.index.specs.Index.{arrays_of};
 ghost use Rattle.index.specs.Lent.{slices_of, insert_slices_of, SameInsertSlices};
@@ -47,15 +46,11 @@ fn too_few(capacity: u32, live: u32, n: usize) -> bool
     ((capacity - live) as usize) < n
 }
 
-// Row 15: a given number is 0, carried by a live slot, or twice in the list. By itself, for what the look-up asks, and for its `||`, as above.
-fn taken(numbers: &[u32], summary: &[u32], live: u32, given: &[u32]) -> bool
-    requires { Listed numbers.now summary.now live × (length given.now ≤ 65536) }
-    ensures { result ≡ Numbers.taken numbers.now given.now }
+// Row 15: a given number is 0, carried by a live slot, or twice in the list. By itself, for its `||`, as above.
+fn taken(labels: &Labels<'_>, given: &[u32]) -> bool
+    requires { length given.now ≤ 65536 }
+    ensures { result ≡ Numbers.taken labels.now.numbers.now given.now }
 {
-    let labels = Labels {
-        numbers,
-        summary: &summary[..live as usize],
-    };
     labels.any_live(given) || repeated(given)
 }
 
@@ -85,7 +80,11 @@ fn check_insert(
     if too_few(index.capacity, index.live, n) {
         return Err(Refusal::Full);
     }
-    if taken(slices.numbers, slices.summary, index.live, asked.numbers) {
+    let labels = Labels {
+        numbers: slices.numbers,
+        summary: &slices.summary[..index.live as usize],
+    };
+    if taken(&labels, asked.numbers) {
         return Err(Refusal::Numbers);
     }
     Ok(())
@@ -133,7 +132,7 @@ fn with_more(index: Index, n: u32) -> Index
     }
 }
 
-// Gives the slots filled their numbers, and enters them in the summary of the `live` others.
+// Gives the slots filled their numbers, and enters them in the summary of the `live` others, behind which they are written: so `live` stands beside it.
 fn label(numbers: &mut [u32], summary: &mut [u32], live: u32, slots: &[u32], given: &[u32])
     requires { Labelable numbers.old summary.old live slots.now given.now }
     ensures { Relabelled numbers.old summary.old live slots.now given.now numbers.new summary.new }

@@ -79,9 +79,9 @@ pub record Collects (a : Arrays) (s entry beam : ℕ) (w : List ℕ) (at r q m :
   pub same : (j : ℕ) → work_at (length a.marks) ≤ j → (at ≤ j → at + 640 ≤ j) → get_or w' j 0 ≡ get_or w j 0
 
 -- ---- all plans
--- three counts behind word `at`
-abbrev pub counted : List ℕ → ℕ → ℕ → ℕ → ℕ → List ℕ
-counted w at q m n = set (set (set w (at + 1) q) (at + 2) m) (at + 3) n
+-- the counts of a plan but the first
+abbrev pub counted : List ℕ → ℕ → ℕ → ℕ → List ℕ
+counted w q m n = set (set (set w 1 q) 2 m) 3 n
 
 -- the deleted slots are dead, and the first count of each is that of its row
 pub record Makeable (a : Arrays) (how : Repair) (w : List ℕ) (at : Layout) : Type 0 where

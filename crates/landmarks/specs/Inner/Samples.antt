@@ -43,10 +43,10 @@ abbrev pub sample_words : ℕ → ℕ
 sample_words capacity = 2 * (1024 + capacity)
 
 -- ---- what they leave
--- the slots with p follow n candidates; r are there then
-pub record Sampled (p : ℕ → Bool) (capacity : ℕ) (w : List ℕ) (n : ℕ) (w' : List ℕ) (r : ℕ) : Type 0 where
-  pub list : cands w' 0 r ≡ cands w 0 n ++ scored far (filter p (range 0 capacity))
-  pub within : r ≤ n + capacity
+-- the r candidates are the slots with p
+pub record Sampled (p : ℕ → Bool) (capacity : ℕ) (w w' : List ℕ) (r : ℕ) : Type 0 where
+  pub list : cands w' 0 r ≡ scored far (filter p (range 0 capacity))
+  pub within : r ≤ capacity
   pub size : length w' ≡ length w
 
 -- the r candidates are the sample

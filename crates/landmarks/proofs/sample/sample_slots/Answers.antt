@@ -1,7 +1,11 @@
+use mathlib.Core.Path.{refl}
 use Rattle.std.proofs.Common.{arith}
-use Rattle.landmarks.proofs.Sampling.{sampling_take, sampling_skip, sampling_done, both_hold, first_fails, second_fails}
+use Rattle.landmarks.proofs.Sampling.{sampling_none, sampling_take, sampling_skip, sampling_done, both_hold, first_fails, second_fails}
 use Rattle.landmarks.proofs.sample.sample_slots.Goals as goal
 use Rattle.landmarks.proofs.sample.sample_slots.Goals.{then-takes+then-has, else-takes, else-takes-via-then-takes+else-has, else-takes-via-else-takes}
+
+pub loop-s-init : goal.loop-s-init
+loop-s-init g c = (omega arith, refl, λ p law. sampling_none _ _ _)
 
 pub loop-s-preserved : goal.loop-s-preserved
 loop-s-preserved g c =

@@ -3,6 +3,11 @@ use Rattle.landmarks.specs.Inner.Samples.{free_of, on_stride, stride_of}
 use Rattle.landmarks.proofs.Sampling.{taken_few, taken_more}
 use Rattle.landmarks.proofs.sample.take_sample.Goals as goal
 
+pub overflow_add-result : goal.overflow_add-result
+overflow_add-result c =
+    let g = c.sample_slots.ensures (on_stride c.max-stride.result true) (λ s r h p. search rules) in
+    omega (arith, c.if-n-wanted.true, c.requires.2, c.requires.0, g.within)
+
 pub returns-then-n-wanted : goal.returns-then-n-wanted
 returns-then-n-wanted c =
     let e : c.max-stride.result ≡ stride_of (length c.args.free.now.marks.now) c.args.sample = omega arith in

@@ -1,7 +1,6 @@
 use mathlib.Core.Path.{refl}
-use Rattle.index.specs.Lent.{slices_of}
 use Rattle.index.proofs.Decide.{passed, passed_bytes, passed_rows, handed_on}
-use Rattle.reading.proofs.Finds.{searches_back, search_ready, search_fits, search_named, search_first, search_copies, searches_on}
+use Rattle.reading.proofs.Finds.{searches_back, search_ready, search_inside, search_list, search_fits, search_named, search_first, search_copies, searches_on}
 use Rattle.reading.proofs.searching.search.Goals as goal
 
 pub returns-in_err-check_search : goal.returns-in_err-check_search
@@ -16,6 +15,12 @@ graph-graph-requires-clause-shape c = passed_rows (passed c.check_search.ensures
 
 pub search_pool-pool-requires : goal.search_pool-pool-requires
 search_pool-pool-requires c = search_ready c.args.asked.now c.args.found.now c.args.scratch.now c.check_search.ensures c.in_ok-check_search.was c.graph-graph.ensures
+
+pub slice_bounds-show-end : goal.slice_bounds-show-end
+slice_bounds-show-end c = search_inside c.args.asked.now c.args.found.now c.args.scratch.now c.check_search.ensures c.in_ok-check_search.was c.graph-graph.ensures c.search_pool-pool.ensures c.min-n.ensures
+
+pub slice_bounds-show-end-2 : goal.slice_bounds-show-end-2
+slice_bounds-show-end-2 c = search_list c.args.asked.now c.args.found.now c.args.scratch.now c.check_search.ensures c.in_ok-check_search.was c.graph-graph.ensures c.search_pool-pool.ensures c.min-n.ensures
 
 pub show-requires : goal.show-requires
 show-requires c = search_fits c.args.asked.now c.args.found.now c.args.scratch.now c.check_search.ensures c.in_ok-check_search.was c.graph-graph.ensures c.search_pool-pool.ensures c.min-n.ensures

@@ -1,5 +1,8 @@
+use mathlib.Core.Path.{sym}
+use lib.Seq.{length-take-le}
 use Rattle.index.specs.Lent.{slices_of}
 use Rattle.index.proofs.Decide.{handed_on}
+use Rattle.numbers.proofs.Listing.{listed_front}
 use Rattle.updating.specs.Insert.{inserting_of}
 use Rattle.updating.proofs.Fills.{Asked, turns_before, turns_live, turns_listed, turns_over, turns_short, turns_left, turns_few, turns_taken, turns_none}
 use Rattle.updating.proofs.inserting.check_insert.Goals.{After-check_index}
@@ -26,8 +29,15 @@ too_few-requires c = turns_live c.args.scratch (asked (goal.at.too_few-requires 
 pub returns-then-too_few : goal.returns-then-too_few
 returns-then-too_few c = turns_few c.args.scratch (asked (goal.at.returns-then-too_few c).After-check_index) c.in_ok-check_index.was c.if-asked-gt-BEAM.false c.scratch_short.ensures c.if-scratch_short.false c.if-bytes-n.false c.too_few.ensures c.if-too_few.true
 
+pub slice_bounds-labels-end : goal.slice_bounds-labels-end
+slice_bounds-labels-end c =
+    sym (length-take-le c.args.index.live c.args.slices.now.summary.now (turns_listed c.args.scratch (asked (goal.at.slice_bounds-labels-end c).After-check_index) c.in_ok-check_index.was c.if-asked-gt-BEAM.false c.scratch_short.ensures c.if-scratch_short.false c.if-bytes-n.false c.too_few.ensures c.if-too_few.false).0.placed.long)
+
+pub invariant_of-labels : goal.invariant_of-labels
+invariant_of-labels c = record { listed = listed_front (turns_listed c.args.scratch (asked (goal.at.invariant_of-labels c).After-check_index) c.in_ok-check_index.was c.if-asked-gt-BEAM.false c.scratch_short.ensures c.if-scratch_short.false c.if-bytes-n.false c.too_few.ensures c.if-too_few.false).0 }
+
 pub taken-requires : goal.taken-requires
-taken-requires c = turns_listed c.args.scratch (asked (goal.at.taken-requires c).After-check_index) c.in_ok-check_index.was c.if-asked-gt-BEAM.false c.scratch_short.ensures c.if-scratch_short.false c.if-bytes-n.false c.too_few.ensures c.if-too_few.false
+taken-requires c = (turns_listed c.args.scratch (asked (goal.at.taken-requires c).After-check_index) c.in_ok-check_index.was c.if-asked-gt-BEAM.false c.scratch_short.ensures c.if-scratch_short.false c.if-bytes-n.false c.too_few.ensures c.if-too_few.false).1
 
 pub returns-then-taken : goal.returns-then-taken
 returns-then-taken c = turns_taken c.args.scratch (asked (goal.at.returns-then-taken c).After-check_index) c.in_ok-check_index.was c.if-asked-gt-BEAM.false c.scratch_short.ensures c.if-scratch_short.false c.if-bytes-n.false c.too_few.ensures c.if-too_few.false c.taken.ensures c.if-taken.true
