@@ -8,35 +8,36 @@ use lib.Seq.{get_or-set_same, get_or-set_other}
 use lib.Dec.{eqb}
 use mathlib.Core.Bool.{Bool, true, false}
 use borrow.Author.Tests.{eqb-true, eqb-false}
-use Rattle.vectors.specs.Space.{slot_distance, space, Measured}
-use Rattle.vectors.proofs.Distances.{distance_self}
+use Rattle.vectors.specs.Distance.{distance}
+use Rattle.vectors.specs.Space.{Space, space, slot_distance, Measured}
+use Rattle.vectors.proofs.Distances.{weighted_self}
 use Rattle.distances.specs.Inner.Kept.{pair_of, none, Keeps}
 use Rattle.distances.specs.declared.kept.Entry.{Entry}
 
-self : (dim : ℕ) (vectors : List ℕ) (s : ℕ) → slot_distance (space dim vectors) s s ≡ 0
-unfolding slot_distance
-self dim vectors s = distance_self _
+self : (ws : List ℕ) (dim : ℕ) (vectors : List ℕ) (s : ℕ) → slot_distance (space (distance ws) dim vectors) s s ≡ 0
+unfolding slot_distance space
+self ws dim vectors s = weighted_self ws _
 
-pub keeps_none : (dim : ℕ) (vectors : List ℕ) (n : ℕ) → Keeps dim vectors (replicate n none)
-keeps_none dim vectors n = record {
+pub keeps_none : (ws : List ℕ) (dim : ℕ) (vectors : List ℕ) (n : ℕ) → Keeps (space (distance ws) dim vectors) (replicate n none)
+keeps_none ws dim vectors n = record {
   each = λ i x y h p q e.
       let b : i < n = rw (length-replicate {A = Entry} n none) at h in
       let g : get_or (replicate n none) i none ≡ none = get_or-replicate n i none none b in
       let z : 0 ≡ pair_of x y = rw g at e in
       let u : x ≡ 0 = omega arith in
       let v : y ≡ 0 = omega arith in
-      rw (g, u, v) (record { equals = sym (self dim vectors 0); bound = omega arith });
+      rw (g, u, v) (record { equals = sym (self ws dim vectors 0); bound = omega arith });
 }
 
-module _ {dim : ℕ} {vectors : List ℕ} {entries : List Entry} (k : Keeps dim vectors entries) (i : ℕ) {x y : ℕ} (h : i < length entries) (p : x < 65536) (q : y < 65536) where
-  pub keeps_written : {dist : ℕ} → Measured (slot_distance (space dim vectors) x y) dist → Keeps dim vectors (set entries i (record { pair = pair_of x y; dist = dist }))
+module _ {space : Space} {entries : List Entry} (k : Keeps space entries) (i : ℕ) {x y : ℕ} (h : i < length entries) (p : x < 65536) (q : y < 65536) where
+  pub keeps_written : {dist : ℕ} → Measured (slot_distance space x y) dist → Keeps space (set entries i (record { pair = pair_of x y; dist = dist }))
   keeps_written {dist} m = record { each = λ j v w l a b e. go j v w (rw (length-set entries i written) at l) a b e (eqb j i) refl }
     where
       written : Entry
       written = record { pair = pair_of x y; dist = dist }
 
       go : (j v w : ℕ) → j < length entries → v < 65536 → w < 65536 → (get_or (set entries i written) j none).pair ≡ pair_of v w → (b : Bool) → eqb j i ≡ b
-          → Measured (slot_distance (space dim vectors) v w) (get_or (set entries i written) j none).dist
+          → Measured (slot_distance space v w) (get_or (set entries i written) j none).dist
       go j v w l a b e true t =
           let g : j ≡ i = eqb-true j i t in
           let r : get_or (set entries i written) j none ≡ written = rw g (get_or-set_same entries i written none h) in

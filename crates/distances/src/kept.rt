@@ -1,5 +1,6 @@
 // Distances that are kept, so that each is worked out once.
 ghost use Rattle.std.specs.Prelude.{◌+◌, ◌*◌, ◌<◌};
+ghost use Rattle.vectors.specs.Lent.{space_of};
 ghost use Rattle.distances.specs.Inner.Kept.{Keeps};
 
 use super::slot_distance;
@@ -21,8 +22,8 @@ struct Entry {
 pub struct Kept<'a, const N: usize> {
     pub space: Space<'a>,
     entries: [Entry; N],
-    pub ghost sized: { 24 + N * 8 < 9223372036854775808 },
-    ghost keeps: { Keeps space.dim space.vectors.now entries },
+    pub ghost sized: { 48 + N * 8 < 9223372036854775808 },
+    ghost keeps: { Keeps (space_of space) entries },
 }
 
 impl<'a, const N: usize> Kept<'a, N> {

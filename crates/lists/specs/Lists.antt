@@ -1,10 +1,15 @@
 -- Lists: the functions on lists that the other crates' definitions are written with. Assumes nothing.
-use Rattle.std.specs.Prelude.{ℕ, zero, suc, ◌+◌, ◌*◌, Bool, true, false, not, ◌||◌, cond, List, [], ◌∷◌, ◌++◌, ◌⊎◌, ◌≡◌, length, take, drop, eqb, ltb}
+use Rattle.std.specs.Prelude.{ℕ, zero, suc, ◌+◌, ◌*◌, Bool, true, false, not, ◌&&◌, ◌||◌, cond, List, [], ◌∷◌, ◌++◌, ◌⊎◌, ◌≡◌, length, take, drop, eqb, ltb}
 
 module _ {A : Type 0} where
   abbrev pub filter : (A → Bool) → List A → List A
   filter p [] = []
   filter p (x ∷ xs) = let rest = filter p xs in cond (p x) (x ∷ rest) rest
+
+  -- whether each element passes the test
+  abbrev pub all : (A → Bool) → List A → Bool
+  all p [] = true
+  all p (x ∷ xs) = p x && all p xs
 
   -- the last element; d of an empty list
   abbrev pub last : A → List A → A
@@ -74,6 +79,10 @@ elem a (x ∷ xs) = eqb a x || elem a xs
 abbrev pub times : ℕ → List ℕ → ℕ
 times a [] = 0
 times a (x ∷ xs) = cond (eqb a x) 1 0 + times a xs
+
+abbrev pub sum : List ℕ → ℕ
+sum [] = 0
+sum (x ∷ xs) = x + sum xs
 
 -- a, a + 1, ..: n numbers
 abbrev pub range : ℕ → ℕ → List ℕ

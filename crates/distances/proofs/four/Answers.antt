@@ -1,19 +1,9 @@
--- Four steps of the sum.
-use Prim.Native.Nat.{◌+◌}
+-- Four terms, one behind another.
 use native.Mathlib.Omega.{arith}
-use Rattle.vectors.proofs.Distances.{distance_step_to}
+use Rattle.distances.proofs.Sums.{summed_join}
 use Rattle.distances.proofs.four.Goals as goal
 
 pub returns : goal.returns
-returns c = let at = distance_step_to c.args.a.now c.args.b.now in
-    record {
-      step =
-          omega (
-            arith,
-            at c.args.i (c.args.i + 1) (omega arith) (omega arith) (omega arith),
-            at (c.args.i + 1) (c.args.i + 2) (omega arith) (omega arith) (omega arith),
-            at (c.args.i + 2) (c.args.i + 3) (omega arith) (omega arith) (omega arith),
-            at (c.args.i + 3) (c.args.i + 4) (omega arith) (omega arith) (omega arith),
-          );
-      bound = omega arith;
-    }
+returns g c = let few = c.requires.0.weighing.few in
+    summed_join few 4 (summed_join few 3 (summed_join few 2 c.term.ensures c.term-2.ensures (omega arith) (omega arith)) c.term-3.ensures (omega arith) (omega arith))
+    c.term-4.ensures (omega arith) (omega arith)
