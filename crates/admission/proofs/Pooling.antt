@@ -13,7 +13,7 @@ use Rattle.std.proofs.lemmas.List.{drop_more}
 use Rattle.lists.specs.Lists.{filter, put_front}
 use Rattle.lists.proofs.Filtered.{count_cons}
 use Rattle.lists.proofs.Front.{front_snoc}
-use Rattle.vectors.specs.Space.{slot_distance, space}
+use Rattle.vectors.specs.Space.{Measure, slot_distance, space}
 use Rattle.slots.specs.Scratch.{size_answer}
 use Rattle.slots.specs.View.{emptied}
 use Rattle.slots.specs.Store.{Store, store_view}
@@ -30,7 +30,7 @@ unfolding size_answer
 share_enough capacity h = omega arith
 
 -- ---- the pool that enabling writes
-module _ {dim : ℕ} {vectors marks : List ℕ} {entry count multiplier sample : ℕ} {pool w : List ℕ} (f : Poolable dim vectors marks entry count multiplier sample pool w) where
+module _ {measure : Measure} {dim : ℕ} {vectors marks : List ℕ} {entry count multiplier sample : ℕ} {pool w : List ℕ} (f : Poolable measure dim vectors marks entry count multiplier sample pool w) where
   pub wanted_most : count * multiplier ≤ 1024
   wanted_most = mul-le-mul f.count_most f.multiplier_most
 
@@ -41,21 +41,21 @@ module _ {dim : ℕ} {vectors marks : List ℕ} {entry count multiplier sample :
       go zero h = absurd (omega arith)
       go (suc m) h = omega (arith, mul-suc count m)
 
-  pool_is : (b : Store) (beam : ℕ) → b.arrays.dim ≡ dim → b.arrays.vectors ≡ vectors → b.arrays.marks ≡ marks → b.capacity ≡ length marks
-      → landmarks_by (slot_distance (space dim vectors)) (remains marks []) (length marks) entry (count * multiplier) sample [] ≡ landmark_pool (store_view b) (config count multiplier sample beam) entry
+  pool_is : (b : Store) (beam : ℕ) → b.arrays.measure ≡ measure → b.arrays.dim ≡ dim → b.arrays.vectors ≡ vectors → b.arrays.marks ≡ marks → b.capacity ≡ length marks
+      → landmarks_by (slot_distance (space measure dim vectors)) (remains marks []) (length marks) entry (count * multiplier) sample [] ≡ landmark_pool (store_view b) (config count multiplier sample beam) entry
   unfolding landmark_pool emptied
-  pool_is b beam x y z u =
-      rw (some_wanted, ← x, ← y, ← z)
+  pool_is b beam m x y z u =
+      rw (some_wanted, ← m, ← x, ← y, ← z)
       (ap (λ (k : ℕ → List ℕ → List ℕ). k (count * multiplier) []) (selects_same b (u ∙ ap length (sym z)) [] entry sample))
 
   pub pooled : {wanted : ℕ} {pool' : List ℕ} {r : ℕ} → wanted ≡ count * multiplier
-      → Fronted (landmarks_by (slot_distance (space dim vectors)) (remains marks []) (length marks) entry wanted sample []) pool pool' r
-      → Pooled dim vectors marks entry count multiplier sample pool pool' r
+      → Fronted (landmarks_by (slot_distance (space measure dim vectors)) (remains marks []) (length marks) entry wanted sample []) pool pool' r
+      → Pooled measure dim vectors marks entry count multiplier sample pool pool' r
   pooled {wanted} {pool'} {r} e g =
-      let k : Fronted (landmarks_by (slot_distance (space dim vectors)) (remains marks []) (length marks) entry (count * multiplier) sample []) pool pool' r = rw e at g in
+      let k : Fronted (landmarks_by (slot_distance (space measure dim vectors)) (remains marks []) (length marks) entry (count * multiplier) sample []) pool pool' r = rw e at g in
       record {
-        does = λ b beam x y z u. rw (← pool_is b beam x y z u) k;
-        few = omega (arith, k.count, landmarks_few (slot_distance (space dim vectors)) (remains marks []) (length marks) entry (count * multiplier) sample [], wanted_most);
+        does = λ b beam m x y z u. rw (← pool_is b beam m x y z u) k;
+        few = omega (arith, k.count, landmarks_few (slot_distance (space measure dim vectors)) (remains marks []) (length marks) entry (count * multiplier) sample [], wanted_most);
       }
 
 -- ---- a test among the elements of a list: c of those before place i pass it

@@ -143,7 +143,7 @@ probe_view v count multiplier sample beam start pool deleted = refl
 probe_same : (b : Store) → b.capacity ≡ length b.arrays.marks → (count multiplier sample beam start : ℕ) (pool out : List ℕ) {requested : ℕ}
     → remains b.arrays.marks out start ≡ true → requested ≡ length (emptied (store_view b) out)
     → probe (store_view b) (config count multiplier sample beam) pool (emptied (store_view b) out) (some start)
-    ≡ probe_by (remains b.arrays.marks out) (meets b.arrays [] beam start) (meets b.arrays out beam start) (λ wanted existing. landmarks_by (slot_distance (space b.arrays.dim b.arrays.vectors)) (remains b.arrays.marks out) (length b.arrays.marks) start wanted sample existing) count pool requested start
+    ≡ probe_by (remains b.arrays.marks out) (meets b.arrays [] beam start) (meets b.arrays out beam start) (λ wanted existing. landmarks_by (slot_distance (space b.arrays.measure b.arrays.dim b.arrays.vectors)) (remains b.arrays.marks out) (length b.arrays.marks) start wanted sample existing) count pool requested start
 probe_same b whole count multiplier sample beam start pool out {requested} h q =
     let deleted = emptied (store_view b) out in
     let after = reaches (store_view b) deleted beam start in
@@ -213,7 +213,7 @@ module _ (a : Arrays) (entry count sample beam : ℕ) (pool out : List ℕ) {req
     module _ {start : ℕ} (h : found ≡ Some start) where
       -- what `probe` makes of the slices
       abbrev looks : Report
-      looks = probe_by (remains a.marks out) (meets a [] beam start) (meets a out beam start) (λ wanted existing. landmarks_by (slot_distance (space a.dim a.vectors)) (remains a.marks out) (length a.marks) start wanted sample existing) count pool requested start
+      looks = probe_by (remains a.marks out) (meets a [] beam start) (meets a out beam start) (λ wanted existing. landmarks_by (slot_distance (space a.measure a.dim a.vectors)) (remains a.marks out) (length a.marks) start wanted sample existing) count pool requested start
 
       pub start_stays : remains a.marks out start ≡ true
       start_stays = e.found start h

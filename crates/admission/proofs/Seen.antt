@@ -35,7 +35,7 @@ module _ (b : Store) where
       go s true e = rw (e, elem_sorted (is_valid a.marks) s e out)
       go s false e = rw e
 
-  distances : slot_distance (space a.dim a.vectors) ≡ slot_distance v.space
+  distances : slot_distance (space a.measure a.dim a.vectors) ≡ slot_distance v.space
   unfolding slot_distance space store_view vector_of
   distances = refl
 
@@ -45,14 +45,14 @@ module _ (b : Store) where
     capacities = sym whole
 
     pub selects_same : (out : List ℕ) (start sample : ℕ)
-        → ◌≡◌ {A = ℕ → List ℕ → List ℕ} (λ wanted existing. landmarks_by (slot_distance (space a.dim a.vectors)) (remains a.marks out) (length a.marks) start wanted sample existing)
+        → ◌≡◌ {A = ℕ → List ℕ → List ℕ} (λ wanted existing. landmarks_by (slot_distance (space a.measure a.dim a.vectors)) (remains a.marks out) (length a.marks) start wanted sample existing)
         (λ wanted existing. select_landmarks v (emptied v out) start wanted sample existing)
     selects_same out start sample = fun_ext (λ wanted. fun_ext (λ existing. one wanted existing))
       where
-        one : (wanted : ℕ) (existing : List ℕ) → landmarks_by (slot_distance (space a.dim a.vectors)) (remains a.marks out) (length a.marks) start wanted sample existing
+        one : (wanted : ℕ) (existing : List ℕ) → landmarks_by (slot_distance (space a.measure a.dim a.vectors)) (remains a.marks out) (length a.marks) start wanted sample existing
             ≡ select_landmarks v (emptied v out) start wanted sample existing
         one wanted existing =
-            ap (λ (p : ℕ → Bool). landmarks_by (slot_distance (space a.dim a.vectors)) p (length a.marks) start wanted sample existing) (stays_same out)
+            ap (λ (p : ℕ → Bool). landmarks_by (slot_distance (space a.measure a.dim a.vectors)) p (length a.marks) start wanted sample existing) (stays_same out)
             ∙ ap (λ (d : ℕ → ℕ → ℕ). landmarks_by d (stays v (emptied v out)) (length a.marks) start wanted sample existing) distances
             ∙ ap (λ (n : ℕ). landmarks_by (slot_distance v.space) (stays v (emptied v out)) n start wanted sample existing) capacities
             ∙ landmarks_view v (emptied v out) start existing wanted sample
@@ -68,7 +68,7 @@ module _ (b : Store) where
     meets_named : (beam start : ℕ) (out : List ℕ) (l : ℕ) → meets a out beam start l ≡ meets a (emptied v out) beam start l
     unfolding meets emptied store_view
     meets_named beam start out l =
-        ap (λ (near : ℕ → List ℕ). elem l (ids (graph_search (length a.marks) start beam (query_distance (space a.dim a.vectors) (part a.dim l a.vectors)) near)))
+        ap (λ (near : ℕ → List ℕ). elem l (ids (graph_search (length a.marks) start beam (query_distance (space a.measure a.dim a.vectors) (part a.dim l a.vectors)) near)))
         (fun_ext (λ s. near_but_live a out s))
 
     pub reaches_same : (beam start : ℕ) (out : List ℕ) → remains a.marks out start ≡ true → meets a out beam start ≡ reaches v (emptied v out) beam start

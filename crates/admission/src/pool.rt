@@ -1,6 +1,7 @@
 // The landmark pool: choosing it, how many of it are live, and those of it that stay when some slots are to be deleted.
 ghost use Rattle.std.specs.Prelude.{◌≡◌, ◌≤◌, length, take};
 ghost use Rattle.lists.specs.Lists.{filter};
+ghost use Rattle.vectors.specs.Lent.{measure_of};
 ghost use Rattle.slots.specs.Store.{is_valid};
 ghost use Rattle.landmarks.specs.Inner.Samples.{remains};
 ghost use Rattle.landmarks.specs.Inner.Choices.{Fronted};
@@ -20,8 +21,8 @@ pub fn landmark_pool(
     pool: &mut [u32],
     scratch: &mut [u32],
 ) -> usize
-    requires { Poolable space.now.dim space.now.vectors.now marks.now entry settings.count settings.multiplier settings.sample pool.old scratch.old }
-    ensures { Pooled space.now.dim space.now.vectors.now marks.now entry settings.count settings.multiplier settings.sample pool.old pool.new result }
+    requires { Poolable (measure_of space.now.weights) space.now.dim space.now.vectors.now marks.now entry settings.count settings.multiplier settings.sample pool.old scratch.old }
+    ensures { Pooled (measure_of space.now.weights) space.now.dim space.now.vectors.now marks.now entry settings.count settings.multiplier settings.sample pool.old pool.new result }
 {
     let free = Free {
         marks,

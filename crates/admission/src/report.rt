@@ -2,6 +2,7 @@
 ghost use Rattle.std.specs.Prelude.{false, ◌&&◌, [], ◌≡◌, ◌<◌, ◌≤◌, eqb, ltb, length};
 ghost use Rattle.lists.specs.Lists.{filter, elem, sorted_set};
 ghost use Rattle.vectors.specs.Space.{slot_distance, space};
+ghost use Rattle.vectors.specs.Lent.{measure_of};
 ghost use Rattle.slots.specs.Store.{is_valid};
 ghost use Rattle.slots.specs.Lent.{graph_of};
 ghost use Rattle.landmarks.specs.Inner.Samples.{remains};
@@ -69,7 +70,7 @@ fn check_landmarks(
     scratch: &mut [u32],
 ) -> (usize, usize)
     requires { Checkable (length trial.now.graph.rows.marks.now) trial.now.entry settings.count settings.sample checked.old scratch.old }
-    ensures { Checks (length trial.now.graph.rows.marks.now) (remains trial.now.graph.rows.marks.now ids.now) (λ wanted existing. landmarks_by (slot_distance (space trial.now.graph.space.dim trial.now.graph.space.vectors.now)) (remains trial.now.graph.rows.marks.now ids.now) (length trial.now.graph.rows.marks.now) trial.now.entry wanted settings.sample existing) settings.count pool.now checked.old checked.new result.0 result.1 }
+    ensures { Checks (length trial.now.graph.rows.marks.now) (remains trial.now.graph.rows.marks.now ids.now) (λ wanted existing. landmarks_by (slot_distance (space (measure_of trial.now.graph.space.weights) trial.now.graph.space.dim trial.now.graph.space.vectors.now)) (remains trial.now.graph.rows.marks.now ids.now) (length trial.now.graph.rows.marks.now) trial.now.entry wanted settings.sample existing) settings.count pool.now checked.old checked.new result.0 result.1 }
 {
     let marks = trial.graph.rows.marks;
     let count = settings.count;
@@ -103,7 +104,7 @@ fn probe(
 ) -> Report
     requires assessable { Assessable (graph_of trial.now.graph) settings.count settings.sample trial.now.beam pool.now (length pool.now) ids.now lists.old.checked.now lists.old.lost.now scratch.old }
     requires start_in_bounds { (trial.now.entry < length trial.now.graph.rows.marks.now) × (elem trial.now.entry ids.now ≡ false) }
-    ensures { Reports (probe_by (remains trial.now.graph.rows.marks.now ids.now) (meets (graph_of trial.now.graph) [] trial.now.beam trial.now.entry) (meets (graph_of trial.now.graph) ids.now trial.now.beam trial.now.entry) (λ wanted existing. landmarks_by (slot_distance (space trial.now.graph.space.dim trial.now.graph.space.vectors.now)) (remains trial.now.graph.rows.marks.now ids.now) (length trial.now.graph.rows.marks.now) trial.now.entry wanted settings.sample existing) settings.count pool.now 0 trial.now.entry) lists.old.checked.now lists.new.checked.now lists.old.lost.now lists.new.lost.now result × SameLists lists.old lists.new }
+    ensures { Reports (probe_by (remains trial.now.graph.rows.marks.now ids.now) (meets (graph_of trial.now.graph) [] trial.now.beam trial.now.entry) (meets (graph_of trial.now.graph) ids.now trial.now.beam trial.now.entry) (λ wanted existing. landmarks_by (slot_distance (space (measure_of trial.now.graph.space.weights) trial.now.graph.space.dim trial.now.graph.space.vectors.now)) (remains trial.now.graph.rows.marks.now ids.now) (length trial.now.graph.rows.marks.now) trial.now.entry wanted settings.sample existing) settings.count pool.now 0 trial.now.entry) lists.old.checked.now lists.new.checked.now lists.old.lost.now lists.new.lost.now result × SameLists lists.old lists.new }
 {
     let checked = &mut *lists.checked;
     let lost = &mut *lists.lost;

@@ -10,6 +10,7 @@ use lib.ListN.{length, take, drop}
 use Rattle.lists.specs.Lists.{All, filter, foldl, sort_by}
 use Rattle.lists.proofs.All.{all_map, all_sort, filter_test}
 use Rattle.lists.proofs.Unique.{all_distinct}
+use Rattle.vectors.specs.Space.{Measure}
 use Rattle.candidates.specs.Candidates.{Candidate, ids}
 use Rattle.candidates.specs.Inner.Words.{cand, cands, cands_of}
 use Rattle.candidates.proofs.Parts.{whole_part}
@@ -113,13 +114,13 @@ module _ {a₀ : Arrays} {w : List ℕ} {a : Arrays} {k : ℕ} (f : Finishing a�
 
     pub finishing_more : {targets' edges' versions' : List ℕ} → Finished a.degree a.targets a.edges a.versions u targets' edges' versions'
         → length targets' ≡ length a.targets → length edges' ≡ length a.edges → length versions' ≡ length a.versions
-        → Finishing a₀ w (arrays a.dim a.degree a.vectors targets' edges' versions' a.marks) (k + 1)
+        → Finishing a₀ w (arrays a.measure a.dim a.degree a.vectors targets' edges' versions' a.marks) (k + 1)
     finishing_more {targets'} {edges'} {versions'} d lt le lv =
         record {
           goes = λ alpha entry.
               let b = index_of alpha entry a in
-              let y : index_of alpha entry (arrays a.dim a.degree a.vectors targets' edges' versions' a.marks) ≡ store_ops.finish b (cand w (2 * k)).id =
-              (d.does a.dim a.vectors a.marks).does b refl (rw the_slot slot_in) ∙ ap (store_ops.finish b) the_slot in
+              let y : index_of alpha entry (arrays a.measure a.dim a.degree a.vectors targets' edges' versions' a.marks) ≡ store_ops.finish b (cand w (2 * k)).id =
+              (d.does a.measure a.dim a.vectors a.marks).does b refl (rw the_slot slot_in) ∙ ap (store_ops.finish b) the_slot in
               ap (λ (c : Store). foldl store_ops.finish c (ids (cands w (2 * (k + 1)) (length w / 2 - (k + 1))))) y ∙ (rw (front_cons w (length w / 2) k h) at (f.goes alpha entry));
           together =
               record {
@@ -143,14 +144,14 @@ module _ {a₀ : Arrays} {w : List ℕ} {a : Arrays} {k : ℕ} (f : Finishing a�
 
 -- ---- the later acts
 -- what links make of the slices that rows were built from
-pub settled : {alpha : Float} {dim : ℕ} {vectors marks : List ℕ} {rows rows' : RowsMut} {ls : List Link} {w w' : List ℕ} {at k : ℕ} {targets edges : List ℕ} → SameSlices rows rows'
-    → Applied alpha (rows_mut_of dim vectors rows marks) ls (rows_mut_of dim vectors rows' marks) w at k w' → targets ≡ rows'.targets.now → edges ≡ rows'.edges.now
-    → Applied alpha (rows_mut_of dim vectors rows marks) ls (arrays dim rows.degree vectors targets edges rows.versions.now marks) w at k w'
+pub settled : {alpha : Float} {measure : Measure} {dim : ℕ} {vectors marks : List ℕ} {rows rows' : RowsMut} {ls : List Link} {w w' : List ℕ} {at k : ℕ} {targets edges : List ℕ} → SameSlices rows rows'
+    → Applied alpha (rows_mut_of measure dim vectors rows marks) ls (rows_mut_of measure dim vectors rows' marks) w at k w' → targets ≡ rows'.targets.now → edges ≡ rows'.edges.now
+    → Applied alpha (rows_mut_of measure dim vectors rows marks) ls (arrays measure dim rows.degree vectors targets edges rows.versions.now marks) w at k w'
 settled x s t e = rw (t, e) (rw (x.degree, x.versions) at s)
 
 module _ {a : Arrays} {how : Repair} {w : List ℕ} {at : Layout} {w₁ : List ℕ}
     (o : Together a) (f : Repairable a how w at) (m : PlansMade a how w at w₁) where
-  module _ {a₁ : Arrays} {w₂ : List ℕ} (s : Applied how.alpha a (plans_at (between a.dim a.vectors) how.degree how.entry w₁ at.stats at.plans at.count) a₁ w₁ at.base (plan_words a.degree) w₂) where
+  module _ {a₁ : Arrays} {w₂ : List ℕ} (s : Applied how.alpha a (plans_at (between a.measure a.dim a.vectors) how.degree how.entry w₁ at.stats at.plans at.count) a₁ w₁ at.base (plan_words a.degree) w₂) where
     slots_stay : cands w₂ at.from at.count ≡ cands w at.from at.count
     slots_stay =
         cands_agree w₁ w₂ at.from at.count (λ j l h. s.same j (λ q. omega (arith, f.placed, f.makes.table.first, f.makes.table.second)))

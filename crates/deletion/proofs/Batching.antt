@@ -70,7 +70,7 @@ cleared_dead marks (c ∷ cs) = (rw (zero_cleared (set marks c.id 0) (ids cs) c.
 
 -- arrays with other marks
 abbrev with_marks : Arrays → List ℕ → Arrays
-with_marks a marks = arrays a.dim a.degree a.vectors a.targets a.edges a.versions marks
+with_marks a marks = arrays a.measure a.dim a.degree a.vectors a.targets a.edges a.versions marks
 
 kills : (b : Store) (ss : List ℕ) → All (λ s. s < b.capacity) ss → foldl store_ops.kill b ss ≡ with_arrays b (with_marks b.arrays (cleared b.arrays.marks ss))
 unfolding store_ops set_mark
@@ -108,7 +108,7 @@ module _ (a : Arrays) (alpha : Float) (entry : ℕ) (marks' : List ℕ) (how : R
   b₂ = index_of alpha how.entry (with_marks a marks')
 
   abbrev dist : ℕ → ℕ → ℕ
-  dist = between a.dim a.vectors
+  dist = between a.measure a.dim a.vectors
 
   vector_same : (s : ℕ) → (store_view b₀).space.vector s ≡ (store_view b₂).space.vector s
   unfolding store_view vector_of
@@ -282,7 +282,7 @@ module _ {a : Arrays} {entry repair_beam repair_degree : ℕ} {named w : List �
         b' = index_of alpha e (with_marks a marks')
 
         abbrev links : List Link
-        links = plans_at (between a.dim a.vectors) d e r.made at.stats at.plans p
+        links = plans_at (between a.measure a.dim a.vectors) d e r.made at.stats at.plans p
 
         below : at.from + 2 * p ≤ at.stats
         below = (taken_table batch_takes c.list).first

@@ -1,10 +1,11 @@
 -- The graph that a delete writes, as lists. Assumes nothing.
 use Rattle.std.specs.Prelude.{◌≡◌}
+use Rattle.vectors.specs.Lent.{measure_of}
 use Rattle.slots.specs.Store.{Arrays, arrays}
 use Rattle.deletion.specs.declared.graph.GraphMut.{GraphMut}
 
 abbrev pub graph_mut_of : GraphMut → Arrays
-graph_mut_of g = arrays g.space.dim g.degree g.space.vectors.now g.targets.now g.edges.now g.versions.now g.marks.now
+graph_mut_of g = arrays (measure_of g.space.weights) g.space.dim g.degree g.space.vectors.now g.targets.now g.edges.now g.versions.now g.marks.now
 
 -- what a function leaves of it: the same slices
 pub record SameGraph (g g' : GraphMut) : Type 0 where

@@ -1,5 +1,6 @@
 // The acts of a delete, in two halves: slots and their rows taken; rows around them repaired, and slots emptied.
 ghost use Rattle.std.specs.Prelude.{◌<◌, ◌≤◌, length};
+ghost use Rattle.vectors.specs.Lent.{measure_of};
 ghost use Rattle.slots.specs.Lent.{graph_of, SameSlices};
 ghost use Rattle.row.specs.Row.{Together};
 ghost use Rattle.links.specs.Inner.Linking.{between, arrays_of, Applied};
@@ -69,7 +70,7 @@ fn link_rows(
     requires together { Together (arrays_of space.now rows.old marks.now) }
     requires linkable { (how.entry < length marks.now) × Plans marks.now scratch.old at.stats at.plans at.count at.base × Area rows.old.degree scratch.old at.base × (how.degree ≤ 16) }
     ensures { Applied how.alpha (arrays_of space.now rows.old marks.now)
-        (plans_at (between space.now.dim space.now.vectors.now) how.degree how.entry scratch.old at.stats at.plans at.count)
+        (plans_at (between (measure_of space.now.weights) space.now.dim space.now.vectors.now) how.degree how.entry scratch.old at.stats at.plans at.count)
         (arrays_of space.now rows.new marks.now) scratch.old at.base (plan_words rows.old.degree) scratch.new × SameSlices rows.old rows.new }
 {
     let mut kept = Kept::new(*space);

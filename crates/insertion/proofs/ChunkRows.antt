@@ -10,6 +10,7 @@ use lib.ListN.{length, get_or}
 use lib.Ieee.{Float}
 use Rattle.lists.specs.Lists.{filter, foldl, range, elem, sorted_set}
 use Rattle.lists.proofs.Ranges.{foldl_same}
+use Rattle.vectors.specs.Lent.{measure_of}
 use Rattle.slots.specs.Store.{Arrays, Store, store_view, store_ops}
 use Rattle.slots.specs.Lent.{rows_mut_of, SameSlices}
 use Rattle.slots.specs.Ops.{Row, write_rows}
@@ -109,7 +110,7 @@ module _ (p : Pruner 0) (slots : List ℕ) {w : List ℕ} {at : Layout} {n : ℕ
 
 -- what is left beside what stays
 pub rows_end : {how : Selection} {p p₂ : Pruner 0} {slots w : List ℕ} {at : Layout} {n : ℕ} → p.alpha ≡ how.alpha → ((entry : ℕ) → Written entry p (rows_written w at n slots (index_by entry p)) p₂)
-    → RowsWritten how (held p) slots w at n (rows_mut_of p.kept.now.space.dim p.kept.now.space.vectors.now p₂.rows.now p.marks.now) × SameSlices p.rows.now p₂.rows.now
+    → RowsWritten how (held p) slots w at n (rows_mut_of (measure_of p.kept.now.space.weights) p.kept.now.space.dim p.kept.now.space.vectors.now p₂.rows.now p.marks.now) × SameSlices p.rows.now p₂.rows.now
 rows_end {how} {p} {p₂} a g =
     let s = (g 0).same in
     let x = p₂.together in

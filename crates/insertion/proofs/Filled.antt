@@ -9,10 +9,11 @@ use lib.ListN.{length, take, drop, get_or, set, length-set, take-append-drop}
 use lib.Seq.{length-take-le, take-suc-set, drop-set-lt, drop-drop, take-nil}
 use Rattle.lists.specs.Lists.{filter, range, part, put_front}
 use Rattle.lists.proofs.Parts.{fits_in}
-use Rattle.slots.specs.Store.{Store, is_valid, store_ops, arrays}
+use Rattle.vectors.specs.Lent.{measure_of}
+use Rattle.slots.specs.Store.{Arrays, Store, is_valid, store_ops, arrays}
 use Rattle.slots.specs.Inner.Writing.{SlotIn, Filled}
 use Rattle.slots.proofs.Places.{shape_fits}
-use Rattle.row.specs.Row.{Together}
+use Rattle.row.specs.Row.{Together, index_of}
 use Rattle.insert.specs.Insert.{fill_all}
 use Rattle.insertion.specs.declared.inserter.Inserter.{Inserter}
 use Rattle.insertion.specs.Inner.Filling.{fillings_from, chunk_of, Fillable}
@@ -91,11 +92,20 @@ module _ (i : Inserter) {s : ℕ} {v : List ℕ} (h : s < length i.graph.now.mar
 
   module _ {vectors targets edges marks : List ℕ}
       (g : Filled i.graph.now.dim i.graph.now.degree i.graph.now.vectors.now i.graph.now.targets.now i.graph.now.edges.now i.graph.now.versions.now i.graph.now.marks.now s v vectors targets edges marks) where
-    pub slot_long : AsLong (held i) (arrays i.graph.now.dim i.graph.now.degree vectors targets edges i.graph.now.versions.now marks)
+    pub slot_long : AsLong (held i) (arrays (measure_of i.graph.now.weights) i.graph.now.dim i.graph.now.degree vectors targets edges i.graph.now.versions.now marks)
     slot_long = long_filled (held i) s v i.together l h g
 
-    pub slot_together : Together (arrays i.graph.now.dim i.graph.now.degree vectors targets edges i.graph.now.versions.now marks)
+    pub slot_together : Together (arrays (measure_of i.graph.now.weights) i.graph.now.dim i.graph.now.degree vectors targets edges i.graph.now.versions.now marks)
     slot_together = together_as slot_long i.together
+
+    -- the index, once the rows are back in the graph that they were built from
+    pub slot_filled : {targets' edges' : List ℕ} → targets' ≡ targets → edges' ≡ edges
+        → index_of i.how.alpha i.how.entry (arrays (measure_of i.graph.now.weights) i.graph.now.dim i.graph.now.degree vectors targets' edges' i.graph.now.versions.now marks) ≡ store_ops.fill (index_in i) s v
+    slot_filled t e =
+        let a : Arrays = arrays (measure_of i.graph.now.weights) i.graph.now.dim i.graph.now.degree vectors targets edges i.graph.now.versions.now marks in
+        rw (t, e)
+        (ap (λ (n : ℕ). record { arrays = a; capacity = n; alpha = i.how.alpha; entry = i.how.entry }) slot_long.marks
+        ∙ (g.does (measure_of i.graph.now.weights)).does (index_in i) refl h)
 
 -- ---- all slots of a chunk
 pub record FilledUpTo (bytes slots : List ℕ) (i₀ i : Inserter) (k : ℕ) : Type 0 where

@@ -8,6 +8,7 @@ use borrow.Author.Tests.{lt-ltb, le-ltb}
 use Rattle.std.proofs.lemmas.List.{get_or-take, length-take-le}
 use lib.ListN.{length, take, drop, get_or}
 use Rattle.lists.specs.Lists.{foldl, range}
+use Rattle.vectors.specs.Lent.{measure_of}
 use Rattle.slots.specs.Scratch.{marks_at}
 use Rattle.slots.specs.Store.{Store, store_ops, arrays}
 use Rattle.candidates.specs.Candidates.{ids}
@@ -47,15 +48,15 @@ module _ (p : Pruner 0) (at : Layout) (n : ℕ) {s : ℕ} {w : List ℕ} (b e : 
 
     module _ {targets edges : List ℕ}
         (f : Wrote p.rows.now.degree p.rows.now.targets.now p.rows.now.edges.now p.rows.now.versions.now s (ids (cands_of (take (at.plans + 2 * e - (at.plans + 2 * b)) (drop (at.plans + 2 * b) (take at.chosen w))))) targets edges) where
-      written : (entry : ℕ) → index_of p.alpha entry (arrays p.kept.now.space.dim p.rows.now.degree p.kept.now.space.vectors.now targets edges p.rows.now.versions.now p.marks.now)
+      written : (entry : ℕ) → index_of p.alpha entry (arrays (measure_of p.kept.now.space.weights) p.kept.now.space.dim p.rows.now.degree p.kept.now.space.vectors.now targets edges p.rows.now.versions.now p.marks.now)
           ≡ store_ops.write (index_by entry p) s (ids (cands w (at.plans + 2 * b) (e - b)))
-      written entry = (f.does p.kept.now.space.dim p.kept.now.space.vectors.now p.marks.now).does (index_by entry p) refl h ∙ ap (λ cs. store_ops.write (index_by entry p) s (ids cs)) own_list.1
+      written entry = (f.does (measure_of p.kept.now.space.weights) p.kept.now.space.dim p.kept.now.space.vectors.now p.marks.now).does (index_by entry p) refl h ∙ ap (λ cs. store_ops.write (index_by entry p) s (ids cs)) own_list.1
 
-      pub unnamed_together : Together (arrays p.kept.now.space.dim p.rows.now.degree p.kept.now.space.vectors.now targets edges p.rows.now.versions.now p.marks.now)
+      pub unnamed_together : Together (arrays (measure_of p.kept.now.space.weights) p.kept.now.space.dim p.rows.now.degree p.kept.now.space.vectors.now targets edges p.rows.now.versions.now p.marks.now)
       unnamed_together = together_as (long_written (held p) s _ p.together (written 0)) p.together
 
       pub unnamed_written : (u : List ℕ) {z : ℕ} → length u ≡ length (drop at.chosen w) → z ≡ s → n ≤ get_or w (marks_at + z) 0 → (entry : ℕ)
-          → (index_of p.alpha entry (arrays p.kept.now.space.dim p.rows.now.degree p.kept.now.space.vectors.now targets edges p.rows.now.versions.now p.marks.now)
+          → (index_of p.alpha entry (arrays (measure_of p.kept.now.space.weights) p.kept.now.space.dim p.rows.now.degree p.kept.now.space.vectors.now targets edges p.rows.now.versions.now p.marks.now)
           ≡ own_row w n (cands w (at.plans + 2 * b) (e - b)) (index_by entry p) s)
           × Below at.chosen w (take at.chosen w ++ u)
       unfolding own_row

@@ -12,6 +12,7 @@ use lib.Seq.{get_or-set_same, get_or-set_other}
 use Rattle.lists.specs.Lists.{All, part}
 use Rattle.lists.proofs.Parts.{before_next}
 use Rattle.vectors.specs.Space.{slot_distance, space}
+use Rattle.vectors.specs.Lent.{measure_of}
 use Rattle.slots.specs.Store.{is_valid, store_view}
 use Rattle.slots.specs.Lent.{graph_of}
 use Rattle.candidates.specs.Inner.Words.{cands, cands_of, Small}
@@ -117,11 +118,11 @@ module _ (p : Planner) {i n : ℕ} (w : List ℕ) (h : i < length p.slots.now) (
 
     module _ {id : ℕ} (d : id ≡ get_or p.slots.now i 0) {r : ℕ} (v u : List ℕ) (m : length v ≡ length (take (2 * k) (take (p.at.plans + 2 * n) w₁)))
         (o : length u ≡ length (take (2 * p.graph.rows.degree) (drop (p.at.plans + 2 * n) w₁)))
-        (a : Pruned (length (take (2 * p.graph.rows.degree) (drop (p.at.plans + 2 * n) w₁)) / 2) p.how.alpha (is_valid p.graph.rows.marks.now) (slot_distance (space p.graph.space.dim p.graph.space.vectors.now)) id (cands_of (take (2 * k) (take (p.at.plans + 2 * n) w₁))) r u) where
+        (a : Pruned (length (take (2 * p.graph.rows.degree) (drop (p.at.plans + 2 * n) w₁)) / 2) p.how.alpha (is_valid p.graph.rows.marks.now) (slot_distance (space (measure_of p.graph.space.weights) p.graph.space.dim p.graph.space.vectors.now)) id (cands_of (take (2 * k) (take (p.at.plans + 2 * n) w₁))) r u) where
       abbrev w₂ : List ℕ
       w₂ = v ++ drop (2 * k) (take (p.at.plans + 2 * n) w₁) ++ (u ++ drop (2 * p.graph.rows.degree) (drop (p.at.plans + 2 * n) w₁))
 
-      g : Chose p.graph.rows.degree p.how.alpha (is_valid p.graph.rows.marks.now) (slot_distance (space p.graph.space.dim p.graph.space.vectors.now)) id w₁ k (p.at.plans + 2 * n) r w₂
+      g : Chose p.graph.rows.degree p.how.alpha (is_valid p.graph.rows.marks.now) (slot_distance (space (measure_of p.graph.space.weights) p.graph.space.dim p.graph.space.vectors.now)) id w₁ k (p.at.plans + 2 * n) r w₂
       g = chose w₁ k (p.at.plans + 2 * n) v u to_in.0 to_in.1 m o a
 
       pub plan_fits : (p.at.sources + n + r ≤ length w₂) × (n + r ≤ 8388608)
@@ -129,10 +130,10 @@ module _ (p : Planner) {i n : ℕ} (w : List ℕ) (h : i < length p.slots.now) (
           let s = next_spread in
           (omega (arith, g.few, g.size, f.size, s.sources_in, s.nexts_in, s.ends_in, room), omega (arith, g.few, s.sources_in, s.nexts_in, s.ends_in, below))
 
-      selected : prune_scored p.graph.rows.degree p.how.alpha (is_valid p.graph.rows.marks.now) (slot_distance (space p.graph.space.dim p.graph.space.vectors.now)) id (cands w₁ 0 k) ≡ (plan_by p i).outgoing
+      selected : prune_scored p.graph.rows.degree p.how.alpha (is_valid p.graph.rows.marks.now) (slot_distance (space (measure_of p.graph.space.weights) p.graph.space.dim p.graph.space.vectors.now)) id (cands w₁ 0 k) ≡ (plan_by p i).outgoing
       unfolding plan store_view
       selected =
-          ap (prune_scored p.graph.rows.degree p.how.alpha (is_valid p.graph.rows.marks.now) (slot_distance (space p.graph.space.dim p.graph.space.vectors.now)) id) (f.list (index_of p.how.alpha p.how.entry (graph_of p.graph)) refl refl refl)
+          ap (prune_scored p.graph.rows.degree p.how.alpha (is_valid p.graph.rows.marks.now) (slot_distance (space (measure_of p.graph.space.weights) p.graph.space.dim p.graph.space.vectors.now)) id) (f.list (index_of p.how.alpha p.how.entry (graph_of p.graph)) refl refl refl)
           ∙ pruned_view (index_of p.how.alpha p.how.entry (graph_of p.graph)) id _
           ∙ rw (← d, ← q, ← e)
 

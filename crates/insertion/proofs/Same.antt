@@ -25,8 +25,8 @@ pub record AsLong (a₀ a : Arrays) : Type 0 where
   pub edges : length a.edges ≡ length a₀.edges
   pub marks : length a.marks ≡ length a₀.marks
 
-pub together_as : {a₀ : Arrays} {vectors targets edges marks : List ℕ} → AsLong a₀ (arrays a₀.dim a₀.degree vectors targets edges a₀.versions marks) → Together a₀
-    → Together (arrays a₀.dim a₀.degree vectors targets edges a₀.versions marks)
+pub together_as : {a₀ : Arrays} {vectors targets edges marks : List ℕ} → AsLong a₀ (arrays a₀.measure a₀.dim a₀.degree vectors targets edges a₀.versions marks) → Together a₀
+    → Together (arrays a₀.measure a₀.dim a₀.degree vectors targets edges a₀.versions marks)
 together_as f x = together_kept f.vectors f.targets f.edges f.marks x
 
 -- arrays of one shape
@@ -41,19 +41,19 @@ shapes_long {n} f g d e =
 
 -- after a `write`
 pub long_written : {alpha : Float} {entry : ℕ} (a : Arrays) {targets edges : List ℕ} (s : ℕ) (ids : List ℕ) → Together a
-    → index_of alpha entry (arrays a.dim a.degree a.vectors targets edges a.versions a.marks) ≡ store_ops.write (index_of alpha entry a) s ids
-    → AsLong a (arrays a.dim a.degree a.vectors targets edges a.versions a.marks)
+    → index_of alpha entry (arrays a.measure a.dim a.degree a.vectors targets edges a.versions a.marks) ≡ store_ops.write (index_of alpha entry a) s ids
+    → AsLong a (arrays a.measure a.dim a.degree a.vectors targets edges a.versions a.marks)
 long_written {alpha} {entry} a s ids x e =
     shapes_long (together_shaped x) (subst Whole (sym e) (store_writes.ok (index_of alpha entry a) s ids (together_shaped x))) refl refl
 
 -- after a `fill`
 pub long_filled : (a : Arrays) {vectors targets edges marks : List ℕ} (s : ℕ) (v : List ℕ) → Together a → length v ≡ a.dim → s < length a.marks
     → Filled a.dim a.degree a.vectors a.targets a.edges a.versions a.marks s v vectors targets edges marks
-    → AsLong a (arrays a.dim a.degree vectors targets edges a.versions marks)
+    → AsLong a (arrays a.measure a.dim a.degree vectors targets edges a.versions marks)
 long_filled a s v x l h f =
     let n = length a.marks in
     let g : Shaped n (filled a s v) = shaped_marked n (write_neighbors (write_vector a s v) s []) (shaped_written n (write_vector a s v) (shaped_vector n a (together_shaped x) s h v l) s h []) s 1 in
-    shapes_long (together_shaped x) (rw (filled_arrays f) g) refl refl
+    shapes_long (together_shaped x) (rw (filled_arrays f a.measure) g) refl refl
 
 -- ---- an inserter
 pub inserter_then : {i i' i'' : Inserter} → SameInserter i i' → SameInserter i' i'' → SameInserter i i''
@@ -65,6 +65,7 @@ inserter_then f g =
       slices =
           record {
             dim = t.dim ∙ s.dim;
+            weights = t.weights ∙ s.weights;
             degree = t.degree ∙ s.degree;
             vectors = t.vectors ∙ s.vectors;
             targets = t.targets ∙ s.targets;

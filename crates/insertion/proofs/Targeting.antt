@@ -132,9 +132,9 @@ module _ {a : Arrays} {s : ℕ} {w : List ℕ} {at : Layout} {n : ℕ} {z : ℕ}
         )
 
         module _ {alpha : Float} {targets edges : List ℕ}
-            (g : WrotePruned alpha a s (cands_of (take (at.list + 2 * m - at.list) (drop at.list (take at.chosen w₂)))) (arrays a.dim a.degree a.vectors targets edges a.versions a.marks)) where
+            (g : WrotePruned alpha a s (cands_of (take (at.list + 2 * m - at.list) (drop at.list (take at.chosen w₂)))) (arrays a.measure a.dim a.degree a.vectors targets edges a.versions a.marks)) where
           pub renewed_new : get_or w (marks_at + z) 0 < n → (entry : ℕ)
-              → index_of alpha entry (arrays a.dim a.degree a.vectors targets edges a.versions a.marks) ≡ renewed_at w at n (index_of alpha entry a) s
+              → index_of alpha entry (arrays a.measure a.dim a.degree a.vectors targets edges a.versions a.marks) ≡ renewed_at w at n (index_of alpha entry a) s
           unfolding renewed_at
           renewed_new h entry =
               let p : head w s < n = rw e at h in

@@ -1,4 +1,5 @@
 // A batch: the lowest free slots, in chunks of 256.
+ghost use Rattle.std.specs.Prelude.{◌≡◌, length};
 ghost use Rattle.insertion.specs.Lent.{graph_mut_of, SameGraph};
 ghost use Rattle.insertion.specs.Batch.{Insertable, BatchInserted};
 
@@ -41,7 +42,8 @@ pub fn insert_batch(
     slots: &mut [u32],
     scratch: &mut [u32],
 ) -> usize
-    requires { Insertable (graph_mut_of graph.old) how.alpha how.entry how.beam bytes.now slots.old scratch.old }
+    requires insertable { Insertable (graph_mut_of graph.old) how.alpha how.entry how.beam bytes.now slots.old scratch.old }
+    requires weighted { length graph.old.weights.each.now ≡ graph.old.dim }
     ensures { BatchInserted (graph_mut_of graph.old) how.alpha how.entry how.beam bytes.now slots.old (graph_mut_of graph.new) slots.new result × SameGraph graph.old graph.new }
 {
     let count = bytes.len() / graph.dim;

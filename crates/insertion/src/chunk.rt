@@ -1,5 +1,6 @@
 // One chunk of a batch: its slots are filled, all its plans are made, and then its rows are written.
-ghost use Rattle.std.specs.Prelude.{length};
+ghost use Rattle.std.specs.Prelude.{◌≡◌, length};
+ghost use Rattle.vectors.specs.Lent.{measure_of};
 ghost use Rattle.slots.specs.Lent.{rows_mut_of, SameSlices};
 ghost use Rattle.row.specs.Row.{Together};
 ghost use Rattle.insertion.specs.Lent.{graph_mut_of, SameGraph};
@@ -16,22 +17,29 @@ use super::targets::write_named;
 use distances::Kept;
 use row::Pruner;
 use slots::RowsMut;
-use vectors::Space;
+use vectors::{Space, Weights};
 
 // Writes the rows of a chunk whose plans are made: the outgoing rows of slots that no plan names, then the rows of those that one names. A function of its own:
-// where `write_rows` made the pruner itself, over rows made of the graph's fields, the borrow checker did not cover it.
-fn write_beside<'a>(
+// where `write_rows` made the pruner itself, over rows made of the graph's fields, the borrow checker did not cover it. Seven parameters: with the weights and
+// vectors as one `Space`, made there, it was not proved that the vectors stay.
+fn write_beside(
     rows: &mut RowsMut<'_>,
-    space: Space<'a>,
-    marks: &'a [u8],
+    weights: Weights<'_>,
+    vectors: &[u8],
+    marks: &[u8],
     how: Selection,
     plans: &Plans<'_>,
     scratch: &mut [u32],
 )
-    requires together { Together (rows_mut_of space.dim space.vectors.now rows.old marks.now) }
+    requires together { Together (rows_mut_of (measure_of weights) (length weights.each.now) vectors.now rows.old marks.now) }
     requires outgoing_rows { OutgoingRows rows.old.degree (length marks.now) plans.now.slots.now scratch.old plans.now.at plans.now.n × Renewable rows.old.degree (length marks.now) scratch.old plans.now.at plans.now.n }
-    ensures { RowsWritten how (rows_mut_of space.entry.dim space.entry.vectors.now rows.old marks.now) plans.now.slots.now scratch.old plans.now.at plans.now.n (rows_mut_of space.entry.dim space.entry.vectors.now rows.new marks.now) × SameSlices rows.old rows.new }
+    ensures { RowsWritten how (rows_mut_of (measure_of weights.entry) (length weights.entry.each.now) vectors.now rows.old marks.now) plans.now.slots.now scratch.old plans.now.at plans.now.n (rows_mut_of (measure_of weights.entry) (length weights.entry.each.now) vectors.now rows.new marks.now) × SameSlices rows.old rows.new }
 {
+    let space = Space {
+        dim: weights.each.len(),
+        weights,
+        vectors,
+    };
     let mut kept = Kept::new(space);
     let mut pruner = Pruner {
         alpha: how.alpha,
@@ -46,10 +54,11 @@ fn write_beside<'a>(
 // The same for the rows of a graph.
 fn write_rows(graph: &mut GraphMut<'_>, how: Selection, plans: &Plans<'_>, scratch: &mut [u32])
     requires together { Together (graph_mut_of graph.old) }
+    requires weighted { length graph.old.weights.each.now ≡ graph.old.dim }
     requires outgoing_rows { OutgoingRows graph.old.degree (length graph.old.marks.now) plans.now.slots.now scratch.old plans.now.at plans.now.n × Renewable graph.old.degree (length graph.old.marks.now) scratch.old plans.now.at plans.now.n }
     ensures { RowsWritten how (graph_mut_of graph.old) plans.now.slots.now scratch.old plans.now.at plans.now.n (graph_mut_of graph.new) × SameGraph graph.old graph.new }
 {
-    let dim = graph.dim;
+    let weights = graph.weights;
     let versions = graph.versions;
     let mut rows = RowsMut {
         degree: graph.degree,
@@ -59,8 +68,7 @@ fn write_rows(graph: &mut GraphMut<'_>, how: Selection, plans: &Plans<'_>, scrat
     };
     let vectors = &mut *graph.vectors;
     let marks = &mut *graph.marks;
-    let space = Space { dim, vectors };
-    write_beside(&mut rows, space, marks, how, plans, scratch);
+    write_beside(&mut rows, weights, vectors, marks, how, plans, scratch);
 }
 
 impl Inserter<'_, '_> {

@@ -59,6 +59,7 @@ impl Inserter<'_, '_> {
     {
         let given = Space {
             dim: self.graph.dim,
+            weights: self.graph.weights,
             vectors: bytes,
         };
         for (i, &s) in slots.iter().enumerate() {

@@ -1,10 +1,12 @@
 // The graph that an insert writes.
+use vectors::Weights;
 
 // Vectors, rows and marks, which are written, and versions, which stay: a delete's `GraphMut` has versions by `&mut` and vectors as they stay, and one struct
 // with a type parameter for each slice would be no plainer than the two.
 #[derive(Drop)]
 pub struct GraphMut<'a> {
     pub dim: usize,
+    pub weights: Weights<'a>,
     pub degree: usize,
     pub vectors: &'a mut [u8],
     pub targets: &'a mut [u32],

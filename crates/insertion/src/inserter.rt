@@ -1,5 +1,5 @@
 // An inserter fills slots of a graph and writes their rows, chunk by chunk.
-ghost use Rattle.std.specs.Prelude.{◌<◌, ◌≤◌, length};
+ghost use Rattle.std.specs.Prelude.{◌≡◌, ◌<◌, ◌≤◌, length};
 ghost use Rattle.row.specs.Row.{Together};
 ghost use Rattle.insertion.specs.Lent.{graph_mut_of};
 
@@ -13,6 +13,7 @@ pub struct Inserter<'g, 'a> {
     pub graph: &'g mut GraphMut<'a>,
     pub how: Selection,
     pub ghost together: { Together (graph_mut_of graph.now) },
+    pub ghost weighted: { length graph.now.weights.each.now ≡ graph.now.dim },
     pub ghost entry_in: { how.entry < length graph.now.marks.now },
     pub ghost beam_most: { how.beam ≤ 1024 },
 }
@@ -30,6 +31,7 @@ impl Inserter<'_, '_> {
         Graph {
             space: Space {
                 dim: graph.dim,
+                weights: graph.weights,
                 vectors: &*graph.vectors,
             },
             rows: Rows {

@@ -43,6 +43,7 @@ impl Planner<'_, '_, '_> {
         let at = self.at;
         let given = Space {
             dim: graph.space.dim,
+            weights: graph.space.weights,
             vectors: self.bytes,
         };
         let width = self.how.beam.max(graph.rows.degree);

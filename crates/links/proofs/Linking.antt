@@ -9,7 +9,7 @@ use lib.Ieee.{Float}
 use lib.ListN.{length, take, get_or}
 use Rattle.lists.specs.Lists.{elem, filter, foldl, concat_map}
 use Rattle.lists.proofs.Ranges.{foldl_append}
-use Rattle.vectors.specs.Space.{Measured, slot_distance, space}
+use Rattle.vectors.specs.Space.{Measure, Measured, slot_distance, space}
 use Rattle.candidates.specs.Candidates.{Candidate, scored, ids}
 use Rattle.candidates.specs.Inner.Words.{pair, cand, cands, cands_of, put, Small, Outside}
 use Rattle.candidates.proofs.Parts.{cands_front}
@@ -35,12 +35,12 @@ use Rattle.links.specs.Inner.Linking.{between, apply_link, link, from, from_each
 found : (t : ℕ) (w : List ℕ) (n : ℕ) {b : Bool} → 2 * n + 2 ≤ length w → b ≡ elem t (ids (cands_of (take (2 * n) w))) → b ≡ elem t (ids (cands w 0 n))
 found t w n l k = k ∙ ap (λ (cs : List Candidate). elem t (ids cs)) (cands_front w n (omega arith))
 
-module _ {dim : ℕ} {vectors : List ℕ} {s t d : ℕ} (m : Measured (between dim vectors s t) d) (w : List ℕ) (n : ℕ) {b : Bool} (l : 2 * n + 2 ≤ length w) (k : b ≡ elem t (ids (cands_of (take (2 * n) w)))) where
-  pub joined_old : b ≡ true → Joined dim vectors s t w n n w
+module _ {measure : Measure} {dim : ℕ} {vectors : List ℕ} {s t d : ℕ} (m : Measured (between measure dim vectors s t) d) (w : List ℕ) (n : ℕ) {b : Bool} (l : 2 * n + 2 ≤ length w) (k : b ≡ elem t (ids (cands_of (take (2 * n) w)))) where
+  pub joined_old : b ≡ true → Joined measure dim vectors s t w n n w
   joined_old h =
       record { list = rw (sym (found t w n l k) ∙ h); few = omega arith; near = omega (arith, m.equals, m.bound) }
 
-  pub joined_new : b ≡ false → Joined dim vectors s t w n (n + 1) (put w (2 * n) d t)
+  pub joined_new : b ≡ false → Joined measure dim vectors s t w n (n + 1) (put w (2 * n) d t)
   joined_new h =
       record {
         list = rw (sym (found t w n l k) ∙ h, front_push w d t n (omega arith), m.equals);
@@ -60,11 +60,11 @@ scored_with d t l = rw (ids_scored d l) (go (elem t l))
     go false = sym (scored_append d l (t ∷ []))
 
 -- the distances of a view
-pub view_between : (alpha : Float) (entry : ℕ) (a : Arrays) → between a.dim a.vectors ≡ slot_distance (store_view (index_of alpha entry a)).space
+pub view_between : (alpha : Float) (entry : ℕ) (a : Arrays) → between a.measure a.dim a.vectors ≡ slot_distance (store_view (index_of alpha entry a)).space
 unfolding slot_distance space store_view vector_of
 view_between alpha entry a = refl
 
-module _ {a : Arrays} {s n : ℕ} {w : List ℕ} (f : LiveScored a s n w) {t m : ℕ} {w' : List ℕ} (j : Joined a.dim a.vectors s t w n m w') (l : 2 * a.degree + 2 ≤ length w') where
+module _ {a : Arrays} {s n : ℕ} {w : List ℕ} (f : LiveScored a s n w) {t m : ℕ} {w' : List ℕ} (j : Joined a.measure a.dim a.vectors s t w n m w') (l : 2 * a.degree + 2 ≤ length w') where
   joined_list : (alpha : Float) (entry : ℕ) → let v = store_view (index_of alpha entry a) in cands w' 0 m ≡ scored (slot_distance v.space s) (with_target t (live_neighbors v s))
   joined_list alpha entry =
       let v = store_view (index_of alpha entry a) in
@@ -81,9 +81,9 @@ module _ {a : Arrays} {s n : ℕ} {w : List ℕ} (f : LiveScored a s n w) {t m :
   pub joined_small : Small (cands_of (take (2 * m) w'))
   joined_small = rw (joined_front, j.list) (go (elem t (ids (cands w 0 n))))
     where
-      go : (b : Bool) → Small (cond b (cands w 0 n) (cands w 0 n ++ (pair (between a.dim a.vectors s t) t ∷ [])))
+      go : (b : Bool) → Small (cond b (cands w 0 n) (cands w 0 n ++ (pair (between a.measure a.dim a.vectors s t) t ∷ [])))
       go true = f.small
-      go false = all_append (λ c. c.dist ≤ 16777216) (cands w 0 n) (pair (between a.dim a.vectors s t) t ∷ []) f.small (j.near, tt)
+      go false = all_append (λ c. c.dist ≤ 16777216) (cands w 0 n) (pair (between a.measure a.dim a.vectors s t) t ∷ []) f.small (j.near, tt)
 
   pub linked_one : {alpha : Float} {a' : Arrays} → WrotePruned alpha a s (cands_of (take (2 * m) w')) a' → (entry : ℕ) → index_of alpha entry a' ≡ foldl apply_link (index_of alpha entry a) (link s t ∷ [])
   unfolding apply_link insert_and_prune

@@ -15,6 +15,7 @@ use Rattle.lists.proofs.All.{all_map, all_filter}
 use Rattle.lists.proofs.Filtered.{filter_among}
 use Rattle.lists.proofs.Parts.{fits_in}
 use Rattle.lists.proofs.Unique.{Unique, unique_filter}
+use Rattle.vectors.specs.Lent.{measure_of}
 use Rattle.candidates.specs.Candidates.{Candidate, scored, ids}
 use Rattle.candidates.specs.Inner.Words.{pair, cand, cands, cands_of, put, kept, Remain}
 use Rattle.candidates.proofs.Parts.{part_length, whole_part, cands_front, written_length, outside_written}
@@ -123,7 +124,7 @@ pub record Asked (a : Arrays) (w : List ℕ) (entry : ℕ) : Type 0 where
 pub record Begun (a : Arrays) (w : List ℕ) (entry : ℕ) (x : List ℕ) (i start : ℕ) : Type 0 where
   pub asked : Asked a w entry
   pub long : length x ≡ length w
-  pub distances : cands_of x ≡ scored (λ s. between a.dim a.vectors s entry) (ids (cands_of w))
+  pub distances : cands_of x ≡ scored (λ s. between a.measure a.dim a.vectors s entry) (ids (cands_of w))
   pub nearest : Nearest (cands_of x) i
   pub read : start ≡ (cand x (2 * i)).id
 
@@ -131,7 +132,7 @@ pub record Begun (a : Arrays) (w : List ℕ) (entry : ℕ) (x : List ℕ) (i sta
 pub record Parted (a : Arrays) (w : List ℕ) (start : ℕ) (c c₂ y : List ℕ) (m : ℕ) (y₂ : List ℕ) : Type 0 where
   pub room : 2 ≤ length c
   pub placed : c₂ ≡ put c 0 0 start
-  pub distances : cands_of y ≡ scored (λ s. between a.dim a.vectors s start) (ids (cands_of w))
+  pub distances : cands_of y ≡ scored (λ s. between a.measure a.dim a.vectors s start) (ids (cands_of w))
   pub remain : Remain y (filter (λ s. kept a.marks start s.id) (cands_of y)) m y₂
   pub within : 2 * m ≤ length y₂
 
@@ -165,12 +166,12 @@ module _ {a : Arrays} {w : List ℕ} {entry : ℕ} {x : List ℕ} {i start : ℕ
     remaining : cands_of (take (2 * m) y₂) ≡ cands y₂ 0 m
     remaining = cands_front y₂ m k.within
 
-    rest : cands y₂ 0 m ≡ scored (λ x. between a.dim a.vectors x start) others
+    rest : cands y₂ 0 m ≡ scored (λ x. between a.measure a.dim a.vectors x start) others
     rest =
         k.remain.list
         ∙ ap (filter (λ c. kept a.marks start c.id)) k.distances
-        ∙ filter_scored (kept a.marks start) (λ x. between a.dim a.vectors x start) (ids (cands_of w))
-        ∙ ap (scored (λ x. between a.dim a.vectors x start)) (filter_among (kept a.marks start) (λ x. not (eqb x start)) (ids (cands_of w))
+        ∙ filter_scored (kept a.marks start) (λ x. between a.measure a.dim a.vectors x start) (ids (cands_of w))
+        ∙ ap (scored (λ x. between a.measure a.dim a.vectors x start)) (filter_among (kept a.marks start) (λ x. not (eqb x start)) (ids (cands_of w))
         (all_map (λ x. is_valid a.marks x ≡ true) (λ x. kept a.marks start x ≡ not (eqb x start)) (kept_other a.marks start) (ids (cands_of w)) (all_ids (λ x. is_valid a.marks x ≡ true) (cands_of w) b.asked.plan.live)))
 
     rest_ids : ids (cands y₂ 0 m) ≡ others
@@ -186,16 +187,16 @@ module _ {a : Arrays} {w : List ℕ} {entry : ℕ} {x : List ℕ} {i start : ℕ
     same₁ : ids (cands_of x) ≡ ids (cands_of w)
     same₁ = ap ids b.distances ∙ ids_scored _ (ids (cands_of w))
 
-    dists : All (λ c. c.dist ≡ between a.dim a.vectors c.id entry) (cands_of x)
-    dists = rw b.distances (scored_dists (λ x. between a.dim a.vectors x entry) (ids (cands_of w)))
+    dists : All (λ c. c.dist ≡ between a.measure a.dim a.vectors c.id entry) (cands_of x)
+    dists = rw b.distances (scored_dists (λ x. between a.measure a.dim a.vectors x entry) (ids (cands_of w)))
 
     rest_fewer : m < length w / 2
     rest_fewer =
-        let h : length (filter (λ y. not (eqb y (get_or (cands_of x) i (pair 0 0)).id)) (ids (cands_of x))) < length (cands_of x) = plan_fewer (λ x. between a.dim a.vectors x entry) (cands_of x) i dists b.nearest in
+        let h : length (filter (λ y. not (eqb y (get_or (cands_of x) i (pair 0 0)).id)) (ids (cands_of x))) < length (cands_of x) = plan_fewer (λ x. between a.measure a.dim a.vectors x entry) (cands_of x) i dists b.nearest in
         let q : length others < length (cands_of x) = rw (same₁, ← start_is) at h in
         omega (arith, q, rest_long, cands_length x 0 (length x / 2), b.long)
 
-    pub plan_planned : Planned a.dim a.vectors (cands c₂ 0 1) (cands_of (take (2 * m) y₂))
+    pub plan_planned : Planned a.measure a.dim a.vectors (cands c₂ 0 1) (cands_of (take (2 * m) y₂))
     plan_planned =
         let fits : (x : ℕ) → x < length a.marks → x * a.dim + a.dim ≤ length a.vectors = λ x i. fits_in a.dim (length a.marks) x (length a.vectors) i b.asked.together.bytes.long in
         let others_in : All (λ x. x * a.dim + a.dim ≤ length a.vectors) others =
@@ -206,32 +207,32 @@ module _ {a : Arrays} {w : List ℕ} {entry : ℕ} {x : List ℕ} {i start : ℕ
           few = rw remaining (omega (arith, b.asked.plan.few, rest_fewer, cands_length c₂ 0 1, cands_length y₂ 0 m));
           connected_in = rw first (fits start start_inside, tt);
           remaining_in = rw (remaining, rest) (all_scored (λ c. c.id * a.dim + a.dim ≤ length a.vectors) _ others others_in);
-          least = rw (remaining, rest, first) (scored_least (between a.dim a.vectors) start others);
+          least = rw (remaining, rest, first) (scored_least (between a.measure a.dim a.vectors) start others);
           distinct = rw (remaining, rest_ids) (unique_apart others (unique_others (λ x. not (eqb x start)) (ids (cands_of w)) b.asked.plan.once));
         }
 
-    module _ {repair_degree : ℕ} {pairs : List Pair} {r : ℕ} (t : Spanned a.dim a.vectors repair_degree (cands c₂ 0 1) (cands_of (take (2 * m) y₂)) pairs r) where
+    module _ {repair_degree : ℕ} {pairs : List Pair} {r : ℕ} (t : Spanned a.measure a.dim a.vectors repair_degree (cands c₂ 0 1) (cands_of (take (2 * m) y₂)) pairs r) where
       abbrev ss : List ℕ
       ss = ids (cands_of w)
 
-      plan_list : pairs_of (take r pairs) ≡ repair_links (between a.dim a.vectors) repair_degree entry ss
+      plan_list : pairs_of (take r pairs) ≡ repair_links (between a.measure a.dim a.vectors) repair_degree entry ss
       plan_list =
-          let q = plan_first (between a.dim a.vectors) repair_degree entry (cands_of x) i m dists b.nearest in
+          let q = plan_first (between a.measure a.dim a.vectors) repair_degree entry (cands_of x) i m dists b.nearest in
           let few : length (filter (λ y. not (eqb y (get_or (cands_of x) i (pair 0 0)).id)) (ids (cands_of x))) ≤ m = rw (same₁, ← start_is) (omega (arith, rest_long)) in
-          let g : span (between a.dim a.vectors) repair_degree m (start ∷ []) others ≡ repair_links (between a.dim a.vectors) repair_degree entry ss = rw (same₁, ← start_is) at (q few) in
+          let g : span (between a.measure a.dim a.vectors) repair_degree m (start ∷ []) others ≡ repair_links (between a.measure a.dim a.vectors) repair_degree entry ss = rw (same₁, ← start_is) at (q few) in
           let n : length (cands_of (take (2 * m) y₂)) ≡ m = rw remaining (cands_length y₂ 0 m) in
           t.paired
-          ∙ ap (λ (j : ℕ). span_at a.dim a.vectors repair_degree (cands c₂ 0 1) (cands_of (take (2 * m) y₂)) j) n
-          ∙ ap₂ (λ (u v : List ℕ). span (between a.dim a.vectors) repair_degree m u v) (ap ids first) (ap ids remaining ∙ rest_ids) ∙ g
+          ∙ ap (λ (j : ℕ). span_at a.measure a.dim a.vectors repair_degree (cands c₂ 0 1) (cands_of (take (2 * m) y₂)) j) n
+          ∙ ap₂ (λ (u v : List ℕ). span (between a.measure a.dim a.vectors) repair_degree m u v) (ap ids first) (ap ids remaining ∙ rest_ids) ∙ g
 
       plan_sources : (P : ℕ → Type 0) → All P ss → All (λ l. P l.source) (pairs_of (take r pairs))
-      plan_sources P h = rw plan_list (repair_sources P (between a.dim a.vectors) repair_degree entry ss h)
+      plan_sources P h = rw plan_list (repair_sources P (between a.measure a.dim a.vectors) repair_degree entry ss h)
 
       pub plan_pairs : Pairs (length a.marks) (take r pairs)
       plan_pairs = pairs_sources (λ x. x < length a.marks) (take r pairs) (plan_sources (λ x. x < length a.marks) (all_ids (λ x. x < length a.marks) (cands_of w) (inside b.asked)))
 
       pub plan_done : (s : Store) → s.arrays ≡ a → Whole s → s.capacity ≤ 65536 → {b' : Store} → b' ≡ foldl apply_link s (from_each (pairs_of (take r pairs)) ss)
-          → b' ≡ foldl apply_link s (repair_links (between a.dim a.vectors) repair_degree entry ss)
+          → b' ≡ foldl apply_link s (repair_links (between a.measure a.dim a.vectors) repair_degree entry ss)
       plan_done s _ z few v =
           v
           ∙ by_each s (pairs_of (take r pairs)) ss
@@ -270,7 +271,7 @@ module _ {marks w : List ℕ} {stats plans count base : ℕ} (b : Plans marks w 
           ap₂ (λ (u v : List Link). u ++ v) (ap (λ (cs : List Candidate). repair_links d repair_degree entry (ids cs)) (front_given from (omega arith))) (each (suc from) n (omega arith))
 
 module _ {table : ℕ} {l l₁ : Pruner table} {w : List ℕ} (repair_degree entry : ℕ) {stats plans count j : ℕ}
-    (f : Linked l (plans_at (between l.kept.now.space.dim l.kept.now.space.vectors.now) repair_degree entry w stats plans j) l₁) (b : Plans l.marks.now w stats plans count (length w)) (h : j < count) where
+    (f : Linked l (plans_at (between (measure_of l.kept.now.space.weights) l.kept.now.space.dim l.kept.now.space.vectors.now) repair_degree entry w stats plans j) l₁) (b : Plans l.marks.now w stats plans count (length w)) (h : j < count) where
   abbrev at : ℕ
   at = plans + 640 * j
 
@@ -294,11 +295,11 @@ module _ {table : ℕ} {l l₁ : Pruner table} {w : List ℕ} (repair_degree ent
   )
 
   pub plans_more : {l₂ : Pruner table}
-      → Linked l₁ (repair_links (between l₁.kept.now.space.dim l₁.kept.now.space.vectors.now) repair_degree entry (ids (cands_of (take (plans + 640 * j + 2 * count_at w stats j - (plans + 640 * j)) (drop (plans + 640 * j) w))))) l₂
-      → Linked l (plans_at (between l.kept.now.space.dim l.kept.now.space.vectors.now) repair_degree entry w stats plans (j + 1)) l₂
+      → Linked l₁ (repair_links (between (measure_of l₁.kept.now.space.weights) l₁.kept.now.space.dim l₁.kept.now.space.vectors.now) repair_degree entry (ids (cands_of (take (plans + 640 * j + 2 * count_at w stats j - (plans + 640 * j)) (drop (plans + 640 * j) w))))) l₂
+      → Linked l (plans_at (between (measure_of l.kept.now.space.weights) l.kept.now.space.dim l.kept.now.space.vectors.now) repair_degree entry w stats plans (j + 1)) l₂
   plans_more g =
-      let d = between l.kept.now.space.dim l.kept.now.space.vectors.now in
-      let s : repair_links (between l₁.kept.now.space.dim l₁.kept.now.space.vectors.now) repair_degree entry (ids (cands_of list)) ≡ plan_at d repair_degree entry w stats plans j =
+      let d = between (measure_of l.kept.now.space.weights) l.kept.now.space.dim l.kept.now.space.vectors.now in
+      let s : repair_links (between (measure_of l₁.kept.now.space.weights) l₁.kept.now.space.dim l₁.kept.now.space.vectors.now) repair_degree entry (ids (cands_of list)) ≡ plan_at d repair_degree entry w stats plans j =
       rw (f.same.space, list_is) in
       let k : plans_at d repair_degree entry w stats plans (j + 1) ≡ plans_at d repair_degree entry w stats plans j ++ plan_at d repair_degree entry w stats plans j =
       ap (concat_map (plan_at d repair_degree entry w stats plans)) (rw (add-one j) (sym (rw (zero-add j) at (range_snoc 0 j)))) ∙ concat_snoc (plan_at d repair_degree entry w stats plans) (range 0 j) j in

@@ -15,8 +15,9 @@ use Rattle.std.proofs.lemmas.List.{places, take-map, map-set, get_or-map, take_m
 use Rattle.lists.specs.Lists.{All, concat_map, least_from, least_of, sort_by}
 use Rattle.lists.proofs.All.{all_append, all_take}
 use Rattle.lists.proofs.Least.{least_cons, least_snoc}
-use Rattle.vectors.specs.Space.{slot_distance, space}
-use Rattle.vectors.proofs.Distances.{distance_sym}
+use Rattle.vectors.specs.Space.{Measure, slot_distance, space}
+use Rattle.vectors.specs.Distance.{distance}
+use Rattle.vectors.proofs.Distances.{weighted_sym}
 use Rattle.candidates.specs.Candidates.{Candidate, nearer, scored, ids}
 use Rattle.candidates.specs.Inner.Words.{pair, cand, cands, cands_of, put}
 use Rattle.candidates.proofs.Parts.{cands_front, cands_written, written_length}
@@ -69,18 +70,18 @@ front_set : (w : List ℕ) (n i d s : ℕ) → i < n → 2 * n ≤ length w → 
 front_set w n i d s h l = let z : 0 + 2 * i ≡ 2 * i = omega arith in rw z at (cands_set w 0 n i d s h (omega arith))
 
 -- ---- the links of one
-between_sym : (dim : ℕ) (vectors : List ℕ) (x y : ℕ) → between dim vectors x y ≡ between dim vectors y x
+between_sym : (ws : List ℕ) (dim : ℕ) (vectors : List ℕ) (x y : ℕ) → between (distance ws) dim vectors x y ≡ between (distance ws) dim vectors y x
 unfolding slot_distance space
-between_sym dim vectors x y = distance_sym _ _
+between_sym ws dim vectors x y = weighted_sym ws _ _
 
-module _ (dim : ℕ) (vectors : List ℕ) (x repair_degree : ℕ) (con v u : List ℕ) (f : cands_of v ≡ scored (λ c. between dim vectors c x) (ids (cands_of con)))
+module _ (ws : List ℕ) (dim : ℕ) (vectors : List ℕ) (x repair_degree : ℕ) (con v u : List ℕ) (f : cands_of v ≡ scored (λ c. between (distance ws) dim vectors c x) (ids (cands_of con)))
     (h : cands_of u ≡ sort_by nearer (cands_of v)) (l : length u ≡ length con) {n : ℕ} (e : n ≡ min repair_degree (length con / 2)) where
   abbrev by_distance : List Candidate
-  by_distance = sort_by nearer (scored (between dim vectors x) (ids (cands_of con)))
+  by_distance = sort_by nearer (scored (between (distance ws) dim vectors x) (ids (cands_of con)))
 
   near_list : cands u 0 n ≡ take repair_degree by_distance
   near_list =
-      let s : (λ c. between dim vectors c x) ≡ between dim vectors x = fun_ext (λ c. between_sym dim vectors c x) in
+      let s : (λ c. between (distance ws) dim vectors c x) ≡ between (distance ws) dim vectors x = fun_ext (λ c. between_sym ws dim vectors c x) in
       let k : n ≡ min repair_degree (length (cands_of u)) = rw (cands_length u 0 (length u / 2), l) e in
       sym (cands_take u 0 (length u / 2) n (omega arith))
       ∙ ap (λ (j : ℕ). take j (cands_of u)) k
@@ -88,7 +89,7 @@ module _ (dim : ℕ) (vectors : List ℕ) (x repair_degree : ℕ) (con v u : Lis
       ∙ ap (take repair_degree) (h ∙ ap (sort_by nearer) (f ∙ ap (λ (m : ℕ → ℕ). scored m (ids (cands_of con))) s))
 
   pub near_paired : repair_degree ≤ 16 → (part ps : List Pair) → length part ≡ n → pairs_of part ≡ links_at x u 0 (length part)
-      → PairedNearest (links (between dim vectors) repair_degree (ids (cands_of con)) x) (part ++ ps) n
+      → PairedNearest (links (between (distance ws) dim vectors) repair_degree (ids (cands_of con)) x) (part ++ ps) n
   unfolding links
   near_paired d part ps s g =
       record {
@@ -146,14 +147,14 @@ span_first d repair_degree con (c ∷ cs) i h n f =
 
 -- the first k of the words c are connected, and those of the words w remain
 -- and the next is the nearest of these
-pub record Next (dim : ℕ) (vectors c w : List ℕ) (k i next : ℕ) : Type 0 where
-  pub planned : Planned dim vectors (cands c 0 k) (cands_of w)
+pub record Next (measure : Measure) (dim : ℕ) (vectors c w : List ℕ) (k i next : ℕ) : Type 0 where
+  pub planned : Planned measure dim vectors (cands c 0 k) (cands_of w)
   pub some : 2 ≤ length w
   pub long : length c ≡ 640
   pub nearest : Nearest (cands_of w) i
   pub read : next ≡ (cand w (2 * i)).id
 
-module _ {dim : ℕ} {vectors c w : List ℕ} {k i next : ℕ} (f : Next dim vectors c w k i next) where
+module _ {measure : Measure} {dim : ℕ} {vectors c w : List ℕ} {k i next : ℕ} (f : Next measure dim vectors c w k i next) where
   few : k + length w / 2 ≤ 320
   few = omega (arith, f.planned.few, cands_length c 0 k, cands_length w 0 (length w / 2))
 
@@ -214,7 +215,7 @@ module _ {dim : ℕ} {vectors c w : List ℕ} {k i next : ℕ} (f : Next dim vec
   con₂ : cands (put c (2 * k) 0 next) 0 (k + 1) ≡ cands c 0 k ++ (pair 0 next ∷ [])
   con₂ = front_push c 0 next k (omega (arith, few, f.long))
 
-  module _ (repair_degree : ℕ) {pairs' : List Pair} {r : ℕ} (s : PairedNearest (links (between dim vectors) repair_degree (ids (cands_of (take (2 * k) c))) next) pairs' r)
+  module _ (repair_degree : ℕ) {pairs' : List Pair} {r : ℕ} (s : PairedNearest (links (between measure dim vectors) repair_degree (ids (cands_of (take (2 * k) c))) next) pairs' r)
       {c₂ : List ℕ} (e₂ : c₂ ≡ put c (2 * k) 0 next) {d x : ℕ} (ed : d ≡ (cand w (2 * (length w / 2 - 1))).dist) (ex : x ≡ (cand w (2 * (length w / 2 - 1))).id)
       {w₂ : List ℕ} (e₃ : w₂ ≡ put w (2 * i) d x) where
     long₂ : length w₂ ≡ length w
@@ -231,18 +232,18 @@ module _ {dim : ℕ} {vectors c w : List ℕ} {k i next : ℕ} (f : Next dim vec
     connect_stored = record { short = f.planned.short; own = next_inside; stored = rw rem₂ (left_all (λ c. c.id * dim + dim ≤ length vectors) f.planned.remaining_in) }
 
     module _ (v : List ℕ) (m : length v ≡ length (take (2 * (length w / 2 - 1)) w₂))
-        (l : cands_of v ≡ map (lower_to (λ c. between dim vectors c next)) (cands_of (take (2 * (length w / 2 - 1)) w₂))) where
+        (l : cands_of v ≡ map (lower_to (λ c. between measure dim vectors c next)) (cands_of (take (2 * (length w / 2 - 1)) w₂))) where
       abbrev w₃ : List ℕ
       w₃ = v ++ drop (2 * (length w / 2 - 1)) w₂
 
       v_long : length v ≡ 2 * last
       v_long = m ∙ length-take-le (2 * last) w₂ (omega (arith, long₂))
 
-      rem₃ : cands w₃ 0 (length w / 2 - 1) ≡ map (lower_to (λ c. between dim vectors c next)) left
+      rem₃ : cands w₃ 0 (length w / 2 - 1) ≡ map (lower_to (λ c. between measure dim vectors c next)) left
       rem₃ =
           let z : length v / 2 ≡ last = omega (arith, v_long) in
           cands_written w₂ v 0 (2 * last) (omega (arith, long₂)) v_long 0 last (omega arith)
-          ∙ sym (ap (λ (j : ℕ). cands v 0 j) z) ∙ l ∙ ap (map (lower_to (λ c. between dim vectors c next))) rem₂
+          ∙ sym (ap (λ (j : ℕ). cands v 0 j) z) ∙ l ∙ ap (map (lower_to (λ c. between measure dim vectors c next))) rem₂
 
       con₃ : cands c₂ 0 (k + 1) ≡ cands c 0 k ++ (pair 0 next ∷ [])
       con₃ = rw e₂ con₂
@@ -251,21 +252,21 @@ module _ {dim : ℕ} {vectors c w : List ℕ} {k i next : ℕ} (f : Next dim vec
       con_ids = ap ids con₃ ∙ map-append (λ c. c.id) (cands c 0 k) (pair 0 next ∷ [])
 
       rem_ids : ids (cands w₃ 0 (length w / 2 - 1)) ≡ ids left
-      rem_ids = ap ids rem₃ ∙ ids_lowered (λ c. between dim vectors c next) left
+      rem_ids = ap ids rem₃ ∙ ids_lowered (λ c. between measure dim vectors c next) left
 
       some_con : 0 < length con
       some_con = omega (arith, ids_length (cands c 0 k), f.planned.some)
 
-      turn : (n : ℕ) → span (between dim vectors) repair_degree (suc n) con xs
-          ≡ links (between dim vectors) repair_degree con next ++ span (between dim vectors) repair_degree n (ids (cands c₂ 0 (k + 1))) (ids (cands w₃ 0 (length w / 2 - 1)))
+      turn : (n : ℕ) → span (between measure dim vectors) repair_degree (suc n) con xs
+          ≡ links (between measure dim vectors) repair_degree con next ++ span (between measure dim vectors) repair_degree n (ids (cands c₂ 0 (k + 1))) (ids (cands w₃ 0 (length w / 2 - 1)))
       turn n =
-          (rw (front_at w (length w / 2) i within) at (span_first (between dim vectors) repair_degree con (cands_of w) i f.planned.least f.nearest n))
+          (rw (front_at w (length w / 2) i within) at (span_first (between measure dim vectors) repair_degree con (cands_of w) i f.planned.least f.nearest n))
           ∙ rw (con_ids, rem_ids, ← left_swap, f.read)
 
-      added : pairs_of (take r pairs') ≡ links (between dim vectors) repair_degree con next
-      added = s.added ∙ ap (λ (cs : List Candidate). links (between dim vectors) repair_degree (ids cs) next) (cands_front c k (omega (arith, few, f.long)))
+      added : pairs_of (take r pairs') ≡ links (between measure dim vectors) repair_degree con next
+      added = s.added ∙ ap (λ (cs : List Candidate). links (between measure dim vectors) repair_degree (ids cs) next) (cands_front c k (omega (arith, few, f.long)))
 
-      pub connect_done : Connected dim vectors repair_degree (cands c 0 k) (cands_of w) (cands c₂ 0 (k + 1)) (cands w₃ 0 (length w / 2 - 1)) pairs' r
+      pub connect_done : Connected measure dim vectors repair_degree (cands c 0 k) (cands_of w) (cands c₂ 0 (k + 1)) (cands w₃ 0 (length w / 2 - 1)) pairs' r
       connect_done =
           record {
             planned = record {
@@ -274,10 +275,10 @@ module _ {dim : ℕ} {vectors c w : List ℕ} {k i next : ℕ} (f : Next dim vec
               few = omega (arith, few, cands_length c₂ 0 (k + 1), cands_length w₃ 0 (length w / 2 - 1));
               connected_in = rw con₃ (all_append (λ c. c.id * dim + dim ≤ length vectors) (cands c 0 k) (pair 0 next ∷ []) f.planned.connected_in (next_inside, tt));
               remaining_in = rw rem₃ (all_lowered (λ s. s * dim + dim ≤ length vectors) _ left (left_all (λ c. c.id * dim + dim ≤ length vectors) f.planned.remaining_in));
-              least = rw (rem₃, con_ids) (least_lowered (between dim vectors) con next some_con left (left_all (λ c. c.dist ≡ least_of (between dim vectors c.id) con) f.planned.least));
+              least = rw (rem₃, con_ids) (least_lowered (between measure dim vectors) con next some_con left (left_all (λ c. c.dist ≡ least_of (between measure dim vectors c.id) con) f.planned.least));
               distinct = rw rem_ids left_distinct;
             };
-            goes = λ n. turn n ∙ ap (λ (l : List Link). l ++ span_at dim vectors repair_degree (cands c₂ 0 (k + 1)) (cands w₃ 0 (length w / 2 - 1)) n) (sym added);
+            goes = λ n. turn n ∙ ap (λ (l : List Link). l ++ span_at measure dim vectors repair_degree (cands c₂ 0 (k + 1)) (cands w₃ 0 (length w / 2 - 1)) n) (sym added);
             more = s.more;
           }
 
@@ -294,22 +295,22 @@ part_written l t v h e =
     size l t k v h e = search (rules, places)
 
 -- ---- until none remains: of the words c₀ and w₀ i are connected to the first, by t pairs
-pub record Spanning (dim : ℕ) (vectors : List ℕ) (repair_degree : ℕ) (c₀ w₀ c w : List ℕ) (pairs : List Pair) (t i : ℕ) : Type 0 where
-  pub planned : Planned dim vectors (cands c 0 (i + 1)) (cands w 0 (length w₀ / 2 - i))
-  pub goes : pairs_of (take t pairs) ++ span_at dim vectors repair_degree (cands c 0 (i + 1)) (cands w 0 (length w₀ / 2 - i)) (length w₀ / 2 - i)
-      ≡ span_at dim vectors repair_degree (cands c₀ 0 1) (cands_of w₀) (length w₀ / 2)
+pub record Spanning (measure : Measure) (dim : ℕ) (vectors : List ℕ) (repair_degree : ℕ) (c₀ w₀ c w : List ℕ) (pairs : List Pair) (t i : ℕ) : Type 0 where
+  pub planned : Planned measure dim vectors (cands c 0 (i + 1)) (cands w 0 (length w₀ / 2 - i))
+  pub goes : pairs_of (take t pairs) ++ span_at measure dim vectors repair_degree (cands c 0 (i + 1)) (cands w 0 (length w₀ / 2 - i)) (length w₀ / 2 - i)
+      ≡ span_at measure dim vectors repair_degree (cands c₀ 0 1) (cands_of w₀) (length w₀ / 2)
   pub few : t ≤ 16 * i
   pub bound : i ≤ length w₀ / 2
   pub most : length w₀ / 2 < 320
   pub pairs_long : length pairs ≡ 5120
   pub size : length w ≡ length w₀
 
-pub spanning_none : (dim : ℕ) (vectors : List ℕ) (repair_degree : ℕ) (c w : List ℕ) (pairs : List Pair) → Planned dim vectors (cands c 0 1) (cands_of w) → length pairs ≡ 5120 → Spanning dim vectors repair_degree c w c w pairs 0 0
-spanning_none dim vectors repair_degree c w pairs p l =
+pub spanning_none : (measure : Measure) (dim : ℕ) (vectors : List ℕ) (repair_degree : ℕ) (c w : List ℕ) (pairs : List Pair) → Planned measure dim vectors (cands c 0 1) (cands_of w) → length pairs ≡ 5120 → Spanning measure dim vectors repair_degree c w c w pairs 0 0
+spanning_none measure dim vectors repair_degree c w pairs p l =
     let z : length w / 2 - 0 ≡ length w / 2 = omega arith in
     record { planned = rw z p; goes = rw z; few = omega arith; bound = omega arith; most = omega (arith, p.few, cands_length c 0 1, cands_length w 0 (length w / 2)); pairs_long = l; size = refl }
 
-module _ {dim : ℕ} {vectors : List ℕ} {repair_degree : ℕ} {c₀ w₀ c w : List ℕ} {pairs : List Pair} {t i : ℕ} (f : Spanning dim vectors repair_degree c₀ w₀ c w pairs t i) where
+module _ {measure : Measure} {dim : ℕ} {vectors : List ℕ} {repair_degree : ℕ} {c₀ w₀ c w : List ℕ} {pairs : List Pair} {t i : ℕ} (f : Spanning measure dim vectors repair_degree c₀ w₀ c w pairs t i) where
   total : i + 1 + (length w₀ / 2 - i) ≤ 320
   total = omega (arith, f.planned.few, cands_length c 0 (i + 1), cands_length w 0 (length w₀ / 2 - i))
 
@@ -319,13 +320,13 @@ module _ {dim : ℕ} {vectors : List ℕ} {repair_degree : ℕ} {c₀ w₀ c w :
   part_is : cands_of (take (2 * (length w₀ / 2 - i)) w) ≡ cands w 0 (length w₀ / 2 - i)
   part_is = cands_front w (length w₀ / 2 - i) (omega (arith, f.size))
 
-  pub spanning_asks : i < length w₀ / 2 → Planned dim vectors (cands c 0 (i + 1)) (cands_of (take (2 * (length w₀ / 2 - i)) w)) × (2 ≤ length (take (2 * (length w₀ / 2 - i)) w)) × (16 ≤ length (take (length pairs - t) (drop t pairs)))
+  pub spanning_asks : i < length w₀ / 2 → Planned measure dim vectors (cands c 0 (i + 1)) (cands_of (take (2 * (length w₀ / 2 - i)) w)) × (2 ≤ length (take (2 * (length w₀ / 2 - i)) w)) × (16 ≤ length (take (length pairs - t) (drop t pairs)))
   spanning_asks h = (rw part_is f.planned, omega (arith, length-take-le (2 * (length w₀ / 2 - i)) w (omega (arith, f.size))), omega (arith, room h, part_length pairs t (length pairs - t) (omega (arith, room h))))
 
   pub spanning_more : i < length w₀ / 2 → {c' : List ℕ} (v : List ℕ) {part : List Pair} {r : ℕ} → length v ≡ length (take (2 * (length w₀ / 2 - i)) w)
-      → Connected dim vectors repair_degree (cands c 0 (i + 1)) (cands_of (take (2 * (length w₀ / 2 - i)) w)) (cands c' 0 (i + 1 + 1)) (cands v 0 (length (take (2 * (length w₀ / 2 - i)) w) / 2 - 1)) part r
+      → Connected measure dim vectors repair_degree (cands c 0 (i + 1)) (cands_of (take (2 * (length w₀ / 2 - i)) w)) (cands c' 0 (i + 1 + 1)) (cands v 0 (length (take (2 * (length w₀ / 2 - i)) w) / 2 - 1)) part r
       → length part ≡ length (take (length pairs - t) (drop t pairs))
-      → Spanning dim vectors repair_degree c₀ w₀ c' (v ++ drop (2 * (length w₀ / 2 - i)) w) (put_mid t (length pairs - t) pairs part) (t + r) (i + 1)
+      → Spanning measure dim vectors repair_degree c₀ w₀ c' (v ++ drop (2 * (length w₀ / 2 - i)) w) (put_mid t (length pairs - t) pairs part) (t + r) (i + 1)
   spanning_more h {c'} v {part} {r} m g o =
       let n = length w₀ / 2 in
       let lp : length part ≡ length pairs - t = o ∙ part_length pairs t (length pairs - t) (omega (arith, room h)) in
@@ -334,9 +335,9 @@ module _ {dim : ℕ} {vectors : List ℕ} {repair_degree : ℕ} {c₀ w₀ c w :
       let long : length (take (2 * (n - i)) w) ≡ 2 * (n - i) = length-take-le (2 * (n - i)) w (omega (arith, f.size)) in
       let z : length (take (2 * (n - i)) w) / 2 - 1 ≡ n - (i + 1) = omega arith in
       let same : cands w' 0 (n - (i + 1)) ≡ cands v 0 (n - (i + 1)) = cands_written w v 0 (2 * (n - i)) (omega (arith, f.size)) (m ∙ long) 0 (n - (i + 1)) (omega arith) in
-      let next : Connected dim vectors repair_degree (cands c 0 (i + 1)) (cands w 0 (n - i)) (cands c' 0 (i + 1 + 1)) (cands w' 0 (n - (i + 1))) part r = rw same (rw (z, part_is) at g) in
+      let next : Connected measure dim vectors repair_degree (cands c 0 (i + 1)) (cands w 0 (n - i)) (cands c' 0 (i + 1 + 1)) (cands w' 0 (n - (i + 1))) part r = rw same (rw (z, part_is) at g) in
       let tl : length (take t pairs) ≡ t = length-take-le t pairs (omega (arith, f.few, total, f.pairs_long)) in
-      let rest = span_at dim vectors repair_degree (cands c' 0 (i + 1 + 1)) (cands w' 0 (n - (i + 1))) (n - (i + 1)) in
+      let rest = span_at measure dim vectors repair_degree (cands c' 0 (i + 1 + 1)) (cands w' 0 (n - (i + 1))) (n - (i + 1)) in
       let p : take (t + r) (put_mid t (length pairs - t) pairs part) ≡ take t pairs ++ take r part =
       (rw tl at (take-append-add (take t pairs) (part ++ drop (length pairs - t) (drop t pairs)) r))
       ∙ ap (λ (ps : List Pair). take t pairs ++ ps) (take-append-le r part (drop (length pairs - t) (drop t pairs)) (omega (arith, next.more, f.few, total, f.pairs_long, lp))) in
@@ -355,14 +356,14 @@ module _ {dim : ℕ} {vectors : List ℕ} {repair_degree : ℕ} {c₀ w₀ c w :
         size = written_length w v 0 (2 * (n - i)) (omega (arith, f.size)) (m ∙ long) ∙ f.size;
       }
 
-  pub spanning_done : length w₀ / 2 ≤ i → Spanned dim vectors repair_degree (cands c₀ 0 1) (cands_of w₀) pairs t
+  pub spanning_done : length w₀ / 2 ≤ i → Spanned measure dim vectors repair_degree (cands c₀ 0 1) (cands_of w₀) pairs t
   unfolding span
   spanning_done h =
       let z : length w₀ / 2 - i ≡ 0 = omega arith in
       record {
         paired = sym (append-nil _)
-            ∙ ap (λ (j : ℕ). pairs_of (take t pairs) ++ span (between dim vectors) repair_degree j (ids (cands c 0 (i + 1))) (ids (cands w 0 (length w₀ / 2 - i)))) (sym z)
+            ∙ ap (λ (j : ℕ). pairs_of (take t pairs) ++ span (between measure dim vectors) repair_degree j (ids (cands c 0 (i + 1))) (ids (cands w 0 (length w₀ / 2 - i)))) (sym z)
             ∙ f.goes
-            ∙ ap (λ (j : ℕ). span_at dim vectors repair_degree (cands c₀ 0 1) (cands_of w₀) j) (sym (cands_length w₀ 0 (length w₀ / 2)));
+            ∙ ap (λ (j : ℕ). span_at measure dim vectors repair_degree (cands c₀ 0 1) (cands_of w₀) j) (sym (cands_length w₀ 0 (length w₀ / 2)));
         few = omega (arith, f.few, f.bound, total);
       }

@@ -1,6 +1,6 @@
 // A repair link, applied to the stored row of its source.
 ghost use Rattle.std.specs.Prelude.{[], ◌∷◌, ◌+◌, ◌*◌, ◌<◌, ◌≤◌, length};
-ghost use Rattle.vectors.specs.Lent.{HasVector};
+ghost use Rattle.vectors.specs.Lent.{measure_of, HasVector};
 ghost use Rattle.links.specs.Inner.Linking.{link, link_words, Joined, Linked};
 
 use candidates::{has_id, id_at, put};
@@ -12,7 +12,7 @@ use vectors::Space;
 // has room behind the `n` for one more.
 fn add_target(space: &Space<'_>, s: u32, t: u32, list: &mut [u32], n: usize) -> usize
     requires { HasVector space.now s × HasVector space.now t × (space.now.dim ≤ 256) × (2 * n + 2 ≤ length list.old) }
-    ensures { Joined space.now.dim space.now.vectors.now s t list.old n result list.new }
+    ensures { Joined (measure_of space.now.weights) space.now.dim space.now.vectors.now s t list.old n result list.new }
 {
     let dist = slot_distance(space, s as usize, t as usize);
     if has_id(&list[..2 * n], t) {

@@ -1,5 +1,6 @@
 // The links of all plans, plan by plan. `apply_repair_operations_by_source` in the Rust, which works out each row once, at the end: the same rows.
 ghost use Rattle.std.specs.Prelude.{◌≡◌, ◌+◌, ◌*◌, ◌/◌, ◌<◌, ◌≤◌, length};
+ghost use Rattle.vectors.specs.Lent.{measure_of};
 ghost use Rattle.candidates.specs.Candidates.{ids};
 ghost use Rattle.candidates.specs.Inner.Words.{cands_of};
 ghost use Rattle.repair.specs.Repair.{repair_links};
@@ -50,7 +51,7 @@ fn apply_plan(
     words: &mut [u32],
 )
     requires { (table.entry < length pruner.old.marks.now) × Plan pruner.old.marks.now list.now 0 (length list.now / 2) × (length list.now ≤ 640) × (length words.old ≡ plan_words pruner.old.rows.now.degree) × (length pairs.old ≡ 5120) }
-    ensures { Linked pruner.old (repair_links (between pruner.old.kept.now.space.dim pruner.old.kept.now.space.vectors.now) table.degree table.entry (ids (cands_of list.now))) pruner.new }
+    ensures { Linked pruner.old (repair_links (between (measure_of pruner.old.kept.now.space.weights) pruner.old.kept.now.space.dim pruner.old.kept.now.space.vectors.now) table.degree table.entry (ids (cands_of list.now))) pruner.new }
 {
     if list.len() < 2 {
         return;
@@ -83,7 +84,7 @@ fn apply_all(
     words: &mut [u32],
 )
     requires { (table.entry < length pruner.old.marks.now) × Plans pruner.old.marks.now plans.now table.stats table.plans table.count (length plans.now) × (length words.old ≡ plan_words pruner.old.rows.now.degree) }
-    ensures { Linked pruner.old (plans_at (between pruner.old.kept.now.space.dim pruner.old.kept.now.space.vectors.now) table.degree table.entry plans.now table.stats table.plans table.count) pruner.new }
+    ensures { Linked pruner.old (plans_at (between (measure_of pruner.old.kept.now.space.weights) pruner.old.kept.now.space.dim pruner.old.kept.now.space.vectors.now) table.degree table.entry plans.now table.stats table.plans table.count) pruner.new }
 {
     let mut pairs = [Pair { slot: 0, parent: 0 }; PAIRS];
     for j in 0..table.count {
@@ -96,7 +97,7 @@ fn apply_all(
 // Applies the links of the plans of a table in order, each with its candidates in 640 words and their number in the third of its four counts.
 pub fn apply_plans(pruner: &mut Pruner<'_, '_, '_, '_, '_, KEPT>, table: Table, scratch: &mut [u32])
     requires { (table.entry < length pruner.old.marks.now) × Plans pruner.old.marks.now scratch.old table.stats table.plans table.count table.base × Area pruner.old.rows.now.degree scratch.old table.base }
-    ensures { Made pruner.old (plans_at (between pruner.old.kept.now.space.dim pruner.old.kept.now.space.vectors.now) table.degree table.entry scratch.old table.stats table.plans table.count) scratch.old table.base plan_words pruner.new scratch.new }
+    ensures { Made pruner.old (plans_at (between (measure_of pruner.old.kept.now.space.weights) pruner.old.kept.now.space.dim pruner.old.kept.now.space.vectors.now) table.degree table.entry scratch.old table.stats table.plans table.count) scratch.old table.base plan_words pruner.new scratch.new }
 {
     // three lists of 640 words, and two candidates for each place of a row with one more
     let words = 1922 + 4 * pruner.rows.degree;

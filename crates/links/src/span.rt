@@ -1,5 +1,6 @@
 // The candidates of a plan, connected one after the other: the nearest to a connected one first, paired with those nearest to it, to be linked both ways.
 ghost use Rattle.std.specs.Prelude.{◌≡◌, ◌++◌, ◌*◌, ◌≤◌, map, length};
+ghost use Rattle.vectors.specs.Lent.{measure_of};
 ghost use Rattle.candidates.specs.Candidates.{ids, scored};
 ghost use Rattle.candidates.specs.Inner.Words.{cands_of};
 ghost use Rattle.links.specs.Inner.Linking.{between, links_at, pairs_of};
@@ -26,7 +27,7 @@ pub fn nearest(list: &[u32]) -> usize
 // The slots of a list with their distances to slot `y`, written as another list.
 pub fn score(space: &Space<'_>, y: u32, list: &[u32], to: &mut [u32])
     requires { Stored space.now.dim space.now.vectors.now y (cands_of list.now) × (length to.old ≡ length list.now) }
-    ensures { cands_of to.new ≡ scored (λ x. between space.now.dim space.now.vectors.now x y) (ids (cands_of list.now)) }
+    ensures { cands_of to.new ≡ scored (λ x. between (measure_of space.now.weights) space.now.dim space.now.vectors.now x y) (ids (cands_of list.now)) }
 {
     for k in 0..list.len() / 2 {
         let x = id_at(list, k);
@@ -38,7 +39,7 @@ pub fn score(space: &Space<'_>, y: u32, list: &[u32], to: &mut [u32])
 // The distances of a list, lowered to those to slot `y`.
 fn lower(space: &Space<'_>, y: u32, list: &mut [u32])
     requires { Stored space.now.dim space.now.vectors.now y (cands_of list.old) }
-    ensures { cands_of list.new ≡ map (lower_to (λ x. between space.now.dim space.now.vectors.now x y)) (cands_of list.old) }
+    ensures { cands_of list.new ≡ map (lower_to (λ x. between (measure_of space.now.weights) space.now.dim space.now.vectors.now x y)) (cands_of list.old) }
 {
     for k in 0..list.len() / 2 {
         let x = id_at(list, k);
@@ -88,7 +89,7 @@ impl Spanner<'_> {
     // Pairs slot `x` with the `degree` nearest of the connected ones, of equals the earlier, which are sorted in `near`. Returns how many pairs they are.
     fn pair_nearest(&self, x: u32, connected: &[u32], near: &mut [u32], pairs: &mut [Pair]) -> usize
         requires { Stored self.now.space.dim self.now.space.vectors.now x (cands_of connected.now) × (length connected.now ≤ length near.old) × (16 ≤ length pairs.old) }
-        ensures { PairedNearest (links (between self.now.space.dim self.now.space.vectors.now) self.now.degree (ids (cands_of connected.now)) x) pairs.new result }
+        ensures { PairedNearest (links (between (measure_of self.now.space.weights) self.now.space.dim self.now.space.vectors.now) self.now.degree (ids (cands_of connected.now)) x) pairs.new result }
     {
         let list = &mut near[..connected.len()];
         score(&self.space, x, connected, list);
@@ -107,8 +108,8 @@ impl Spanner<'_> {
         near: &mut [u32],
         pairs: &mut [Pair],
     ) -> usize
-        requires { Planned self.now.space.dim self.now.space.vectors.now (cands connected.old 0 k) (cands_of remaining.old) × (2 ≤ length remaining.old) × (length connected.old ≡ 640) × (length near.old ≡ 640) × (16 ≤ length pairs.old) }
-        ensures { Connected self.now.space.dim self.now.space.vectors.now self.now.degree (cands connected.old 0 k) (cands_of remaining.old) (cands connected.new 0 (k + 1)) (cands remaining.new 0 (length remaining.old / 2 - 1)) pairs.new result }
+        requires { Planned (measure_of self.now.space.weights) self.now.space.dim self.now.space.vectors.now (cands connected.old 0 k) (cands_of remaining.old) × (2 ≤ length remaining.old) × (length connected.old ≡ 640) × (length near.old ≡ 640) × (16 ≤ length pairs.old) }
+        ensures { Connected (measure_of self.now.space.weights) self.now.space.dim self.now.space.vectors.now self.now.degree (cands connected.old 0 k) (cands_of remaining.old) (cands connected.new 0 (k + 1)) (cands remaining.new 0 (length remaining.old / 2 - 1)) pairs.new result }
     {
         let i = nearest(remaining);
         let next = id_at(remaining, i);
@@ -130,8 +131,8 @@ impl Spanner<'_> {
         near: &mut [u32],
         pairs: &mut [Pair],
     ) -> usize
-        requires { Planned self.now.space.dim self.now.space.vectors.now (cands connected.old 0 1) (cands_of remaining.old) × (length connected.old ≡ 640) × (length near.old ≡ 640) × (length pairs.old ≡ 5120) }
-        ensures { Spanned self.now.space.dim self.now.space.vectors.now self.now.degree (cands connected.old 0 1) (cands_of remaining.old) pairs.new result }
+        requires { Planned (measure_of self.now.space.weights) self.now.space.dim self.now.space.vectors.now (cands connected.old 0 1) (cands_of remaining.old) × (length connected.old ≡ 640) × (length near.old ≡ 640) × (length pairs.old ≡ 5120) }
+        ensures { Spanned (measure_of self.now.space.weights) self.now.space.dim self.now.space.vectors.now self.now.degree (cands connected.old 0 1) (cands_of remaining.old) pairs.new result }
     {
         let n = remaining.len() / 2;
         let mut t: usize = 0;

@@ -22,7 +22,7 @@ use Rattle.prune.proofs.Thresholds.{Accepted}
 
 -- for an index: what is selected is what its view says
 pub pruned_view : (b : Store) (source : ℕ) (cs : List Candidate)
-    → prune_scored b.arrays.degree b.alpha (is_valid b.arrays.marks) (slot_distance (space b.arrays.dim b.arrays.vectors)) source cs ≡ prune (store_view b) source cs
+    → prune_scored b.arrays.degree b.alpha (is_valid b.arrays.marks) (slot_distance (space b.arrays.measure b.arrays.dim b.arrays.vectors)) source cs ≡ prune (store_view b) source cs
 unfolding slot_distance space store_view vector_of
 pruned_view b source cs = refl
 

@@ -17,7 +17,7 @@ use Rattle.row.specs.Row.{Together, index_of, live_scored}
 
 -- ---- the slices
 pub together_kept : {a : Arrays} {vectors targets edges marks : List ℕ} → length vectors ≡ length a.vectors → length targets ≡ length a.targets → length edges ≡ length a.edges
-    → length marks ≡ length a.marks → Together a → Together (arrays a.dim a.degree vectors targets edges a.versions marks)
+    → length marks ≡ length a.marks → Together a → Together (arrays a.measure a.dim a.degree vectors targets edges a.versions marks)
 together_kept v t e m x =
     record {
       bytes = record { long = v ∙ x.bytes.long ∙ rw m; small = x.bytes.small };

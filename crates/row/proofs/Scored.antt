@@ -20,7 +20,7 @@ use Rattle.row.specs.Row.{index_of, live_scored, LiveScored}
 
 -- the distance of two slots of lent bytes
 abbrev between : Arrays → ℕ → ℕ → ℕ
-between a s t = slot_distance (space a.dim a.vectors) s t
+between a s t = slot_distance (space a.measure a.dim a.vectors) s t
 
 -- the live targets before this place are written, n of them
 pub record Scoring (a : Arrays) (s : ℕ) (w₀ : List ℕ) (w : List ℕ) (n place : ℕ) : Type 0 where

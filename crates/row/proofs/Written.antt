@@ -28,18 +28,18 @@ packed_ids w v r h l e =
 
 module _ {a : Arrays} {s : ℕ} {cs : List Candidate} (h : s < length a.marks) {alpha : Float} {r : ℕ} (out w v : List ℕ) (l : 2 * a.degree ≤ length out)
     (m : length w ≡ length (take (2 * a.degree) out))
-    (f : Pruned (length (take (2 * a.degree) out) / 2) alpha (is_valid a.marks) (slot_distance (space a.dim a.vectors)) s cs r w) where
+    (f : Pruned (length (take (2 * a.degree) out) / 2) alpha (is_valid a.marks) (slot_distance (space a.measure a.dim a.vectors)) s cs r w) where
   pub wrote_pruned : {targets edges : List ℕ} → length v ≡ length (take (2 * r) w) → take (length (take (2 * r) w) / 2) v ≡ ids (cands_of (take (2 * r) w))
       → Wrote a.degree a.targets a.edges a.versions s (take r (v ++ drop (2 * r) w)) targets edges
-      → WrotePruned alpha a s cs (arrays a.dim a.degree a.vectors targets edges a.versions a.marks)
+      → WrotePruned alpha a s cs (arrays a.measure a.dim a.degree a.vectors targets edges a.versions a.marks)
   wrote_pruned o e g =
       let long : length (take (2 * a.degree) out) ≡ 2 * a.degree = part_length out 0 (2 * a.degree) (omega arith) in
       let z : length (take (2 * a.degree) out) / 2 ≡ a.degree = omega arith in
       let few : 2 * r ≤ length w = omega (arith, f.few) in
-      let p : Pruned a.degree alpha (is_valid a.marks) (slot_distance (space a.dim a.vectors)) s cs r w = rw z at f in
+      let p : Pruned a.degree alpha (is_valid a.marks) (slot_distance (space a.measure a.dim a.vectors)) s cs r w = rw z at f in
       record {
         row = λ entry.
-            (g.does a.dim a.vectors a.marks).does (index_of alpha entry a) refl h
+            (g.does a.measure a.dim a.vectors a.marks).does (index_of alpha entry a) refl h
             ∙ ap (store_ops.write (index_of alpha entry a) s) (packed_ids w v r few o e ∙ ap ids (p.list ∙ pruned_view (index_of alpha entry a) s cs));
       }
 

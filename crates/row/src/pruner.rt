@@ -1,4 +1,5 @@
 // A pruner writes rows, each a selection of the candidates that it is given.
+ghost use Rattle.vectors.specs.Lent.{measure_of};
 ghost use Rattle.slots.specs.Lent.{rows_mut_of};
 ghost use Rattle.row.specs.Row.{Together};
 
@@ -13,7 +14,7 @@ pub struct Pruner<'k, 's, 'r, 'a, 'm, const N: usize> {
     pub kept: &'k mut Kept<'s, N>,
     pub rows: &'a mut RowsMut<'r>,
     pub marks: &'m [u8],
-    pub ghost together: { Together (rows_mut_of kept.now.space.dim kept.now.space.vectors.now rows.now marks.now) },
+    pub ghost together: { Together (rows_mut_of (measure_of kept.now.space.weights) kept.now.space.dim kept.now.space.vectors.now rows.now marks.now) },
 }
 
 impl<const N: usize> Pruner<'_, '_, '_, '_, '_, N> {

@@ -1,7 +1,7 @@
 -- Small stored indexes, computed: what writing a row, filling a slot and finishing a delete leave in the slices, and what the plain index has.
 -- Assumes nothing.
 use Rattle.std.proofs.Common.{◌≡◌, ℕ, List, [], ◌∷◌, map, refl}
-use Rattle.vectors.specs.Distance.{f32}
+use Rattle.vectors.specs.Distance.{distance, f32}
 use Rattle.slots.specs.Store.{Store, blank, current, refs_of, store_view, write_neighbors, write_vector, set_mark, next_version, store_ops}
 use Rattle.slots.specs.Plain.{plain_ops}
 
@@ -9,6 +9,7 @@ use Rattle.slots.specs.Plain.{plain_ops}
 before : Store
 before = record {
   arrays = record {
+    measure = distance [];
     dim = 1;
     degree = 2;
     vectors = 7 ∷ 8 ∷ 9 ∷ [];

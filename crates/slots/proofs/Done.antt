@@ -2,6 +2,7 @@
 use Rattle.std.proofs.Common.{◌≡◌, ℕ, suc, ◌%◌, List, [], get_or, set, sym, refl, ap, ◌∙◌, arith, lt-ltb}
 use Rattle.lists.specs.Lists.{put_part}
 use Rattle.vectors.specs.Distance.{f32}
+use Rattle.vectors.specs.Space.{Measure}
 use Rattle.slots.specs.Store.{Arrays, arrays, Store, write_neighbors, write_vector, set_mark, next_version, filled, finished, with_arrays, at_slot, store_ops}
 use Rattle.slots.specs.Inner.Writing.{Done, Filled, Wrote, Killed, Finished}
 
@@ -19,26 +20,26 @@ module _ (s : ℕ) (g : Arrays → Arrays) {a a' : Arrays} where
 -- ---- `write`
 
 module _ {degree : ℕ} {targets edges versions : List ℕ} {s : ℕ} {ids targets' edges' : List ℕ} where
-  pub wrote_by : ((dim : ℕ) (vectors marks : List ℕ) → arrays dim degree vectors targets' edges' versions marks ≡ write_neighbors (arrays dim degree vectors targets edges versions marks) s ids)
+  pub wrote_by : ((measure : Measure) (dim : ℕ) (vectors marks : List ℕ) → arrays measure dim degree vectors targets' edges' versions marks ≡ write_neighbors (arrays measure dim degree vectors targets edges versions marks) s ids)
       → Wrote degree targets edges versions s ids targets' edges'
   unfolding store_ops
-  wrote_by e = record { does = λ dim vectors marks. done_by s (λ a. write_neighbors a s ids) (e dim vectors marks) }
+  wrote_by e = record { does = λ measure dim vectors marks. done_by s (λ a. write_neighbors a s ids) (e measure dim vectors marks) }
 
-  pub wrote_arrays : Wrote degree targets edges versions s ids targets' edges' → (dim : ℕ) (vectors marks : List ℕ)
-      → arrays dim degree vectors targets' edges' versions marks ≡ write_neighbors (arrays dim degree vectors targets edges versions marks) s ids
+  pub wrote_arrays : Wrote degree targets edges versions s ids targets' edges' → (measure : Measure) (dim : ℕ) (vectors marks : List ℕ)
+      → arrays measure dim degree vectors targets' edges' versions marks ≡ write_neighbors (arrays measure dim degree vectors targets edges versions marks) s ids
   unfolding store_ops
-  wrote_arrays w dim vectors marks = done_arrays s (λ a. write_neighbors a s ids) (w.does dim vectors marks)
+  wrote_arrays w measure dim vectors marks = done_arrays s (λ a. write_neighbors a s ids) (w.does measure dim vectors marks)
 
 -- ---- `kill`
 
 module _ {marks : List ℕ} {s : ℕ} {marks' : List ℕ} where
   pub killed_by : marks' ≡ set marks s 0 → Killed marks s marks'
   unfolding store_ops set_mark
-  killed_by e = record { does = λ dim degree vectors targets edges versions. done_by s (λ a. set_mark a s 0) (ap (arrays dim degree vectors targets edges versions) e) }
+  killed_by e = record { does = λ measure dim degree vectors targets edges versions. done_by s (λ a. set_mark a s 0) (ap (arrays measure dim degree vectors targets edges versions) e) }
 
   pub killed_marks : Killed marks s marks' → marks' ≡ set marks s 0
   unfolding store_ops set_mark
-  killed_marks k = ap (λ (a : Arrays). a.marks) (done_arrays s (λ a. set_mark a s 0) (k.does 0 0 [] [] [] []))
+  killed_marks k = ap (λ (a : Arrays). a.marks) (done_arrays s (λ a. set_mark a s 0) (k.does (λ a b. 0) 0 0 [] [] [] []))
 
 -- ---- `fill`: a vector, an empty row and a mark
 
@@ -47,14 +48,14 @@ module _ {dim degree : ℕ} {vectors targets edges versions marks : List ℕ} {s
       → Filled dim degree vectors targets edges versions marks s vector vectors' targets' edges' marks'
   unfolding store_ops write_vector write_neighbors set_mark
   filled_by v w m = record {
-    does = done_by s (λ a. filled a s vector)
-        ((λ i. arrays dim degree (v i) targets' edges' versions (m i)) ∙ ap (λ b. set_mark b s 1) (wrote_arrays w dim (put_part dim s vector vectors) marks));
+    does = λ measure. done_by s (λ a. filled a s vector)
+        ((λ i. arrays measure dim degree (v i) targets' edges' versions (m i)) ∙ ap (λ b. set_mark b s 1) (wrote_arrays w measure dim (put_part dim s vector vectors) marks));
   }
 
-  pub filled_arrays : Filled dim degree vectors targets edges versions marks s vector vectors' targets' edges' marks'
-      → arrays dim degree vectors' targets' edges' versions marks' ≡ filled (arrays dim degree vectors targets edges versions marks) s vector
+  pub filled_arrays : Filled dim degree vectors targets edges versions marks s vector vectors' targets' edges' marks' → (measure : Measure)
+      → arrays measure dim degree vectors' targets' edges' versions marks' ≡ filled (arrays measure dim degree vectors targets edges versions marks) s vector
   unfolding store_ops
-  filled_arrays f = done_arrays s (λ a. filled a s vector) f.does
+  filled_arrays f measure = done_arrays s (λ a. filled a s vector) (f.does measure)
 
 -- ---- `finish`: the next version, and an empty row
 
@@ -63,11 +64,11 @@ module _ {degree : ℕ} {targets edges versions : List ℕ} {s : ℕ} {targets' 
       → Finished degree targets edges versions s targets' edges' versions'
   unfolding store_ops next_version
   finished_by e w = record {
-    does = λ dim vectors marks. done_by s (λ a. finished a s)
-        (wrote_arrays w dim vectors marks ∙ (λ i. write_neighbors (arrays dim degree vectors targets edges (e i) marks) s []));
+    does = λ measure dim vectors marks. done_by s (λ a. finished a s)
+        (wrote_arrays w measure dim vectors marks ∙ (λ i. write_neighbors (arrays measure dim degree vectors targets edges (e i) marks) s []));
   }
 
-  pub finished_arrays : Finished degree targets edges versions s targets' edges' versions' → (dim : ℕ) (vectors marks : List ℕ)
-      → arrays dim degree vectors targets' edges' versions' marks ≡ finished (arrays dim degree vectors targets edges versions marks) s
+  pub finished_arrays : Finished degree targets edges versions s targets' edges' versions' → (measure : Measure) (dim : ℕ) (vectors marks : List ℕ)
+      → arrays measure dim degree vectors targets' edges' versions' marks ≡ finished (arrays measure dim degree vectors targets edges versions marks) s
   unfolding store_ops
-  finished_arrays f dim vectors marks = done_arrays s (λ a. finished a s) (f.does dim vectors marks)
+  finished_arrays f measure dim vectors marks = done_arrays s (λ a. finished a s) (f.does measure dim vectors marks)

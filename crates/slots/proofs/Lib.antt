@@ -13,3 +13,4 @@ pub mod Writes
 pub mod Reached
 pub mod Live
 pub mod Slices
+pub mod Weights

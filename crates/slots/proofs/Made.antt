@@ -28,4 +28,4 @@ new_by {dim} {capacity} {degree} {given} {bytes} {rows} {vectors} {targets} {edg
     let e₁ = filled 0 (length edges) (capacity * degree) r.edges_long e in
     let n₁ = filled 0 (length versions) capacity r.versions_long n in
     let m₁ = m ∙ ap (λ k. replicate given 1 ++ replicate (k - given) 0) r.marks_long in
-    record { does = λ alpha i. arrays dim degree (v₁ i) (t₁ i) (e₁ i) (n₁ i) (m₁ i); pool_empty = filled 0 (length pool) limits.pool r.pool_long p }
+    record { does = λ measure alpha i. arrays measure dim degree (v₁ i) (t₁ i) (e₁ i) (n₁ i) (m₁ i); pool_empty = filled 0 (length pool) limits.pool r.pool_long p }

@@ -3,6 +3,7 @@ use Rattle.std.proofs.Common.{◌≡◌, ℕ, zero, suc, ◌+◌, ◌-◌, ◌*�
 use lib.ListN.{length-replicate}
 use lib.Dec.{leb-suc-suc, leb-zero, leb-suc-zero}
 use Rattle.lists.specs.Lists.{filter, part}
+use Rattle.vectors.specs.Space.{Measure}
 use Rattle.slots.specs.Sizes.{Sizes, limits, sizes_ok, alpha_ok}
 use Rattle.slots.specs.Store.{Store, blank, is_valid, current, vector_of, refs_of, store_view, new_arrays}
 use Rattle.slots.specs.Plain.{other_than, new_plain}
@@ -70,9 +71,9 @@ pub record Accepted (z : Sizes) (given : ℕ) (vectors rows : List ℕ) (entry :
   pub rows_long : length rows ≡ given * z.degree
   pub room : given ≤ z.capacity
 
-module _ (z : Sizes) (given : ℕ) (vectors rows : List ℕ) (entry : ℕ) (ok : Accepted z given vectors rows entry) where
+module _ (z : Sizes) (measure : Measure) (given : ℕ) (vectors rows : List ℕ) (entry : ℕ) (ok : Accepted z given vectors rows entry) where
   abbrev new_store : Store
-  new_store = record { arrays = new_arrays z given vectors rows; capacity = z.capacity; alpha = z.alpha; entry = entry }
+  new_store = record { arrays = new_arrays z measure given vectors rows; capacity = z.capacity; alpha = z.alpha; entry = entry }
 
   sound_new : Sound (λ s. 0) new_store
   unfolding new_arrays store_view
@@ -91,7 +92,7 @@ module _ (z : Sizes) (given : ℕ) (vectors rows : List ℕ) (entry : ℕ) (ok :
     worn = λ s h. zero_at z.capacity s;
   }
 
-  pub agree_new : Agree (λ s. 0) new_store (new_plain z given vectors rows entry)
+  pub agree_new : Agree (λ s. 0) new_store (new_plain z measure given vectors rows entry)
   unfolding new_arrays new_plain store_view vector_of refs_of
   agree_new =
       let free = z.capacity - given in
@@ -104,7 +105,7 @@ module _ (z : Sizes) (given : ℕ) (vectors rows : List ℕ) (entry : ℕ) (ok :
           sizes = z;
           entry = entry;
           live = λ s. given_live given free s i;
-          space = record { vector = λ s. part z.dim s (vectors ++ replicate (free * z.dim) 0) };
+          space = record { measure = measure; vector = λ s. part z.dim s (vectors ++ replicate (free * z.dim) 0) };
           refs = λ s. current_zeros z.capacity (part z.degree s ts) (part z.degree s es) (simp (length-take, length-drop, l))
               (zeros_take z.degree _ (zeros_drop (s * z.degree) es (zeros (z.capacity * z.degree)))) i;
         };

@@ -6,6 +6,7 @@ use borrow.Author.Tests.{eqb-false}
 use lib.ListN.{get_or-eq_default}
 use Rattle.lists.specs.Lists.{filter, elem, part}
 use Rattle.lists.proofs.Parts.{fits_in}
+use Rattle.vectors.specs.Space.{Measure}
 use Rattle.slots.specs.Store.{Arrays, Shaped, blank, is_valid, current, refs_of, arrays}
 use Rattle.slots.specs.Inner.Rows.{RowShape, ref_of, ref_at, refs_from, live_from}
 use Rattle.std.specs.List.{list_any, zip}
@@ -205,6 +206,6 @@ no_blank versions (t ∷ ts) (e ∷ es) = go (eqb t blank) (eqb e (get_or versio
     go false false p ih = ih
 
 pub looking_blank : {id : ℕ} → id ≡ blank → (degree : ℕ) (targets edges versions : List ℕ) (s : ℕ)
-    → (dim : ℕ) (vectors marks : List ℕ) → false ≡ elem id (refs_of (arrays dim degree vectors targets edges versions marks) s)
+    → (measure : Measure) (dim : ℕ) (vectors marks : List ℕ) → false ≡ elem id (refs_of (arrays measure dim degree vectors targets edges versions marks) s)
 unfolding refs_of
-looking_blank e degree targets edges versions s dim vectors marks = rw e (no_blank versions (part degree s targets) (part degree s edges))
+looking_blank e degree targets edges versions s measure dim vectors marks = rw e (no_blank versions (part degree s targets) (part degree s edges))

@@ -54,8 +54,8 @@ pub writing_done : {d : ℕ} {targets edges versions : List ℕ} {s : ℕ} {ids 
 unfolding write_neighbors
 writing_done {d} {versions = versions} {s = s} {ids = ids} {place = place} h w =
     let e : place ≡ d = omega (arith, w.below) in
-    wrote_by (λ dim vectors marks i.
-    arrays dim d vectors (pasted_part s (length_padded d ids) e w.row i) (pasted_part s (length_new_edges d versions ids) e w.row_edges i) versions marks)
+    wrote_by (λ measure dim vectors marks i.
+    arrays measure dim d vectors (pasted_part s (length_padded d ids) e w.row i) (pasted_part s (length_new_edges d versions ids) e w.row_edges i) versions marks)
 
 -- ---- a row replaced
 
@@ -102,7 +102,7 @@ module _ (n : ℕ) (a : Arrays) (f : Shaped n a) (s : ℕ) (h : s < n) where
   write_again xs ys =
       let d = a.degree in
       let v = a.versions in
-      λ i. arrays a.dim d a.vectors
+      λ i. arrays a.measure a.dim d a.vectors
       (put_again d n (padded d xs) (padded d ys) a.targets (length_padded d xs) (length_padded d ys) f.targets_long s h i)
       (put_again d n (new_edges d v xs) (new_edges d v ys) a.edges (length_new_edges d v xs) (length_new_edges d v ys) f.edges_long s h i)
       v a.marks
@@ -114,7 +114,7 @@ unfolding write_neighbors
 writes_swap n a f s t hs ht other xs ys =
     let d = a.degree in
     let v = a.versions in
-    λ i. arrays a.dim d a.vectors
+    λ i. arrays a.measure a.dim d a.vectors
     (put_both d n (padded d xs) (padded d ys) a.targets (length_padded d xs) (length_padded d ys) f.targets_long s t hs ht other i)
     (put_both d n (new_edges d v xs) (new_edges d v ys) a.edges (length_new_edges d v xs) (length_new_edges d v ys) f.edges_long s t hs ht other i)
     v a.marks

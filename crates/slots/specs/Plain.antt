@@ -2,6 +2,7 @@
 -- beside it. Assumes nothing.
 use Rattle.std.specs.Prelude.{ℕ, ◌-◌, ◌*◌, Bool, true, false, cond, not, ◌&&◌, List, [], ◌++◌, take, replicate, ◌==◌, nat_lt}
 use Rattle.lists.specs.Lists.{filter, part}
+use Rattle.vectors.specs.Space.{Measure}
 use Rattle.slots.specs.Sizes.{Sizes}
 use Rattle.slots.specs.View.{View}
 use Rattle.slots.specs.Store.{blank}
@@ -16,7 +17,7 @@ other_than s t = not (t == s)
 
 -- a view with other marks, vectors and rows
 abbrev pub with_slots : View → (ℕ → Bool) → (ℕ → List ℕ) → (ℕ → List ℕ) → View
-with_slots v live vector refs = record { sizes = v.sizes; entry = v.entry; live = live; space = record { vector = vector }; refs = refs }
+with_slots v live vector refs = record { sizes = v.sizes; entry = v.entry; live = live; space = record { measure = v.space.measure; vector = vector }; refs = refs }
 
 -- the rows with the slot s struck out of each, and its own emptied
 abbrev pub strike : View → ℕ → ℕ → List ℕ
@@ -33,13 +34,13 @@ plain_ops = record {
 }
 
 -- what making makes
-unfoldable pub new_plain : Sizes → ℕ → List ℕ → List ℕ → ℕ → View
-new_plain z given vectors rows entry =
+unfoldable pub new_plain : Sizes → Measure → ℕ → List ℕ → List ℕ → ℕ → View
+new_plain z measure given vectors rows entry =
     let free = z.capacity - given in
     record {
       sizes = z;
       entry = entry;
       live = λ s. nat_lt s given;
-      space = record { vector = λ s. part z.dim s (vectors ++ replicate (free * z.dim) 0) };
+      space = record { measure = measure; vector = λ s. part z.dim s (vectors ++ replicate (free * z.dim) 0) };
       refs = λ s. filter (other_than blank) (part z.degree s (rows ++ replicate (free * z.degree) blank));
     }

@@ -1,6 +1,8 @@
--- Sizes of an index, their limits, its eight slices and their lengths: document 01, rows 1, 2, 3 and 7 of "Turned-back calls". Assumes nothing.
+-- Sizes of an index, their limits, its weights, its nine slices and their lengths: document 01, rows 1, 2, 3 and 7 of "Turned-back calls", and document 02's 16
+-- (E3). Assumes nothing.
 use Rattle.std.specs.Prelude.{ℕ, ◌*◌, Bool, ◌&&◌, List, length, ◌==◌, nat_le, Float}
 use Rattle.std.specs.Float.Ieee.{le}
+use Rattle.lists.specs.Lists.{all, sum}
 use Rattle.vectors.specs.Distance.{f32}
 
 pub record Sizes : Type 0 where
@@ -22,6 +24,8 @@ pub record Limits : Type 0 where
   pub multiplier : ℕ
   pub sample : ℕ
   pub pool : ℕ
+  pub weight : ℕ
+  pub weight_sum : ℕ
 
 unfoldable pub limits : Limits
 limits = record {
@@ -36,6 +40,8 @@ limits = record {
   multiplier = 16;
   sample = 65536;
   pool = 1024;
+  weight = 4;
+  weight_sum = 256;
 }
 
 abbrev pub within : ℕ → ℕ → ℕ → Bool
@@ -48,8 +54,12 @@ sizes_ok l z = within 1 l.dim z.dim && within 1 l.capacity z.capacity && within 
 unfoldable pub alpha_ok : Float → Bool
 alpha_ok alpha = le (f32 1) alpha && le alpha (f32 2)
 
--- what an index's eight slices hold: dim bytes, degree targets and as many edge versions, a version and a mark for each slot; words of the landmark pool; a
--- figure number for each slot, and the summary, a word for each slot (document 02, E1)
+-- each from 1 on, within its limit and all together within theirs
+unfoldable pub weights_ok : Limits → List ℕ → Bool
+weights_ok l weights = all (within 1 l.weight) weights && nat_le (sum weights) l.weight_sum
+
+-- what an index's nine slices hold: dim bytes, degree targets and as many edge versions, a version and a mark for each slot; words of the landmark pool; a
+-- figure number for each slot, and the summary, a word for each slot (document 02, E1); a weight for each byte of a vector (E3)
 pub record Slices : Type 0 where
   pub vectors : List ℕ
   pub targets : List ℕ
@@ -59,11 +69,22 @@ pub record Slices : Type 0 where
   pub pool : List ℕ
   pub numbers : List ℕ
   pub summary : List ℕ
+  pub weights : List ℕ
 
 -- one by one
-abbrev pub slices : List ℕ → List ℕ → List ℕ → List ℕ → List ℕ → List ℕ → List ℕ → List ℕ → Slices
-slices vectors targets edges versions marks pool numbers summary =
-    record { vectors = vectors; targets = targets; edges = edges; versions = versions; marks = marks; pool = pool; numbers = numbers; summary = summary }
+abbrev pub slices : List ℕ → List ℕ → List ℕ → List ℕ → List ℕ → List ℕ → List ℕ → List ℕ → List ℕ → Slices
+slices vectors targets edges versions marks pool numbers summary weights =
+    record {
+      vectors = vectors;
+      targets = targets;
+      edges = edges;
+      versions = versions;
+      marks = marks;
+      pool = pool;
+      numbers = numbers;
+      summary = summary;
+      weights = weights;
+    }
 
 -- their lengths
 pub record Lengths : Type 0 where
@@ -75,6 +96,7 @@ pub record Lengths : Type 0 where
   pub pool : ℕ
   pub numbers : ℕ
   pub summary : ℕ
+  pub weights : ℕ
 
 abbrev pub lengths_of : Slices → Lengths
 lengths_of s =
@@ -87,6 +109,7 @@ lengths_of s =
       pool = length s.pool;
       numbers = length s.numbers;
       summary = length s.summary;
+      weights = length s.weights;
     }
 
 -- the only lengths that pass
@@ -101,6 +124,7 @@ exact l z =
       pool = l.pool;
       numbers = z.capacity;
       summary = z.capacity;
+      weights = z.dim;
     }
 
 unfoldable pub lengths_ok : Limits → Sizes → Lengths → Bool
@@ -108,4 +132,4 @@ lengths_ok l z n =
     let e = exact l z in
     (n.vectors == e.vectors) && n.targets == e.targets && n.edges == e.edges
     && n.versions == e.versions && n.marks == e.marks && n.pool == e.pool
-    && n.numbers == e.numbers && n.summary == e.summary
+    && n.numbers == e.numbers && n.summary == e.summary && n.weights == e.weights

@@ -3,6 +3,7 @@
 use Rattle.std.specs.Prelude.{◌≡◌, ℕ, suc, ◌-◌, ◌*◌, ◌%◌, Bool, cond, not, ◌&&◌, List, [], ◌∷◌, ◌++◌, map, length, take, set, replicate, ◌==◌, nat_lt, slice_index, slice_set, Float}
 use Rattle.std.proofs.Math.Option.{Option, none, some}
 use Rattle.lists.specs.Lists.{part, put_part}
+use Rattle.vectors.specs.Space.{Measure}
 use Rattle.slots.specs.Sizes.{Sizes}
 use Rattle.slots.specs.View.{View}
 use Rattle.slots.specs.Ops.{Ops}
@@ -16,8 +17,10 @@ abbrev pub or_blank : Option ℕ → ℕ
 or_blank none = blank
 or_blank (some s) = s
 
--- what the functions below a call are lent: dim bytes, degree targets and as many edge versions, a version and a mark for each slot
+-- what the functions below a call are lent: what the distance is (`dist` in the Rust); dim bytes, degree targets and as many edge versions, a version and a
+-- mark for each slot
 pub record Arrays : Type 0 where
+  pub measure : Measure
   pub dim : ℕ
   pub degree : ℕ
   pub vectors : List ℕ
@@ -27,9 +30,9 @@ pub record Arrays : Type 0 where
   pub marks : List ℕ
 
 -- one by one
-abbrev pub arrays : ℕ → ℕ → List ℕ → List ℕ → List ℕ → List ℕ → List ℕ → Arrays
-arrays dim degree vectors targets edges versions marks =
-    record { dim = dim; degree = degree; vectors = vectors; targets = targets; edges = edges; versions = versions; marks = marks }
+abbrev pub arrays : Measure → ℕ → ℕ → List ℕ → List ℕ → List ℕ → List ℕ → List ℕ → Arrays
+arrays measure dim degree vectors targets edges versions marks =
+    record { measure = measure; dim = dim; degree = degree; vectors = vectors; targets = targets; edges = edges; versions = versions; marks = marks }
 
 -- arrays for n slots
 pub record Shaped (n : ℕ) (a : Arrays) : Type 0 where
@@ -73,7 +76,7 @@ store_view b =
       sizes = record { dim = a.dim; capacity = b.capacity; degree = a.degree; alpha = b.alpha };
       entry = b.entry;
       live = is_valid a.marks;
-      space = record { vector = vector_of a };
+      space = record { measure = a.measure; vector = vector_of a };
       refs = refs_of a;
     }
 
@@ -93,23 +96,23 @@ write_neighbors a s ids =
     let row = padded a.degree ids in
     let targets = put_part a.degree s row a.targets in
     let edges = put_part a.degree s (map (edge_version a.versions) row) a.edges in
-    arrays a.dim a.degree a.vectors targets edges a.versions a.marks
+    arrays a.measure a.dim a.degree a.vectors targets edges a.versions a.marks
 
 -- `write_vector`
 unfoldable pub write_vector : Arrays → ℕ → List ℕ → Arrays
 write_vector a s vector =
     let vectors = put_part a.dim s vector a.vectors in
-    arrays a.dim a.degree vectors a.targets a.edges a.versions a.marks
+    arrays a.measure a.dim a.degree vectors a.targets a.edges a.versions a.marks
 
 -- `set_valid`
 unfoldable pub set_mark : Arrays → ℕ → ℕ → Arrays
-set_mark a s mark = arrays a.dim a.degree a.vectors a.targets a.edges a.versions (slice_set a.marks s mark)
+set_mark a s mark = arrays a.measure a.dim a.degree a.vectors a.targets a.edges a.versions (slice_set a.marks s mark)
 
 -- the version goes up by one, 65,535 goes to 0
 unfoldable pub next_version : Arrays → ℕ → Arrays
 next_version a s =
     let versions = set a.versions s (suc (slice_index a.versions s) % 65536) in
-    arrays a.dim a.degree a.vectors a.targets a.edges versions a.marks
+    arrays a.measure a.dim a.degree a.vectors a.targets a.edges versions a.marks
 
 -- a vector into slot s, live, with an empty row
 abbrev pub filled : Arrays → ℕ → List ℕ → Arrays
@@ -139,10 +142,11 @@ store_ops = record {
 -- ---- what making writes
 
 -- the first slots are given, each with its vector and its row; blanks, repeats and references to themselves stay as given
-unfoldable pub new_arrays : Sizes → ℕ → List ℕ → List ℕ → Arrays
-new_arrays z given vectors rows =
+unfoldable pub new_arrays : Sizes → Measure → ℕ → List ℕ → List ℕ → Arrays
+new_arrays z measure given vectors rows =
     let free = z.capacity - given in
     record {
+      measure = measure;
       dim = z.dim;
       degree = z.degree;
       vectors = vectors ++ replicate (free * z.dim) 0;

@@ -37,13 +37,14 @@ impl RowsMut<'_> {
     ghost use Rattle.std.specs.Prelude.{◌≡◌, length};
     ghost use Rattle.vectors.specs.Vector.{Bytes};
     ghost use Rattle.slots.specs.Inner.Rows.{RowShape};
+    ghost use Rattle.vectors.specs.Lent.{measure_of};
     ghost use Rattle.slots.specs.Lent.{graph_of, rows_mut_of};
 
     // The graph that the rows make, beside vectors and marks.
     pub fn graph<'a>(&'a self, space: Space<'a>, marks: &'a [u8]) -> Graph<'a>
         requires bytes { Bytes space.dim (length marks.now) space.vectors.now }
         requires shape { RowShape self.now.degree self.now.targets.now self.now.edges.now self.now.versions.now marks.now }
-        ensures { graph_of result ≡ rows_mut_of space.entry.dim space.entry.vectors.now self.now marks.now }
+        ensures { graph_of result ≡ rows_mut_of (measure_of space.entry.weights) space.entry.dim space.entry.vectors.now self.now marks.now }
     {
         Graph {
             space,

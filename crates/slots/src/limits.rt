@@ -20,3 +20,7 @@ pub const MULTIPLIER: u32 = 16;
 pub const SAMPLE: u32 = 65536;
 
 pub const POOL: u32 = 1024;
+
+pub const WEIGHT: u8 = 4;
+
+pub const WEIGHT_SUM: u32 = 256;

@@ -1,6 +1,7 @@
 // The rows of slots, read.
 ghost use Rattle.std.specs.Prelude.{◌≡◌, ℕ, ◌+◌, ◌*◌, ◌<◌, ◌≤◌, List, Some, length};
 ghost use Rattle.lists.specs.Lists.{elem};
+ghost use Rattle.vectors.specs.Space.{Measure};
 ghost use Rattle.slots.specs.Store.{refs_of, arrays};
 ghost use Rattle.slots.specs.Inner.Rows.{RowShape, HasRow, ref_at};
 ghost use Rattle.slots.specs.Lent.{rows_of};
@@ -15,7 +16,7 @@ impl Rows<'_> {
     pub fn live_at(&self, s: usize, place: usize) -> Option<u32>
         requires row_shape { RowShape self.now.degree self.now.targets.now self.now.edges.now self.now.versions.now self.now.marks.now }
         requires s_in_bounds { (s < length self.now.marks.now) × (place < self.now.degree) }
-        ensures { (dim : ℕ) (vectors : List ℕ) → result ≡ ref_at (rows_of dim vectors self.now) s place }
+        ensures { (measure : Measure) (dim : ℕ) (vectors : List ℕ) → result ≡ ref_at (rows_of measure dim vectors self.now) s place }
     {
         let at = s * self.degree + place;
         let t = self.targets[at];
@@ -32,7 +33,7 @@ impl Rows<'_> {
     // The target at a place of slot `s`'s row, live or not: where `live_at` gives one, it is this.
     pub fn target_at(&self, s: usize, place: usize) -> u32
         requires { (s * self.now.degree + self.now.degree ≤ length self.now.targets.now) × (place < self.now.degree) }
-        ensures { (dim : ℕ) (vectors edges versions marks : List ℕ) (t : ℕ) → Some t ≡ ref_at (arrays dim self.now.degree vectors self.now.targets.now edges versions marks) s place → t ≡ result }
+        ensures { (measure : Measure) (dim : ℕ) (vectors edges versions marks : List ℕ) (t : ℕ) → Some t ≡ ref_at (arrays measure dim self.now.degree vectors self.now.targets.now edges versions marks) s place → t ≡ result }
     {
         self.targets[s * self.degree + place]
     }
@@ -54,7 +55,7 @@ impl Rows<'_> {
     // Whether slot `s`'s row holds `id` with its present version, live or dead.
     pub fn holds(&self, s: usize, id: u32) -> bool
         requires { HasRow self.now.degree self.now.targets.now self.now.edges.now s }
-        ensures { (dim : ℕ) (vectors : List ℕ) → result ≡ elem id (refs_of (rows_of dim vectors self.now) s) }
+        ensures { (measure : Measure) (dim : ℕ) (vectors : List ℕ) → result ≡ elem id (refs_of (rows_of measure dim vectors self.now) s) }
     {
         if id == BLANK {
             return false;

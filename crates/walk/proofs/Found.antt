@@ -22,13 +22,13 @@ use Rattle.walk.proofs.Without.{graph_search_without}
 
 -- from the start to the last turn
 pub found_by : (a : Arrays) {query : List ℕ} {start beam width d : ℕ} {ids w v w' : List ℕ} {r next : ℕ} → Ready a query start beam w → elem start ids ≡ false
-    → width ≡ max beam 1 → d ≡ query_distance (space a.dim a.vectors) query start → Begun (length a.marks) ids d start w v
-    → Stepped (length a.marks) width v (turns width (query_distance (space a.dim a.vectors) query) (near_of a) (length a.marks) (state_of (length a.marks) v 1)) w' r next
+    → width ≡ max beam 1 → d ≡ query_distance (space a.measure a.dim a.vectors) query start → Begun (length a.marks) ids d start w v
+    → Stepped (length a.marks) width v (turns width (query_distance (space a.measure a.dim a.vectors) query) (near_of a) (length a.marks) (state_of (length a.marks) v 1)) w' r next
     → Found a query (near_but ids) start beam w w' r
 unfolding near_but
 found_by a {query} {start} {beam} {width} {d} {ids} {w} {v} {w'} {r} {next} f m e p b g =
     let capacity : ℕ = length a.marks in
-    let dist : ℕ → ℕ = query_distance (space a.dim a.vectors) query in
+    let dist : ℕ → ℕ = query_distance (space a.measure a.dim a.vectors) query in
     let from : state_of capacity v 1 ≡ first_state capacity ids (dist start) start = b.holds ∙ ap (λ (x : ℕ). first_state capacity ids x start) p in
     let wide : width ≡ max 1 beam = omega (arith, e) in
     record {
@@ -60,16 +60,16 @@ found_all {a} {query} {start} {beam} f g =
 -- ---- what the list is like: in order, each slot once, with its own distance, and all slots are inside; or live, where the start is
 module _ {a : Arrays} {query : List ℕ} {near : Arrays → ℕ → List ℕ} {start beam : ℕ} {w w' : List ℕ} {r : ℕ} (f : Found a query near start beam w w' r) where
   pub found_inside : start < length a.marks → ((s : ℕ) → All (λ t. t < length a.marks) (near a s))
-      → Ordered.Found (λ s. s < length a.marks) (max 1 beam) (query_distance (space a.dim a.vectors) query) (cands w' 0 r)
+      → Ordered.Found (λ s. s < length a.marks) (max 1 beam) (query_distance (space a.measure a.dim a.vectors) query) (cands w' 0 r)
   found_inside h k = rw f.list (graph_search_inside (length a.marks) start beam _ (near a) h (λ s _. k s))
 
   pub found_live : is_valid a.marks start ≡ true → ((s : ℕ) → All (λ t. is_valid a.marks t ≡ true) (near a s))
-      → Ordered.Found (λ s. is_valid a.marks s ≡ true) (max 1 beam) (query_distance (space a.dim a.vectors) query) (cands w' 0 r)
+      → Ordered.Found (λ s. is_valid a.marks s ≡ true) (max 1 beam) (query_distance (space a.measure a.dim a.vectors) query) (cands w' 0 r)
   found_live h k = rw f.list (graph_search_found (length a.marks) start beam _ (near a) _ (live_inside a.marks) (λ s _. k s) h)
 
 -- ---- from the entry
 search_live : (b : Store) (query : List ℕ) (beam : ℕ) → is_valid b.arrays.marks b.entry ≡ true
-    → graph_search b.capacity b.entry beam (query_distance (space b.arrays.dim b.arrays.vectors) query) (near_of b.arrays) ≡ search_pool (store_view b) query beam
+    → graph_search b.capacity b.entry beam (query_distance (space b.arrays.measure b.arrays.dim b.arrays.vectors) query) (near_of b.arrays) ≡ search_pool (store_view b) query beam
 unfolding search_pool store_view
 search_live b query beam h = walk_view b query b.entry beam ∙ rw h
 

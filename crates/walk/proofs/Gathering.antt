@@ -69,7 +69,7 @@ module _ {a : Arrays} {query : List ℕ} {beam : ℕ} {w₀ : List ℕ} {n next 
   capacity = length a.marks
 
   abbrev dist : ℕ → ℕ
-  dist = query_distance (space a.dim a.vectors) query
+  dist = query_distance (space a.measure a.dim a.vectors) query
 
   abbrev st : State
   st = with_fresh a query beam w n xs
@@ -164,7 +164,7 @@ module _ {a : Arrays} {query : List ℕ} {beam : ℕ} where
     abbrev all : ℕ
     all = length a.marks
 
-    entering_next : {x : ℕ} {ys : List ℕ} {d n' next' : ℕ} {w' : List ℕ} → xs ≡ x ∷ ys → d ≡ query_distance (space a.dim a.vectors) query x → d ≤ 16777216
+    entering_next : {x : ℕ} {ys : List ℕ} {d n' next' : ℕ} {w' : List ℕ} → xs ≡ x ∷ ys → d ≡ query_distance (space a.measure a.dim a.vectors) query x → d ≤ 16777216
         → Entered beam w n next (pair d x) w' n' next' → Entering a query beam w₀ to w' n' next' ys
     entering_next {x} {ys} {d} {n'} {next'} {w'} e q small y =
         let f : Fresh all w n (x ∷ ys) = rw e at g.fresh in
@@ -183,7 +183,7 @@ module _ {a : Arrays} {query : List ℕ} {beam : ℕ} where
           same = outside_then 0 (work_at all) w₀ w w' g.same (outside_wide 0 marks_at 0 (work_at all) w w' y.same (omega arith) (omega arith));
         }
 
-    pub entering_more : {x : ℕ} {ys : List ℕ} {d n' next' : ℕ} {w' : List ℕ} → xs ≡ x ∷ ys → Measured (query_distance (space a.dim a.vectors) query x) d
+    pub entering_more : {x : ℕ} {ys : List ℕ} {d n' next' : ℕ} {w' : List ℕ} → xs ≡ x ∷ ys → Measured (query_distance (space a.measure a.dim a.vectors) query x) d
         → Entered beam w n next (pair d x) w' n' next' → Entering a query beam w₀ to w' n' next' ys
     entering_more e m y = entering_next e m.equals (dist_small m) y
 

@@ -19,14 +19,14 @@ use Rattle.walk.specs.Inner.Scratch.{near_of, near_but}
 
 -- a walk over the slices is a walk over the view of them
 pub walk_view : (b : Store) (query : List ℕ) (start beam : ℕ)
-    → graph_search b.capacity start beam (query_distance (space b.arrays.dim b.arrays.vectors) query) (near_of b.arrays)
+    → graph_search b.capacity start beam (query_distance (space b.arrays.measure b.arrays.dim b.arrays.vectors) query) (near_of b.arrays)
     ≡ graph_search b.capacity start beam (query_distance (store_view b).space query) (live_neighbors (store_view b))
 unfolding near_of query_distance space store_view vector_of
 walk_view b query start beam = refl
 
 -- and so it is with slots left out
 pub walk_view_but : (ids : List ℕ) (b : Store) (query : List ℕ) (start beam : ℕ)
-    → graph_search b.capacity start beam (query_distance (space b.arrays.dim b.arrays.vectors) query) (near_but ids b.arrays)
+    → graph_search b.capacity start beam (query_distance (space b.arrays.measure b.arrays.dim b.arrays.vectors) query) (near_but ids b.arrays)
     ≡ graph_search b.capacity start beam (query_distance (store_view b).space query) (λ s. filter (λ t. not (elem t ids)) (live_neighbors (store_view b) s))
 unfolding near_of near_but query_distance space store_view vector_of
 walk_view_but ids b query start beam = refl

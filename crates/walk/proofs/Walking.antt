@@ -167,7 +167,7 @@ module _ (beam : ℕ) (dist : ℕ → ℕ) (near : ℕ → List ℕ) where
   turn_goes st us c cs e h = rw (e, h)
 
 pub record Walking (a : Arrays) (query : List ℕ) (beam : ℕ) (w₀ : List ℕ) (to : State) (left : ℕ) (w : List ℕ) (n next : ℕ) : Type 0 where
-  pub turns_left : turns beam (query_distance (space a.dim a.vectors) query) (near_of a) left (state_of (length a.marks) w n) ≡ to
+  pub turns_left : turns beam (query_distance (space a.measure a.dim a.vectors) query) (near_of a) left (state_of (length a.marks) w n) ≡ to
   pub goes : Walkable (length a.marks) beam w n next
   pub size : length w ≡ length w₀
   pub same : Outside 0 (work_at (length a.marks)) w₀ w
@@ -177,7 +177,7 @@ module _ {a : Arrays} {query : List ℕ} {beam : ℕ} {w₀ : List ℕ} {to : St
   capacity = length a.marks
 
   abbrev dist : ℕ → ℕ
-  dist = query_distance (space a.dim a.vectors) query
+  dist = query_distance (space a.measure a.dim a.vectors) query
 
   abbrev near : ℕ → List ℕ
   near = near_of a

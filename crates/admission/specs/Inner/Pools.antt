@@ -1,6 +1,7 @@
 -- The residual entry and the landmark pool on lent slices: what their functions ask and leave. Assumes nothing.
 use Rattle.std.specs.Prelude.{ℕ, ◌+◌, ◌≤◌, ◌<◌, true, List, ◌≡◌, length, Option, Some}
 use Rattle.vectors.specs.Vector.{Bytes}
+use Rattle.vectors.specs.Space.{Measure}
 use Rattle.slots.specs.Scratch.{work_at}
 use Rattle.slots.specs.View.{emptied}
 use Rattle.slots.specs.Store.{Store, store_view}
@@ -20,7 +21,7 @@ pub record Entered (marks ids : List ℕ) (entry : ℕ) (r : Option ℕ) : Type 
   pub found : (s : ℕ) → r ≡ Some s → remains marks ids s ≡ true
 
 -- settings within their limits, none of them 0
-pub record Poolable (dim : ℕ) (vectors marks : List ℕ) (entry count multiplier sample : ℕ) (pool w : List ℕ) : Type 0 where
+pub record Poolable (measure : Measure) (dim : ℕ) (vectors marks : List ℕ) (entry count multiplier sample : ℕ) (pool w : List ℕ) : Type 0 where
   pub bytes : Bytes dim (length marks) vectors
   pub few : length marks ≤ 65536
   pub entry_inside : entry < length marks
@@ -32,7 +33,7 @@ pub record Poolable (dim : ℕ) (vectors marks : List ℕ) (entry count multipli
   pub room : guard_words (length marks) ≤ length w
 
 -- `landmark_pool` stands at the front of the pool's slice, whatever the beam; r is its length
-pub record Pooled (dim : ℕ) (vectors marks : List ℕ) (entry count multiplier sample : ℕ) (pool pool' : List ℕ) (r : ℕ) : Type 0 where
-  pub does : (b : Store) (beam : ℕ) → b.arrays.dim ≡ dim → b.arrays.vectors ≡ vectors → b.arrays.marks ≡ marks → b.capacity ≡ length marks
+pub record Pooled (measure : Measure) (dim : ℕ) (vectors marks : List ℕ) (entry count multiplier sample : ℕ) (pool pool' : List ℕ) (r : ℕ) : Type 0 where
+  pub does : (b : Store) (beam : ℕ) → b.arrays.measure ≡ measure → b.arrays.dim ≡ dim → b.arrays.vectors ≡ vectors → b.arrays.marks ≡ marks → b.capacity ≡ length marks
       → Fronted (landmark_pool (store_view b) (config count multiplier sample beam) entry) pool pool' r
   pub few : r ≤ 1024

@@ -12,7 +12,7 @@ use Rattle.walk.specs.Inner.Scratch.{near_but}
 unfoldable pub meets : Arrays → List ℕ → ℕ → ℕ → ℕ → Bool
 meets a out beam entry landmark =
     let query = part a.dim landmark a.vectors in
-    elem landmark (ids (graph_search (length a.marks) entry beam (query_distance (space a.dim a.vectors) query) (near_but out a)))
+    elem landmark (ids (graph_search (length a.marks) entry beam (query_distance (space a.measure a.dim a.vectors) query) (near_but out a)))
 
 -- of some landmarks, those that are met before and not after
 abbrev pub lost_of : (ℕ → Bool) → (ℕ → Bool) → List ℕ → List ℕ

@@ -44,7 +44,7 @@ pub record Repaired (a : Arrays) (how : Repair) (w : List ℕ) (at : Layout) (a'
   pub made : List ℕ
   pub plan : PlansMade a how w at made
   pub does : index_of how.alpha how.entry a'
-      ≡ foldl store_ops.finish (foldl apply_link (index_of how.alpha how.entry a) (plans_at (between a.dim a.vectors) how.degree how.entry made at.stats at.plans at.count))
+      ≡ foldl store_ops.finish (foldl apply_link (index_of how.alpha how.entry a) (plans_at (between a.measure a.dim a.vectors) how.degree how.entry made at.stats at.plans at.count))
       (ids (cands w at.from at.count))
   pub size : length w' ≡ length w
   pub same : (i : ℕ) → i < at.base → get_or w' i 0 ≡ get_or made i 0

@@ -1,8 +1,9 @@
 -- Links applied to the stored rows, one source after the other: what the functions ask, and what they leave. Assumes nothing.
 use Rattle.std.specs.Prelude.{ℕ, ◌+◌, ◌*◌, ◌≤◌, ◌<◌, cond, List, [], ◌∷◌, ◌++◌, ◌≡◌, Float, eqb, length}
 use Rattle.lists.specs.Lists.{All, elem, filter, foldl, concat_map}
-use Rattle.vectors.specs.Space.{slot_distance, space}
 use Rattle.vectors.specs.declared.Space as lent
+use Rattle.vectors.specs.Lent.{measure_of}
+use Rattle.vectors.specs.Space.{Measure, slot_distance, space}
 use Rattle.candidates.specs.Candidates.{ids}
 use Rattle.candidates.specs.Inner.Words.{pair, cands, Outside}
 use Rattle.slots.specs.View.{live_neighbors}
@@ -18,11 +19,11 @@ use Rattle.links.specs.declared.span.Pair.{Pair}
 
 -- rows that are written, beside vectors and marks, as lists
 abbrev pub arrays_of : lent.Space → RowsMut → List ℕ → Arrays
-arrays_of p r marks = rows_mut_of p.dim p.vectors.now r marks
+arrays_of p r marks = rows_mut_of (measure_of p.weights) p.dim p.vectors.now r marks
 
 -- the distance of two slots of lent bytes
-abbrev pub between : ℕ → List ℕ → ℕ → ℕ → ℕ
-between dim vectors = slot_distance (space dim vectors)
+abbrev pub between : Measure → ℕ → List ℕ → ℕ → ℕ → ℕ
+between measure dim vectors = slot_distance (space measure dim vectors)
 
 -- the row of a link's source takes the target, as the index stands, and is written at once
 unfoldable pub apply_link : Store → Link → Store
@@ -64,10 +65,10 @@ Pairs slots ps = All (λ p. (p.slot < slots) × (p.parent < slots)) ps
 
 -- ---- what is left
 -- the first n candidates of w with the target t, at its distance to s, where none of them has it
-pub record Joined (dim : ℕ) (vectors : List ℕ) (s t : ℕ) (w : List ℕ) (n r : ℕ) (w' : List ℕ) : Type 0 where
-  pub list : cands w' 0 r ≡ cond (elem t (ids (cands w 0 n))) (cands w 0 n) (cands w 0 n ++ (pair (between dim vectors s t) t ∷ []))
+pub record Joined (measure : Measure) (dim : ℕ) (vectors : List ℕ) (s t : ℕ) (w : List ℕ) (n r : ℕ) (w' : List ℕ) : Type 0 where
+  pub list : cands w' 0 r ≡ cond (elem t (ids (cands w 0 n))) (cands w 0 n) (cands w 0 n ++ (pair (between measure dim vectors s t) t ∷ []))
   pub few : r ≤ n + 1
-  pub near : between dim vectors s t ≤ 16777216
+  pub near : between measure dim vectors s t ≤ 16777216
 
 -- links are applied by a pruner
 pub record Linked {n : ℕ} (p : Pruner n) (ls : List Link) (p' : Pruner n) : Type 0 where

@@ -3,6 +3,7 @@
 use Rattle.std.specs.Prelude.{ℕ, suc, ◌+◌, ◌*◌, ◌≤◌, ◌<◌, min, true, List, [], ◌∷◌, ◌++◌, ◌≡◌, length, take, get_or}
 use Rattle.lists.specs.Lists.{All, concat_map, range, least_from, least_of}
 use Rattle.lists.proofs.Unique.{Unique}
+use Rattle.vectors.specs.Space.{Measure}
 use Rattle.candidates.specs.Candidates.{Candidate, ids}
 use Rattle.candidates.specs.Inner.Words.{pair, cands}
 use Rattle.slots.specs.Store.{is_valid}
@@ -50,28 +51,28 @@ pub record PairedNearest (ls : List Link) (pairs' : List Pair) (r : ℕ) : Type 
   pub more : r ≤ 16
 
 -- some are connected, and others remain, each with its distance to the nearest connected one
-pub record Planned (dim : ℕ) (vectors : List ℕ) (connected remaining : List Candidate) : Type 0 where
+pub record Planned (measure : Measure) (dim : ℕ) (vectors : List ℕ) (connected remaining : List Candidate) : Type 0 where
   pub short : dim ≤ 256
   pub some : 0 < length connected
   pub few : length connected + length remaining ≤ 320
   pub connected_in : All (λ c. c.id * dim + dim ≤ length vectors) connected
   pub remaining_in : All (λ c. c.id * dim + dim ≤ length vectors) remaining
-  pub least : All (λ c. c.dist ≡ least_of (between dim vectors c.id) (ids connected)) remaining
+  pub least : All (λ c. c.dist ≡ least_of (between measure dim vectors c.id) (ids connected)) remaining
   pub distinct : Distinct (ids remaining)
 
 -- the links from there on, f of them connected at most
-abbrev pub span_at : ℕ → List ℕ → ℕ → List Candidate → List Candidate → ℕ → List Link
-span_at dim vectors repair_degree connected remaining f = span (between dim vectors) repair_degree f (ids connected) (ids remaining)
+abbrev pub span_at : Measure → ℕ → List ℕ → ℕ → List Candidate → List Candidate → ℕ → List Link
+span_at measure dim vectors repair_degree connected remaining f = span (between measure dim vectors) repair_degree f (ids connected) (ids remaining)
 
 -- one more is connected, by the first r pairs
-pub record Connected (dim : ℕ) (vectors : List ℕ) (repair_degree : ℕ) (con rem con' rem' : List Candidate) (pairs' : List Pair) (r : ℕ) : Type 0 where
-  pub planned : Planned dim vectors con' rem'
-  pub goes : (f : ℕ) → span_at dim vectors repair_degree con rem (suc f) ≡ pairs_of (take r pairs') ++ span_at dim vectors repair_degree con' rem' f
+pub record Connected (measure : Measure) (dim : ℕ) (vectors : List ℕ) (repair_degree : ℕ) (con rem con' rem' : List Candidate) (pairs' : List Pair) (r : ℕ) : Type 0 where
+  pub planned : Planned measure dim vectors con' rem'
+  pub goes : (f : ℕ) → span_at measure dim vectors repair_degree con rem (suc f) ≡ pairs_of (take r pairs') ++ span_at measure dim vectors repair_degree con' rem' f
   pub more : r ≤ 16
 
 -- all are connected, by the first r pairs
-pub record Spanned (dim : ℕ) (vectors : List ℕ) (repair_degree : ℕ) (con rem : List Candidate) (pairs' : List Pair) (r : ℕ) : Type 0 where
-  pub paired : pairs_of (take r pairs') ≡ span_at dim vectors repair_degree con rem (length rem)
+pub record Spanned (measure : Measure) (dim : ℕ) (vectors : List ℕ) (repair_degree : ℕ) (con rem : List Candidate) (pairs' : List Pair) (r : ℕ) : Type 0 where
+  pub paired : pairs_of (take r pairs') ≡ span_at measure dim vectors repair_degree con rem (length rem)
   pub few : r ≤ 5120
 
 -- ---- all plans

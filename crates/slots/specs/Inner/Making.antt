@@ -1,5 +1,6 @@
 -- What making asks of the slices that it is lent, and what it leaves in them. Assumes nothing.
 use Rattle.std.specs.Prelude.{◌≡◌, ℕ, ◌*◌, ◌≤◌, List, length, replicate, Float}
+use Rattle.vectors.specs.Space.{Measure}
 use Rattle.slots.specs.Sizes.{limits}
 use Rattle.slots.specs.Store.{new_arrays, arrays}
 
@@ -15,9 +16,9 @@ pub record Room (dim capacity degree given : ℕ) (bytes rows vectors targets ed
   pub marks_long : length marks ≡ capacity
   pub pool_long : length pool ≡ limits.pool
 
--- the slices hold a new index, whatever its alpha
+-- the slices hold a new index, whatever its measure and its alpha
 pub record New (dim capacity degree given : ℕ) (bytes rows vectors targets edges versions marks pool : List ℕ) : Type 0 where
-  pub does : (alpha : Float)
-      → arrays dim degree vectors targets edges versions marks
-      ≡ new_arrays (record { dim = dim; capacity = capacity; degree = degree; alpha = alpha }) given bytes rows
+  pub does : (measure : Measure) (alpha : Float)
+      → arrays measure dim degree vectors targets edges versions marks
+      ≡ new_arrays (record { dim = dim; capacity = capacity; degree = degree; alpha = alpha }) measure given bytes rows
   pub pool_empty : pool ≡ replicate limits.pool 0

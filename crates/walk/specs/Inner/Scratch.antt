@@ -57,17 +57,17 @@ mark_all marks ids = foldl (λ m s. set m s 1) marks ids
 -- the state when the slots xs have entered too, each at its distance
 abbrev pub with_fresh : Arrays → List ℕ → ℕ → List ℕ → ℕ → List ℕ → State
 with_fresh a query beam w n xs =
-    record { list = foldl (enter beam) (cands w 0 n) (scored (query_distance (space a.dim a.vectors) query) xs); marks = marks_of (length a.marks) w }
+    record { list = foldl (enter beam) (cands w 0 n) (scored (query_distance (space a.measure a.dim a.vectors) query) xs); marks = marks_of (length a.marks) w }
 
 -- what the definition makes of the state in the words: slots are met, the candidate at place i is expanded, and all turns are taken
 abbrev pub meets : Arrays → List ℕ → ℕ → State → List ℕ → State
-meets a query beam st ts = foldl (Walk.meet beam (query_distance (space a.dim a.vectors) query) (near_of a)) st ts
+meets a query beam st ts = foldl (Walk.meet beam (query_distance (space a.measure a.dim a.vectors) query) (near_of a)) st ts
 
 abbrev pub expands : Arrays → List ℕ → ℕ → List ℕ → ℕ → ℕ → State
-expands a query beam w n i = Walk.expand beam (query_distance (space a.dim a.vectors) query) (near_of a) (state_of (length a.marks) w n) (cand w (2 * i))
+expands a query beam w n i = Walk.expand beam (query_distance (space a.measure a.dim a.vectors) query) (near_of a) (state_of (length a.marks) w n) (cand w (2 * i))
 
 abbrev pub takes_turns : Arrays → List ℕ → ℕ → List ℕ → ℕ → State
-takes_turns a query beam w n = Walk.turns beam (query_distance (space a.dim a.vectors) query) (near_of a) (length a.marks) (state_of (length a.marks) w n)
+takes_turns a query beam w n = Walk.turns beam (query_distance (space a.measure a.dim a.vectors) query) (near_of a) (length a.marks) (state_of (length a.marks) w n)
 
 -- the first state: the start is in the list, and it and the slots to be left out are met
 abbrev pub first_state : ℕ → List ℕ → ℕ → ℕ → State
@@ -189,7 +189,7 @@ pub record Ready (a : Arrays) (query : List ℕ) (start beam : ℕ) (w : List �
 
 -- what a walk leaves: r candidates, those of `graph_search`; `near` is `near_of`, or `near_but` some slots
 pub record Found (a : Arrays) (query : List ℕ) (near : Arrays → ℕ → List ℕ) (start beam : ℕ) (w w' : List ℕ) (r : ℕ) : Type 0 where
-  pub list : cands w' 0 r ≡ graph_search (length a.marks) start beam (query_distance (space a.dim a.vectors) query) (near a)
+  pub list : cands w' 0 r ≡ graph_search (length a.marks) start beam (query_distance (space a.measure a.dim a.vectors) query) (near a)
   pub few : r ≤ max 1 beam
   pub small : Small (cands w' 0 r)
   pub size : length w' ≡ length w

@@ -30,6 +30,6 @@ returns c =
     let marks = c.args.graph.now.rows.marks.now in
     let start = c.in-Some.start in
     let stays : ℕ → Bool = remains marks c.args.ids.now in
-    let select : ℕ → List ℕ → List ℕ = λ wanted existing. landmarks_by (slot_distance (space a.dim a.vectors)) stays (length marks) start wanted g.sample existing in
+    let select : ℕ → List ℕ → List ℕ = λ wanted existing. landmarks_by (slot_distance (space a.measure a.dim a.vectors)) stays (length marks) start wanted g.sample existing in
     let v = names stays (meets a [] g.beam start) (meets a c.args.ids.now g.beam start) select g.count start c.args.pool.now c.count_named-requested.result c.probe-report.ensures.0 refl in
     (assessed_some a c.args.entry g.count g.sample g.beam c.args.pool.now c.args.ids.now c.count_named-requested.ensures c.if-requested-eq0.false c.residual_entry.ensures c.in-Some.is v, c.probe-report.ensures.1)

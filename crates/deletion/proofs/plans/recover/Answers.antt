@@ -12,8 +12,8 @@ holds-requires c = rows_ready _ c.requires.0 _ c.loop-k-test.true c.id_at-s.ensu
 pub loop-k-preserved : goal.loop-k-preserved
 loop-k-preserved c =
     elim c.if-holds.branch [
-      | then-holds w ↦ rw (w.to-is, w.m-is, w.put.ensures) (passing_more c.loop-k.invariant c.requires.1 c.loop-k-test.true c.id_at-s.ensures (sym (c.holds.ensures _ _) ∙ w.if-holds.true))
-      | else-holds w ↦ rw (w.to-is, w.m-is) (passing_skip c.loop-k.invariant c.loop-k-test.true c.id_at-s.ensures (sym (c.holds.ensures _ _) ∙ w.if-holds.false))
+      | then-holds w ↦ rw (w.to-is, w.m-is, w.put.ensures) (passing_more c.loop-k.invariant c.requires.1 c.loop-k-test.true c.id_at-s.ensures (sym (c.holds.ensures _ _ _) ∙ w.if-holds.true))
+      | else-holds w ↦ rw (w.to-is, w.m-is) (passing_skip c.loop-k.invariant c.loop-k-test.true c.id_at-s.ensures (sym (c.holds.ensures _ _ _) ∙ w.if-holds.false))
     ]
 
 pub returns : goal.returns

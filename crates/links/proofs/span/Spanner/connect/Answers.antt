@@ -2,6 +2,7 @@ use native.Mathlib.Omega.{arith}
 use Prim.Native.Nat.{◌*◌, ◌/◌}
 use lib.ListN.{length}
 use Rattle.std.proofs.lemmas.List.{length-take-le}
+use Rattle.vectors.specs.Lent.{measure_of}
 use Rattle.candidates.proofs.Words.{cands_length}
 use Rattle.links.proofs.Spanning.{Next, connect_within, connect_near, connect_stored, connect_done}
 use Rattle.links.proofs.span.Spanner.connect.Goals.{After-id_at-next}
@@ -11,7 +12,7 @@ pub id_at-next-requires : goal.id_at-next-requires
 id_at-next-requires c = omega (arith, c.nearest-i.ensures.within, cands_length c.args.remaining.now 0 (length c.args.remaining.now / 2))
 
 -- the next is found
-found : (c : After-id_at-next) → Next c.args.self.now.space.dim c.args.self.now.space.vectors.now c.args.connected.now c.args.remaining.now c.args.k c.nearest-i.result c.id_at-next.result
+found : (c : After-id_at-next) → Next (measure_of c.args.self.now.space.weights) c.args.self.now.space.dim c.args.self.now.space.vectors.now c.args.connected.now c.args.remaining.now c.args.k c.nearest-i.result c.id_at-next.result
 found c = record { planned = c.requires.0; some = c.requires.1; long = c.requires.2; nearest = c.nearest-i.ensures; read = c.id_at-next.ensures }
 
 pub overflow_mul-k : goal.overflow_mul-k

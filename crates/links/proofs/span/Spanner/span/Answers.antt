@@ -3,7 +3,7 @@ use Rattle.links.proofs.Spanning.{spanning_none, spanning_asks, spanning_more, s
 use Rattle.links.proofs.span.Spanner.span.Goals as goal
 
 pub loop-i-init : goal.loop-i-init
-loop-i-init c = spanning_none _ _ _ _ _ _ c.requires.0 c.requires.3
+loop-i-init c = spanning_none _ _ _ _ _ _ _ c.requires.0 c.requires.3
 
 pub connect-t-requires : goal.connect-t-requires
 connect-t-requires c =
