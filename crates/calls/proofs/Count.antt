@@ -11,6 +11,7 @@ use lib.ListN.{length, length-map}
 use Rattle.std.proofs.lemmas.Bool.{or_parts}
 use Rattle.lists.specs.Lists.{filter, range}
 use Rattle.lists.proofs.Ranges.{length_range}
+use Rattle.vectors.specs.Distance.{distance}
 use Rattle.slots.specs.Sizes.{Lengths, limits}
 use Rattle.slots.specs.View.{View, live_slots, free_slots, emptied}
 use Rattle.slots.specs.Store.{store_view, store_ops}
@@ -54,7 +55,7 @@ plain_given m ok = omega (arith, all_below m.count 0 m.sizes.capacity (omega ari
 
 pub stored_given : (m : Making) → Good m → length (live_slots (store_view (stored.new m))) ≡ m.count
 unfolding stored plain
-stored_given m ok = ap (λ v. length (live_slots v)) (agree_new m.sizes m.count m.bytes m.rows m.entry ok).same ∙ plain_given m ok
+stored_given m ok = ap (λ v. length (live_slots v)) (agree_new m.sizes (distance m.weights) m.count m.bytes m.rows m.entry ok).same ∙ plain_given m ok
 
 -- ---- what an accepted call finds
 
@@ -85,7 +86,7 @@ insert_finds lent w a r =
     let t₁₀ = (first_none 9 odd ten t₉).1 in
     let t₁₅ = first_none 10 full fifteen t₁₀ in
     record {
-      finds = record { sized = f.sized; grown = f.grown; long = f.long; not_wrong = f.not_wrong; live = f.live; labels = f.labels; own = refl };
+      finds = record { sized = f.sized; grown = f.grown; long = f.long; not_wrong = f.not_wrong; weighed = f.weighed; live = f.live; labels = f.labels; own = refl };
       room = ltb-false (length (free_slots v)) count t₁₅.0;
       as_many = eqb-true (length a.numbers) count (not-false many (or_parts (ltb lent.room.slots count) (not many) f.not_wrong).1);
       fresh = (first_none 15 held [] t₁₅.1).0;
@@ -160,7 +161,7 @@ pub stored_count : LiveCount stored
 unfolding stored store_ops
 stored_count =
     counts stored MarksFit store_marking
-    (λ m ok. ((agree_new m.sizes m.count m.bytes m.rows m.entry ok).sound.shaped.marks_long, stored_given m ok))
+    (λ m ok. ((agree_new m.sizes (distance m.weights) m.count m.bytes m.rows m.entry ok).sound.shaped.marks_long, stored_given m ok))
 
 pub plain_count : LiveCount plain
 unfolding plain plain_ops new_plain

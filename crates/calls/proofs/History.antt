@@ -14,10 +14,11 @@ use Rattle.std.proofs.lemmas.Bool.{or_parts}
 use Rattle.lists.specs.Lists.{filter, range, part, times, least_of}
 use Rattle.lists.proofs.Parts.{before_next}
 use Rattle.lists.proofs.Counts.{times_append}
+use Rattle.vectors.specs.Distance.{distance}
 use Rattle.vectors.specs.Space.{slot_distance}
 use Rattle.slots.specs.Sizes.{Sizes, Lengths, limits}
 use Rattle.slots.specs.View.{View, live_neighbors, live_slots, free_slots, emptied}
-use Rattle.slots.specs.Store.{Store, blank, store_view, store_ops}
+use Rattle.slots.specs.Store.{Store, blank, store_view, store_ops, new_arrays}
 use Rattle.slots.specs.Plain.{plain_ops}
 use Rattle.slots.proofs.Agree.{Agree, recount}
 use Rattle.slots.proofs.New.{agree_new}
@@ -32,13 +33,14 @@ use Rattle.insert.proofs.Agree.{Long, agree_insert}
 use Rattle.insert.proofs.Free.{sizes_after_insert}
 use Rattle.repair.specs.Delete.{Stats, delete_batch}
 use Rattle.repair.proofs.Agree.{agree_delete}
+use Rattle.repair.proofs.Count.{sizes_after_delete}
 use Rattle.guard.specs.Guard.{Config, on, Report, normalized, pool_of, guard_status, landmark_pool, select_landmarks, greatest_from, farthest}
 use Rattle.calls.specs.Calls.{Making, Reading, read_dim, read_capacity, read_degree, read_alpha, read_entry, read_live, read_mark, read_version, read_number, read_target, Insert, Delete, Operation, create, read, read_vector, search, insert, delete, enable, status, assess, guarded_delete, Lent, Call, Answer, number, alpha, vector, found, inserted, deleted, standing, assessed, applied, created}
 use Rattle.calls.specs.Refusals.{Test, first_of, making_tests, config_over, new_pool, scratch_short, tests}
 use Rattle.calls.specs.State.{State, Kind, stored, plain, shown, made, with_graph, with_guard}
 use Rattle.calls.specs.Step.{vectors_of, report_of, slots_of, named, reading, deletion, guarded, perform, refusal, settle, step}
 use Rattle.calls.specs.History.{hide, look, seen, compared, log_performed, log_settled, Few, log_after, Within, trace, History}
-use Rattle.calls.proofs.Tests.{first_none, accepted, numbers_given, index_finds}
+use Rattle.calls.proofs.Tests.{first_none, accepted, numbers_given, weights_given, index_finds}
 
 -- ---- the two states agree
 
@@ -50,13 +52,23 @@ pub record Same (log : List ℕ) (w : State Store) (p : State View) : Type 0 whe
   pub pool : pool_of w.guard w.pool ≡ pool_of p.guard p.pool
   pub numbers : w.numbers ≡ p.numbers
   pub summary : w.summary ≡ p.summary
+  pub weights : w.weights ≡ p.weights
   pub numbers_long : length w.numbers ≡ w.graph.capacity
   pub summary_long : length w.summary ≡ w.graph.capacity
+  pub weights_long : length w.weights ≡ w.graph.arrays.dim
 
 -- so a call sees the same of both
 pub same_shown : {log : List ℕ} {w : State Store} {p : State View} → Same log w p → shown stored w ≡ shown plain p
 unfolding shown stored plain store_ops plain_ops
-same_shown e = λ i. record { graph = e.agree.same i; live = e.live i; guard = e.guard i; pool = e.pool i; numbers = e.numbers i; summary = e.summary i }
+same_shown e = λ i. record {
+  graph = e.agree.same i;
+  live = e.live i;
+  guard = e.guard i;
+  pool = e.pool i;
+  numbers = e.numbers i;
+  summary = e.summary i;
+  weights = e.weights i;
+}
 
 -- the two states agree, and the answers, but for a version
 pub record Both (log : List ℕ) (r : State Store × Answer) (q : State View × Answer) : Type 0 where
@@ -93,9 +105,9 @@ pool_fits v c e =
 -- ---- a call that is carried out
 
 pub made_both : (lent : Lengths) (m : Making) → first_of (making_tests limits lent m) ≡ none → Both [] (made stored m, created) (made plain m, created)
-unfolding made stored plain store_ops plain_ops pool_of store_view
+unfolding made stored plain store_ops plain_ops pool_of store_view new_arrays
 made_both lent m acc =
-    let a = agree_new m.sizes m.count m.bytes m.rows m.entry (accepted lent m acc) in
+    let a = agree_new m.sizes (distance m.weights) m.count m.bytes m.rows m.entry (accepted lent m acc) in
     record {
       same = record {
         agree = a;
@@ -107,6 +119,8 @@ made_both lent m acc =
         summary = ap (λ u. summary_of u.live u.sizes.capacity (m.numbers ++ replicate (m.sizes.capacity - m.count) 0)) a.same;
         numbers_long = simp (length-append, length-replicate) (omega (arith, (numbers_given lent m acc).0, (accepted lent m acc).room));
         summary_long = summary_long _ _ _;
+        weights = refl;
+        weights_long = (weights_given lent m acc).0;
       };
       answer = refl;
     }
@@ -136,9 +150,10 @@ module _ (log : List ℕ) (w : State Store) (p : State View) (e : Same log w p) 
 
   -- the state after a call that changes the graph
   changed : (log' : List ℕ) (b : Store) (v : View) (ns ms : List ℕ) → Agree (λ s. times s log') b v → ns ≡ ms → length ns ≡ b.capacity
+      → (store_view b).sizes ≡ (store_view w.graph).sizes
       → Same log' (with_graph stored w b ns) (with_graph plain p v ms)
   unfolding with_graph stored plain store_ops plain_ops store_view
-  changed log' b v ns ms a q long = record {
+  changed log' b v ns ms a q long z = record {
     agree = a;
     live = ap (λ u. length (live_slots u)) a.same;
     guard = e.guard;
@@ -148,6 +163,8 @@ module _ (log : List ℕ) (w : State Store) (p : State View) (e : Same log w p) 
     summary = ap₂ (λ (u : View) (l : List ℕ). summary_of u.live u.sizes.capacity l) a.same q;
     numbers_long = long;
     summary_long = summary_long _ _ ns;
+    weights = e.weights;
+    weights_long = e.weights_long ∙ sym (ap (λ (x : Sizes). x.dim) z);
   }
 
   same_named : (a : Delete) → named w a ≡ named p a
@@ -162,7 +179,8 @@ module _ (log : List ℕ) (w : State Store) (p : State View) (e : Same log w p) 
       subst (λ slots. Both (ss ++ log) ((left slots).0, f (left slots).1) ((deletion plain p a).0, f (deletion plain p a).1)) (sym (same_named a))
       (record {
         same = changed (ss ++ log) _ _ _ _ (recount _ _ _ _ (λ s h. sym (times_append s ss log)) d.agree)
-            (ap₂ (λ (u : View) (l : List ℕ). live_numbers u.live u.sizes.capacity l) d.agree.same e.numbers) (live_numbers_long _ _ _);
+            (ap₂ (λ (u : View) (l : List ℕ). live_numbers u.live u.sizes.capacity l) d.agree.same e.numbers) (live_numbers_long _ _ _)
+            (sizes_after_delete store_ops MarksFit store_marking w.graph e.agree.sound.shaped.marks_long a.repair_beam a.repair_degree (named p a));
         answer = ap (λ x. hide (f x)) d.stats;
       })
     where
@@ -185,11 +203,13 @@ module _ (log : List ℕ) (w : State Store) (p : State View) (e : Same log w p) 
       subst (λ (u : View). Agree (λ s. times s log) (insert_batch store_ops beam w.graph (vectors_of u.sizes.dim bytes)) (insert_batch plain_ops beam p.graph (vectors_of d bytes))) (sym e.agree.same)
       (agree_insert beam (λ s. times s log) w.graph p.graph e.agree (vectors_of d bytes) (whole_vectors d bytes))
 
+  kept_sizes : (a : Insert) → (store_view (insert_batch store_ops a.beam w.graph (vectors_of (store_view w.graph).sizes.dim a.bytes))).sizes ≡ (store_view w.graph).sizes
+  unfolding insert_batch store_ops
+  kept_sizes a = sizes_after_insert store_ops MarksFit store_marking w.graph e.agree.sound.shaped.marks_long a.beam (vectors_of (store_view w.graph).sizes.dim a.bytes)
+
   kept_capacity : (a : Insert) → (insert_batch store_ops a.beam w.graph (vectors_of (store_view w.graph).sizes.dim a.bytes)).capacity ≡ w.graph.capacity
-  unfolding store_view insert_batch store_ops
-  kept_capacity a =
-      ap (λ (z : Sizes). z.capacity)
-      (sizes_after_insert store_ops MarksFit store_marking w.graph e.agree.sound.shaped.marks_long a.beam (vectors_of (store_view w.graph).sizes.dim a.bytes))
+  unfolding store_view
+  kept_capacity a = ap (λ (z : Sizes). z.capacity) (kept_sizes a)
 
   -- a pool that is written: its slice holds it, and the words past it stay
   enables : (c : Config) (pool : List ℕ) → length pool ≤ limits.pool → Same log (with_guard stored w c pool) (with_guard plain p c pool)
@@ -204,6 +224,8 @@ module _ (log : List ℕ) (w : State Store) (p : State View) (e : Same log w p) 
     summary = e.summary;
     numbers_long = e.numbers_long;
     summary_long = e.summary_long;
+    weights = e.weights;
+    weights_long = e.weights_long;
   }
 
   not_over : (lent : Lent) (c : Config) → refusal plain p (record { lent = lent; operation = enable c }) ≡ none → config_over limits c ≡ false
@@ -238,7 +260,7 @@ module _ (log : List ℕ) (w : State Store) (p : State View) (e : Same log w p) 
   perform_both lent (insert a) r few = record {
     same = changed log _ _ _ _ (inserts a.bytes a.beam)
         (ap₂ (λ (u : View) (l : List ℕ). write_numbers (filled_by u a) a.numbers l) e.agree.same e.numbers)
-        (write_numbers_long (filled_by (store_view w.graph) a) a.numbers w.numbers ∙ e.numbers_long ∙ sym (kept_capacity a));
+        (write_numbers_long (filled_by (store_view w.graph) a) a.numbers w.numbers ∙ e.numbers_long ∙ sym (kept_capacity a)) (kept_sizes a);
     answer = ap (λ u. hide (inserted (filled_by u a))) e.agree.same;
   }
   perform_both lent (delete a) r few = deletes a deleted few

@@ -9,17 +9,19 @@ use lib.ListN.{length, take, drop, replicate, length-take}
 use lib.Seq.{take_all, take-nil}
 use lib.Dec.{eqb, ltb, leb}
 use Rattle.std.proofs.lemmas.Bool.{and_parts}
-use Rattle.lists.specs.Lists.{All, filter, elem, foldl}
+use Rattle.lists.specs.Lists.{All, filter, elem, foldl, sum}
 use Rattle.lists.proofs.All.{by_cases, all_of, all_map, all_append, all_take, all_drop, all_filter, filter_test, foldl_keeps}
 use Rattle.vectors.specs.Distance.{distance}
+use Rattle.vectors.specs.Weights.{Weighing}
 use Rattle.vectors.specs.Space.{slot_distance, query_distance}
-use Rattle.vectors.proofs.Distances.{distance_self, distance_sym, distance_small}
+use Rattle.vectors.proofs.Distances.{weighted_self, weighted_sym, weighted_small}
 use Rattle.candidates.specs.Candidates.{Candidate, scored, ids}
-use Rattle.slots.specs.Sizes.{Sizes, exact, limits, within, sizes_ok, alpha_ok, lengths_of, lengths_ok}
+use Rattle.slots.specs.Sizes.{Sizes, exact, limits, within, sizes_ok, alpha_ok, weights_ok, lengths_of, lengths_ok}
 use Rattle.slots.specs.View.{View, live_neighbors}
 use Rattle.slots.specs.Store.{Arrays, Shaped, Store, vector_of, store_view, write_neighbors, write_vector, set_mark, next_version, with_arrays, at_slot, store_ops, new_arrays}
 use Rattle.slots.proofs.Changes.{shaped_marked, shaped_stepped, shaped_vector}
 use Rattle.slots.proofs.Places.{live_inside}
+use Rattle.slots.proofs.Weights.{weights_weigh}
 use Rattle.slots.proofs.Written.{shaped_written}
 use Rattle.walk.specs.Walk.{graph_search, search_pool}
 use Rattle.walk.proofs.Ordered.{graph_search_inside, search_pool_found}
@@ -35,7 +37,7 @@ use Rattle.calls.specs.State.{State, view_of, made, with_graph, stored}
 use Rattle.calls.specs.Runs.{slices_of}
 use Rattle.numbers.proofs.Kept.{summary_long}
 use Rattle.calls.specs.Instances.{AllBytes, Passes, Made, Kept, greedy, robust, nearest, Searched, Tried, Planned, TargetRow, RepairedRow, Demand2}
-use Rattle.calls.proofs.Tests.{passed_lengths}
+use Rattle.calls.proofs.Tests.{passed_lengths, weights_given}
 use Rattle.calls.proofs.History.{made_both}
 
 -- ---- what the algorithms ask of a view
@@ -158,23 +160,22 @@ module _ (v : View) (fit : Fit v) where
 
 -- ---- a stored index that passes
 
-within_limits : (z : Sizes) → sizes_ok limits z ≡ true → (z.dim ≤ limits.dim) × (1 ≤ z.degree)
+degree_within : (z : Sizes) → sizes_ok limits z ≡ true → 1 ≤ z.degree
 unfolding sizes_ok
-within_limits z e =
+degree_within z e =
     let a = and_parts (within 1 limits.dim z.dim && within 1 limits.capacity z.capacity) (within 1 limits.degree z.degree) e in
-    let b = and_parts (within 1 limits.dim z.dim) (within 1 limits.capacity z.capacity) a.0 in (
-      leb-true z.dim limits.dim (and_parts (leb 1 z.dim) (leb z.dim limits.dim) b.0).1,
-      leb-true 1 z.degree (and_parts (leb 1 z.degree) (leb z.degree limits.degree) a.1).0,
-    )
+    leb-true 1 z.degree (and_parts (leb 1 z.degree) (leb z.degree limits.degree) a.1).0
 
--- two vectors of bytes of which one is no longer than the largest dim
-below : (a b : List ℕ) → AllBytes a → AllBytes b → length a ≤ limits.dim → distance a b < 16777216
-unfolding limits
-below a b h k l = omega (arith, distance_small a b h k)
+-- two vectors of bytes of which one is no longer than the weights
+below : (ws a b : List ℕ) → sum ws ≤ 256 → AllBytes a → AllBytes b → length a ≤ length ws → distance ws a b < 16777216
+below ws a b s h k l = omega (arith, weighted_small ws a b l h k)
 
 -- what `Passes` says of the graph
-record Good (n : ℕ) (b : Store) : Type 0 where
+record Good (ws : List ℕ) (n : ℕ) (b : Store) : Type 0 where
   capacity : b.capacity ≡ n
+  weighing : Weighing ws
+  weights_long : length ws ≡ b.arrays.dim
+  measure : b.arrays.measure ≡ distance ws
   sizes_right : sizes_ok limits (store_view b).sizes ≡ true
   alpha_right : alpha_ok b.alpha ≡ true
   shaped : Shaped b.capacity b.arrays
@@ -188,12 +189,15 @@ module _ (w : State Store) where
   unfolding slices_of
   pool_long p = ap (λ n. n.pool) (lengths_pass p)
 
-  passes_good : Passes w → Good w.graph.capacity w.graph
+  passes_good : Passes w → Good w.weights w.graph.capacity w.graph
   unfolding stored store_ops store_view slices_of
   passes_good p =
       let e = lengths_pass p in
       record {
         capacity = refl;
+        weighing = weights_weigh w.weights p.weights;
+        weights_long = ap (λ n. n.weights) e;
+        measure = p.measure;
         sizes_right = p.sizes;
         alpha_right = p.alpha;
         shaped = record {
@@ -206,51 +210,56 @@ module _ (w : State Store) where
         bytes = p.bytes;
       }
 
-  good_passes : length w.pool ≡ limits.pool → (n : ℕ) → length w.numbers ≡ n → length w.summary ≡ w.graph.capacity → Good n w.graph → Passes w
+  good_passes : length w.pool ≡ limits.pool → (n : ℕ) → length w.numbers ≡ n → length w.summary ≡ w.graph.capacity → weights_ok limits w.weights ≡ true → Good w.weights n w.graph → Passes w
   unfolding stored store_ops store_view slices_of lengths_ok
-  good_passes l n k y g =
+  good_passes l n k y q g =
       let f = g.shaped in
       record {
         sizes = g.sizes_right;
         alpha = g.alpha_right;
-        lengths = rw (eq-eqb _ _ f.vectors_long, eq-eqb _ _ f.targets_long, eq-eqb _ _ f.edges_long, eq-eqb _ _ f.versions_long, eq-eqb _ _ f.marks_long, eq-eqb _ _ l, eq-eqb _ _ (k ∙ sym g.capacity), eq-eqb _ _ y);
+        lengths = rw (eq-eqb _ _ f.vectors_long, eq-eqb _ _ f.targets_long, eq-eqb _ _ f.edges_long, eq-eqb _ _ f.versions_long, eq-eqb _ _ f.marks_long, eq-eqb _ _ l, eq-eqb _ _ (k ∙ sym g.capacity), eq-eqb _ _ y, eq-eqb _ _ g.weights_long);
+        weights = q;
+        measure = g.measure;
         bytes = g.bytes;
       }
 
-module _ (n : ℕ) (b : Store) (g : Good n b) where
+module _ (ws : List ℕ) (n : ℕ) (b : Store) (g : Good ws n b) where
   abbrev arrays : Arrays
   arrays = b.arrays
 
-  sized : (arrays.dim ≤ limits.dim) × (1 ≤ arrays.degree)
+  degree_one : 1 ≤ arrays.degree
   unfolding store_view
-  sized = within_limits (store_view b).sizes g.sizes_right
+  degree_one = degree_within (store_view b).sizes g.sizes_right
 
   vector_bytes : (s : ℕ) → AllBytes (vector_of arrays s)
   unfolding vector_of
   vector_bytes s = all_take _ arrays.dim (drop (s * arrays.dim) arrays.vectors) (all_drop _ (s * arrays.dim) arrays.vectors g.bytes)
 
-  vector_short : (s : ℕ) → length (vector_of arrays s) ≤ limits.dim
+  vector_short : (s : ℕ) → length (vector_of arrays s) ≤ length ws
   unfolding vector_of
-  vector_short s = rw length-take (omega (arith, sized.0))
+  vector_short s = rw length-take (omega (arith, g.weights_long))
 
   good_fit : Fit (store_view b)
-  unfolding store_view slot_distance query_distance
+  unfolding store_view slot_distance query_distance vector_of
   good_fit =
       record {
         inside = λ s e. omega (arith, live_inside arrays.marks s e, g.shaped.marks_long);
-        degree = sized.1;
+        degree = degree_one;
         alpha = accepted b.alpha (rw g.alpha_right tt);
-        own = λ s. distance_self (vector_of arrays s);
-        small = λ s t. below (vector_of arrays s) (vector_of arrays t) (vector_bytes s) (vector_bytes t) (vector_short s);
-        query_small = λ query h s. rw (distance_sym query (vector_of arrays s)) (below (vector_of arrays s) query (vector_bytes s) h (vector_short s));
+        own = λ s. rw g.measure (weighted_self ws (vector_of arrays s));
+        small = λ s t. rw g.measure (below ws (vector_of arrays s) (vector_of arrays t) g.weighing.few (vector_bytes s) (vector_bytes t) (vector_short s));
+        query_small = λ query h s. rw (g.measure, weighted_sym ws query (vector_of arrays s)) (below ws (vector_of arrays s) query g.weighing.few (vector_bytes s) h (vector_short s));
       }
 
   -- other arrays
-  changed : (a : Arrays) → a.dim ≡ arrays.dim → a.degree ≡ arrays.degree → Shaped b.capacity a → AllBytes a.vectors → Good n (with_arrays b a)
+  changed : (a : Arrays) → a.measure ≡ arrays.measure → a.dim ≡ arrays.dim → a.degree ≡ arrays.degree → Shaped b.capacity a → AllBytes a.vectors → Good ws n (with_arrays b a)
   unfolding store_view
-  changed a d e f h =
+  changed a m d e f h =
       record {
         capacity = g.capacity;
+        weighing = g.weighing;
+        weights_long = g.weights_long ∙ sym d;
+        measure = m ∙ g.measure;
         sizes_right = ap (sizes_ok limits) (λ i. record { dim = d i; capacity = b.capacity; degree = e i; alpha = b.alpha }) ∙ g.sizes_right;
         alpha_right = g.alpha_right;
         shaped = f;
@@ -258,31 +267,40 @@ module _ (n : ℕ) (b : Store) (g : Good n b) where
       }
 
   -- at a slot inside; at one outside nothing changes
-  at_good : (s : ℕ) (a : Arrays) → (s < b.capacity → Good n (with_arrays b a)) → Good n (at_slot b s a)
-  at_good s a f = by_cases (Good n) (ltb s b.capacity) (λ e. f (ltb-true s b.capacity e)) (λ e. g)
+  at_good : (s : ℕ) (a : Arrays) → (s < b.capacity → Good ws n (with_arrays b a)) → Good ws n (at_slot b s a)
+  at_good s a f = by_cases (Good ws n) (ltb s b.capacity) (λ e. f (ltb-true s b.capacity e)) (λ e. g)
 
-  good_fill : (s : ℕ) (vector : List ℕ) → length vector ≡ arrays.dim → AllBytes vector → Good n (store_ops.fill b s vector)
+  good_fill : (s : ℕ) (vector : List ℕ) → length vector ≡ arrays.dim → AllBytes vector → Good ws n (store_ops.fill b s vector)
   unfolding store_ops write_vector write_neighbors set_mark
-  good_fill s vector l k = at_good s _ (λ h. changed _ refl refl
+  good_fill s vector l k = at_good s _ (λ h. changed _ refl refl refl
       (shaped_marked _ _ (shaped_written _ _ (shaped_vector _ _ g.shaped s h vector l) s h []) s 1)
       (all_append _ (take (s * arrays.dim) arrays.vectors) (vector ++ drop (s * arrays.dim + arrays.dim) arrays.vectors) (all_take _ (s * arrays.dim) arrays.vectors g.bytes)
       (all_append _ vector (drop (s * arrays.dim + arrays.dim) arrays.vectors) k (all_drop _ (s * arrays.dim + arrays.dim) arrays.vectors g.bytes))))
 
-  good_write : (s : ℕ) (ids : List ℕ) → Good n (store_ops.write b s ids)
+  good_write : (s : ℕ) (ids : List ℕ) → Good ws n (store_ops.write b s ids)
   unfolding store_ops write_neighbors
-  good_write s ids = at_good s _ (λ h. changed _ refl refl (shaped_written _ _ g.shaped s h ids) g.bytes)
+  good_write s ids = at_good s _ (λ h. changed _ refl refl refl (shaped_written _ _ g.shaped s h ids) g.bytes)
 
-  good_kill : (s : ℕ) → Good n (store_ops.kill b s)
+  good_kill : (s : ℕ) → Good ws n (store_ops.kill b s)
   unfolding store_ops set_mark
-  good_kill s = at_good s _ (λ h. changed _ refl refl (shaped_marked _ _ g.shaped s 0) g.bytes)
+  good_kill s = at_good s _ (λ h. changed _ refl refl refl (shaped_marked _ _ g.shaped s 0) g.bytes)
 
-  good_enter : (e : ℕ) → Good n (store_ops.enter b e)
+  good_enter : (e : ℕ) → Good ws n (store_ops.enter b e)
   unfolding store_ops store_view
-  good_enter e = record { capacity = g.capacity; sizes_right = g.sizes_right; alpha_right = g.alpha_right; shaped = g.shaped; bytes = g.bytes }
+  good_enter e = record {
+    capacity = g.capacity;
+    weighing = g.weighing;
+    weights_long = g.weights_long;
+    measure = g.measure;
+    sizes_right = g.sizes_right;
+    alpha_right = g.alpha_right;
+    shaped = g.shaped;
+    bytes = g.bytes;
+  }
 
-  good_finish : (s : ℕ) → Good n (store_ops.finish b s)
+  good_finish : (s : ℕ) → Good ws n (store_ops.finish b s)
   unfolding store_ops next_version write_neighbors
-  good_finish s = at_good s _ (λ h. changed _ refl refl (shaped_written _ _ (shaped_stepped _ _ g.shaped s) s h []) g.bytes)
+  good_finish s = at_good s _ (λ h. changed _ refl refl refl (shaped_written _ _ (shaped_stepped _ _ g.shaped s) s h []) g.bytes)
 
 fill_dim : (b : Store) (s : ℕ) (vector : List ℕ) → (store_ops.fill b s vector).arrays.dim ≡ b.arrays.dim
 unfolding store_ops write_vector write_neighbors set_mark
@@ -294,29 +312,33 @@ passes_kept w p =
     let b = w.graph in
     let g = passes_good w p in
     let n = b.capacity in
-    let back : (x : Store) → Good n x → Passes (with_graph stored w x w.numbers) =
-    λ x. good_passes (with_graph stored w x w.numbers) (pool_long w p) n (ap (λ l. l.numbers) (lengths_pass w p)) (summary_long _ _ _) in
+    let ws = w.weights in
+    let back : (x : Store) → Good ws n x → Passes (with_graph stored w x w.numbers) =
+    λ x. good_passes (with_graph stored w x w.numbers) (pool_long w p) n (ap (λ l. l.numbers) (lengths_pass w p)) (summary_long _ _ _) p.weights in
     record {
       filled = λ chunk h. back _
-          (foldl_keeps (λ f. (length f.vector ≡ b.arrays.dim) × AllBytes f.vector) (λ x. Good n x × (x.arrays.dim ≡ b.arrays.dim)) (λ x f. store_ops.fill x f.slot f.vector)
-          (λ x f k i. (good_fill n x i.0 f.slot f.vector (k.0 ∙ sym i.1) k.1, fill_dim x f.slot f.vector ∙ i.1)) chunk h b (g, refl)).0;
-      written = λ rows. back _ (every (λ x row. store_ops.write x row.source row.targets) (λ x i row. good_write n x i row.source row.targets) rows b g);
-      emptied = λ slots. back _ (every store_ops.kill (good_kill n) slots b g);
-      entered = λ entry. back _ (good_enter n b g entry);
-      finished = λ slots. back _ (every store_ops.finish (good_finish n) slots b g);
+          (foldl_keeps (λ f. (length f.vector ≡ b.arrays.dim) × AllBytes f.vector) (λ x. Good ws n x × (x.arrays.dim ≡ b.arrays.dim)) (λ x f. store_ops.fill x f.slot f.vector)
+          (λ x f k i. (good_fill ws n x i.0 f.slot f.vector (k.0 ∙ sym i.1) k.1, fill_dim x f.slot f.vector ∙ i.1)) chunk h b (g, refl)).0;
+      written = λ rows. back _ (every (λ x row. store_ops.write x row.source row.targets) (λ x i row. good_write ws n x i row.source row.targets) rows b g);
+      emptied = λ slots. back _ (every store_ops.kill (good_kill ws n) slots b g);
+      entered = λ entry. back _ (good_enter ws n b g entry);
+      finished = λ slots. back _ (every store_ops.finish (good_finish ws n) slots b g);
     }
   where
-    every : {A : Type 0} {n : ℕ} (f : Store → A → Store) → ((x : Store) → Good n x → (a : A) → Good n (f x a)) → (xs : List A) (b : Store) → Good n b → Good n (foldl f b xs)
-    every {A} {n} f k xs b g = foldl_keeps (λ (a : A). Unit {0}) (Good n) f (λ x a u i. k x i a) xs (all_of (λ (a : A). Unit {0}) (λ a. tt) xs) b g
+    every : {A : Type 0} {ws : List ℕ} {n : ℕ} (f : Store → A → Store) → ((x : Store) → Good ws n x → (a : A) → Good ws n (f x a)) → (xs : List A) (b : Store) → Good ws n b → Good ws n (foldl f b xs)
+    every {A} {ws} {n} f k xs b g = foldl_keeps (λ (a : A). Unit {0}) (Good ws n) f (λ x a u i. k x i a) xs (all_of (λ (a : A). Unit {0}) (λ a. tt) xs) b g
 
 pub made_passes : Made
 unfolding made stored new_arrays
 made_passes lent m e h =
     let same = (made_both lent m e).same in
     let sound = same.agree.sound in
-    good_passes (made stored m) same.pool_long m.sizes.capacity same.numbers_long same.summary_long
+    good_passes (made stored m) same.pool_long m.sizes.capacity same.numbers_long same.summary_long (weights_given lent m e).1
     (record {
       capacity = refl;
+      weighing = weights_weigh m.weights (weights_given lent m e).1;
+      weights_long = (weights_given lent m e).0;
+      measure = refl;
       sizes_right = sound.sizes_right;
       alpha_right = sound.alpha_right;
       shaped = sound.shaped;
@@ -329,7 +351,7 @@ made_passes lent m e h =
 
 pub passes_fit : (w : State Store) → Passes w → Fit (view_of stored w)
 unfolding stored store_ops
-passes_fit w p = good_fit _ w.graph (passes_good w p)
+passes_fit w p = good_fit _ _ w.graph (passes_good w p)
 
 -- ---- demand 2
 

@@ -16,6 +16,7 @@ use Rattle.lists.proofs.Ranges.{length_range, filtered_below}
 use Rattle.lists.proofs.Filtered.{elem_filtered}
 use Rattle.lists.proofs.All.{all_map, all_take, filter_test}
 use Rattle.lists.proofs.Unique.{Unique}
+use Rattle.vectors.specs.Distance.{distance}
 use Rattle.slots.specs.Sizes.{Sizes, Lengths, lengths_of, exact, limits}
 use Rattle.slots.specs.View.{View, free_slots}
 use Rattle.slots.specs.Store.{Store, blank, store_view, store_ops}
@@ -123,7 +124,7 @@ rules_made lent m acc =
     let ok = accepted lent m acc in
     let given = numbers_given lent m acc in
     subst (λ (u : View). Labelled u.live u.sizes.capacity (made stored m).numbers (summary_of u.live u.sizes.capacity (made stored m).numbers))
-    (sym (agree_new m.sizes m.count m.bytes m.rows m.entry ok).same)
+    (sym (agree_new m.sizes (distance m.weights) m.count m.bytes m.rows m.entry ok).same)
     (labelled_made m.numbers m.count m.sizes.capacity given.1 given.0 ok.room _ (λ s h. refl))
 
 module _ (w : State Store) (lent : Lent) (l : lent.slices ≡ lengths_of (slices_of w)) where

@@ -10,3 +10,4 @@ pub mod Enabling
 pub mod Count
 pub mod Labelled
 pub mod TableRows
+pub mod Weighted

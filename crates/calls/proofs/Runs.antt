@@ -33,6 +33,7 @@ own_lengths log w p e =
       pool = e.pool_long i;
       numbers = e.numbers_long i;
       summary = e.summary_long i;
+      weights = e.weights_long i;
     }
 
 -- slices that do not fit an index whose sizes are right

@@ -9,7 +9,7 @@ use borrow.Author.Tests.{leb-true, ltb-true, ltb-false, eqb-true, not-false}
 use lib.ListN.{length}
 use lib.Dec.{eqb, ltb, leb}
 use Rattle.std.proofs.lemmas.Bool.{and_parts, or_parts}
-use Rattle.slots.specs.Sizes.{Sizes, Lengths, exact, limits, within, sizes_ok, alpha_ok, lengths_ok}
+use Rattle.slots.specs.Sizes.{Sizes, Lengths, exact, limits, within, sizes_ok, alpha_ok, weights_ok, lengths_ok}
 use Rattle.slots.proofs.New.{Accepted}
 use Rattle.slots.specs.View.{View, live_slots}
 use Rattle.numbers.specs.Numbers.{taken, labels_ok}
@@ -35,7 +35,8 @@ passed_lengths z n e =
     let q = eqb n.pool limits.pool in
     let f = eqb n.numbers z.capacity in
     let y = eqb n.summary z.capacity in
-    let b₁ = and_parts (v && t && g && r && m && q && f) y e in
+    let b₀ = and_parts (v && t && g && r && m && q && f && y) (eqb n.weights z.dim) e in
+    let b₁ = and_parts (v && t && g && r && m && q && f) y b₀.0 in
     let b₂ = and_parts (v && t && g && r && m && q) f b₁.0 in
     let a₁ = and_parts (v && t && g && r && m) q b₂.0 in
     let a₂ = and_parts (v && t && g && r) m a₁.0 in
@@ -51,6 +52,7 @@ passed_lengths z n e =
       pool = eqb-true n.pool limits.pool a₁.1 i;
       numbers = eqb-true n.numbers z.capacity b₂.1 i;
       summary = eqb-true n.summary z.capacity b₁.1 i;
+      weights = eqb-true n.weights z.dim b₀.1 i;
     }
 
 -- ---- an accepted making
@@ -71,25 +73,28 @@ entry_below given capacity entry h k t = go (ltb entry given) refl t
     go false r t = omega (arith, eqb-true entry 0 (and_parts (eqb given 0) (eqb entry 0) t).1)
 
 -- none of making's tests holds
-record Six (q₁ q₂ q₃ q₄ q₅ q₆ : Bool) : Type 0 where
+record Seven (q₁ q₂ q₃ q₇ q₄ q₅ q₆ : Bool) : Type 0 where
   pub one : q₁ ≡ false
   pub two : q₂ ≡ false
   pub three : q₃ ≡ false
+  pub sixteen : q₇ ≡ false
   pub four : q₄ ≡ false
   pub five : q₅ ≡ false
   pub fifteen : q₆ ≡ false
 
-abbrev six_tests : Bool → Bool → Bool → Bool → Bool → Bool → List Test
-six_tests q₁ q₂ q₃ q₄ q₅ q₆ = (1, q₁) ∷ (2, q₂) ∷ (3, q₃) ∷ (4, q₄) ∷ (5, q₅) ∷ (15, q₆) ∷ []
+abbrev seven_tests : Bool → Bool → Bool → Bool → Bool → Bool → Bool → List Test
+seven_tests q₁ q₂ q₃ q₇ q₄ q₅ q₆ = (1, q₁) ∷ (2, q₂) ∷ (3, q₃) ∷ (16, q₇) ∷ (4, q₄) ∷ (5, q₅) ∷ (15, q₆) ∷ []
 
-none_of_six : (q₁ q₂ q₃ q₄ q₅ q₆ : Bool) → or_zero (first_of (six_tests q₁ q₂ q₃ q₄ q₅ q₆)) ≡ 0 → Six q₁ q₂ q₃ q₄ q₅ q₆
-none_of_six true q₂ q₃ q₄ q₅ q₆ e = absurd (omega (arith, e))
-none_of_six false true q₃ q₄ q₅ q₆ e = absurd (omega (arith, e))
-none_of_six false false true q₄ q₅ q₆ e = absurd (omega (arith, e))
-none_of_six false false false true q₅ q₆ e = absurd (omega (arith, e))
-none_of_six false false false false true q₆ e = absurd (omega (arith, e))
-none_of_six false false false false false true e = absurd (omega (arith, e))
-none_of_six false false false false false false e = record { one = refl; two = refl; three = refl; four = refl; five = refl; fifteen = refl }
+none_of_seven : (q₁ q₂ q₃ q₇ q₄ q₅ q₆ : Bool) → or_zero (first_of (seven_tests q₁ q₂ q₃ q₇ q₄ q₅ q₆)) ≡ 0 → Seven q₁ q₂ q₃ q₇ q₄ q₅ q₆
+none_of_seven true q₂ q₃ q₇ q₄ q₅ q₆ e = absurd (omega (arith, e))
+none_of_seven false true q₃ q₇ q₄ q₅ q₆ e = absurd (omega (arith, e))
+none_of_seven false false true q₇ q₄ q₅ q₆ e = absurd (omega (arith, e))
+none_of_seven false false false true q₄ q₅ q₆ e = absurd (omega (arith, e))
+none_of_seven false false false false true q₅ q₆ e = absurd (omega (arith, e))
+none_of_seven false false false false false true q₆ e = absurd (omega (arith, e))
+none_of_seven false false false false false false true e = absurd (omega (arith, e))
+none_of_seven false false false false false false false e =
+    record { one = refl; two = refl; three = refl; sixteen = refl; four = refl; five = refl; fifteen = refl }
 
 module _ (lent : Lengths) (m : Making) where
   abbrev lent_right : Bool
@@ -104,11 +109,15 @@ module _ (lent : Lengths) (m : Making) where
   abbrev numbers_right : Bool
   numbers_right = eqb (length m.numbers) m.count
 
-  six : or_zero (first_of (making_tests limits lent m)) ≡ 0
-      → Six (not (sizes_ok limits m.sizes)) (not (alpha_ok m.sizes.alpha)) (not (lent_right && vectors_right && rows_right && numbers_right))
+  abbrev weights_right : Bool
+  weights_right = eqb (length m.weights) m.sizes.dim
+
+  seven : or_zero (first_of (making_tests limits lent m)) ≡ 0
+      → Seven (not (sizes_ok limits m.sizes)) (not (alpha_ok m.sizes.alpha)) (not (lent_right && vectors_right && rows_right && numbers_right && weights_right))
+      (not (weights_ok limits m.weights))
       (ltb m.sizes.capacity m.count) (not (names_given m.count m.rows && entry_given m.count m.entry)) (taken [] m.numbers)
   unfolding making_tests
-  six e = none_of_six _ _ _ _ _ _ e
+  seven e = none_of_seven _ _ _ _ _ _ _ e
 
   -- each part of row 3
   record Right : Type 0 where
@@ -116,36 +125,44 @@ module _ (lent : Lengths) (m : Making) where
     pub vectors : vectors_right ≡ true
     pub rows : rows_right ≡ true
     pub numbers : numbers_right ≡ true
+    pub weights : weights_right ≡ true
 
   right : or_zero (first_of (making_tests limits lent m)) ≡ 0 → Right
   right e =
-      let a₁ = and_parts (lent_right && vectors_right && rows_right) numbers_right (not-false (lent_right && vectors_right && rows_right && numbers_right) (six e).three) in
+      let a₀ = and_parts (lent_right && vectors_right && rows_right && numbers_right) weights_right
+      (not-false (lent_right && vectors_right && rows_right && numbers_right && weights_right) (seven e).three) in
+      let a₁ = and_parts (lent_right && vectors_right && rows_right) numbers_right a₀.0 in
       let a₂ = and_parts (lent_right && vectors_right) rows_right a₁.0 in
       let a₃ = and_parts lent_right vectors_right a₂.0 in
-      record { slices = a₃.0; vectors = a₃.1; rows = a₂.1; numbers = a₁.1 }
+      record { slices = a₃.0; vectors = a₃.1; rows = a₂.1; numbers = a₁.1; weights = a₀.1 }
 
   -- a 0 says that none holds
   pub none_judged : or_zero (first_of (making_tests limits lent m)) ≡ 0 → first_of (making_tests limits lent m) ≡ none
   unfolding making_tests
-  none_judged e = let f = six e in rw (f.one, f.two, f.three, f.four, f.five, f.fifteen)
+  none_judged e = let f = seven e in rw (f.one, f.two, f.three, f.sixteen, f.four, f.five, f.fifteen)
 
   pub lengths_made : first_of (making_tests limits lent m) ≡ none → lent ≡ exact limits m.sizes
   lengths_made h = passed_lengths m.sizes lent (right (ap or_zero h)).slices
 
   -- one number a given slot, each above 0 and none twice
   pub numbers_given : first_of (making_tests limits lent m) ≡ none → (length m.numbers ≡ m.count) × (taken [] m.numbers ≡ false)
-  numbers_given h = (eqb-true (length m.numbers) m.count (right (ap or_zero h)).numbers, (six (ap or_zero h)).fifteen)
+  numbers_given h = (eqb-true (length m.numbers) m.count (right (ap or_zero h)).numbers, (seven (ap or_zero h)).fifteen)
+
+  -- a weight for each byte of a vector, and all within their limits
+  pub weights_given : first_of (making_tests limits lent m) ≡ none → (length m.weights ≡ m.sizes.dim) × (weights_ok limits m.weights ≡ true)
+  weights_given h =
+      (eqb-true (length m.weights) m.sizes.dim (right (ap or_zero h)).weights, not-false (weights_ok limits m.weights) (seven (ap or_zero h)).sixteen)
 
   -- rows of blanks and given slots, and a given entry
   pub given_named : first_of (making_tests limits lent m) ≡ none → (names_given m.count m.rows ≡ true) × (entry_given m.count m.entry ≡ true)
   given_named h =
       let named = names_given m.count m.rows in
       let entered = entry_given m.count m.entry in
-      and_parts named entered (not-false (named && entered) (six (ap or_zero h)).five)
+      and_parts named entered (not-false (named && entered) (seven (ap or_zero h)).five)
 
   pub accepted : first_of (making_tests limits lent m) ≡ none → Accepted m.sizes m.count m.bytes m.rows m.entry
   accepted h =
-      let f = six (ap or_zero h) in
+      let f = seven (ap or_zero h) in
       let long = right (ap or_zero h) in
       let sized = not-false (sizes_ok limits m.sizes) f.one in
       let room = ltb-false m.sizes.capacity m.count f.four in
@@ -166,6 +183,7 @@ pub record Finds (slices : Lengths) (w : State View) (wrong : Bool) (rest : List
   pub grown : alpha_ok w.graph.sizes.alpha ≡ true
   pub long : lengths_ok limits w.graph.sizes slices ≡ true
   pub not_wrong : wrong ≡ false
+  pub weighed : weights_ok limits w.weights ≡ true
   pub live : w.live ≡ length (live_slots w.graph)
   pub labels : labels_ok w.graph.live w.graph.sizes.capacity w.live w.numbers w.summary ≡ true
   pub own : first_of rest ≡ none
@@ -179,14 +197,17 @@ index_finds slices w wrong rest r =
     let labels = labels_ok v.live v.sizes.capacity w.live w.numbers w.summary in
     let bad₆ = not e || not i || guard_fault limits w.guard || not labels in
     let six : List Test = (6, bad₆) ∷ rest in
+    let bad₁₆ = not (weights_ok limits w.weights) in
+    let sixteen : List Test = (16, bad₁₆) ∷ six in
     let bad₃ = not (lengths_ok limits v.sizes slices) || wrong in
-    let three : List Test = (3, bad₃) ∷ six in
+    let three : List Test = (3, bad₃) ∷ sixteen in
     let two : List Test = (2, not (alpha_ok v.sizes.alpha)) ∷ three in
     let t₂ = first_none 1 (not (sizes_ok limits v.sizes)) two r in
     let t₃ = first_none 2 (not (alpha_ok v.sizes.alpha)) three t₂.1 in
-    let t₆ = first_none 3 bad₃ six t₃.1 in
+    let t₁₆ = first_none 3 bad₃ sixteen t₃.1 in
+    let t₆ = first_none 16 bad₁₆ six t₁₆.1 in
     let t₇ = first_none 6 bad₆ rest t₆.1 in
-    let long = or_parts (not (lengths_ok limits v.sizes slices)) wrong t₆.0 in
+    let long = or_parts (not (lengths_ok limits v.sizes slices)) wrong t₁₆.0 in
     let o = or_parts (not e || not i || guard_fault limits w.guard) (not labels) t₇.0 in
     let live = (or_parts (not e) (not i) (or_parts (not e || not i) (guard_fault limits w.guard) o.0).0).0 in
     record {
@@ -194,6 +215,7 @@ index_finds slices w wrong rest r =
       grown = not-false (alpha_ok v.sizes.alpha) t₃.0;
       long = not-false (lengths_ok limits v.sizes slices) long.0;
       not_wrong = long.1;
+      weighed = not-false (weights_ok limits w.weights) t₆.0;
       live = eqb-true w.live _ (not-false e live);
       labels = not-false labels o.1;
       own = t₇.1;

@@ -5,8 +5,8 @@ use Rattle.candidates.specs.Candidates.{Candidate}
 use Rattle.repair.specs.Delete.{Stats}
 use Rattle.guard.specs.Guard.{Config, Report, Status}
 
--- what making is given (document 01: making a book): the sizes, the number of given slots, the bytes of their vectors, their rows, the entry, and their
--- figure numbers
+-- what making is given (document 01: making a book): the sizes, the number of given slots, the bytes of their vectors, their rows, the entry, their figure
+-- numbers, and a weight for each byte of a vector
 pub record Making : Type 0 where
   pub sizes : Sizes
   pub count : ℕ
@@ -14,6 +14,7 @@ pub record Making : Type 0 where
   pub rows : List ℕ
   pub entry : ℕ
   pub numbers : List ℕ
+  pub weights : List ℕ
 
 -- one number
 pub data Reading : Type 0 where
@@ -76,7 +77,7 @@ pub record Room : Type 0 where
   pub checked : ℕ
   pub lost : ℕ
 
--- the lengths of all that a call is lent: the eight slices of the index, the lists for its answer, and the scratch
+-- the lengths of all that a call is lent: the nine slices of the index, the lists for its answer, and the scratch
 pub record Lent : Type 0 where
   pub slices : Lengths
   pub room : Room

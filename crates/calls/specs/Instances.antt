@@ -1,11 +1,12 @@
--- Demand 2 where the library uses it: on a stored index that passes rows 1, 2 and 3 and whose vectors are bytes, every walk is GreedySearch and every
+-- Demand 2 where the library uses it: on a stored index that passes rows 1, 2, 3 and 16 and whose vectors are bytes, every walk is GreedySearch and every
 -- selection RobustPrune, with our amendments (DIFFERENCES, part P). Assumes nothing.
 use Rattle.std.specs.Prelude.{ℕ, max, ◌<◌, true, not, cond, List, [], ◌∷◌, ◌++◌, map, ◌≡◌, length, take, eqb}
 use Rattle.std.proofs.Math.Option.{none}
 use Rattle.lists.specs.Lists.{All, filter, elem, foldl}
+use Rattle.vectors.specs.Distance.{distance}
 use Rattle.vectors.specs.Space.{slot_distance, query_distance}
 use Rattle.candidates.specs.Candidates.{Candidate, scored, ids}
-use Rattle.slots.specs.Sizes.{Lengths, limits, sizes_ok, alpha_ok, lengths_of, lengths_ok}
+use Rattle.slots.specs.Sizes.{Lengths, limits, sizes_ok, alpha_ok, weights_ok, lengths_of, lengths_ok}
 use Rattle.slots.specs.View.{View, live_neighbors}
 use Rattle.slots.specs.Ops.{Row, write_rows}
 use Rattle.slots.specs.Store.{Store, store_ops}
@@ -25,11 +26,13 @@ use Rattle.calls.specs.Runs.{slices_of}
 abbrev pub AllBytes : List ℕ → Type 0
 AllBytes xs = All (λ x. x < 256) xs
 
--- a stored index that passes rows 1, 2 and 3 of document 01's table, and whose vectors are bytes; no more is asked below
+-- a stored index that passes rows 1, 2, 3 and 16 of the table, with the distance that its weights make, and whose vectors are bytes; no more is asked below
 pub record Passes (w : State Store) : Type 0 where
   pub sizes : sizes_ok limits (view_of stored w).sizes ≡ true
   pub alpha : alpha_ok (view_of stored w).sizes.alpha ≡ true
   pub lengths : lengths_ok limits (view_of stored w).sizes (lengths_of (slices_of w)) ≡ true
+  pub weights : weights_ok limits w.weights ≡ true
+  pub measure : w.graph.arrays.measure ≡ distance w.weights
   pub bytes : AllBytes w.graph.arrays.vectors
 
 -- an accepted making of bytes makes such an index

@@ -24,11 +24,11 @@ by_slots w a = record { names = named_by w a; naming = of_slots; repair_beam = a
 
 -- all of an index but its numbers
 unfoldable pub bare : State Store → State Store
-bare w = record { graph = w.graph; live = w.live; guard = w.guard; pool = w.pool; numbers = []; summary = [] }
+bare w = record { graph = w.graph; live = w.live; guard = w.guard; pool = w.pool; numbers = []; summary = []; weights = w.weights }
 
 -- a call that gives no numbers, and names slots
 unfoldable pub bare_call : State Store → Operation → Operation
-bare_call w (create m) = create (record { sizes = m.sizes; count = m.count; bytes = m.bytes; rows = m.rows; entry = m.entry; numbers = [] })
+bare_call w (create m) = create (record { sizes = m.sizes; count = m.count; bytes = m.bytes; rows = m.rows; entry = m.entry; numbers = []; weights = m.weights })
 bare_call w (read r) = read r
 bare_call w (read_vector s) = read_vector s
 bare_call w (search a) = search a

@@ -12,3 +12,4 @@ pub mod Instances
 pub mod FromPool
 pub mod Table
 pub mod Labelled
+pub mod Weighted

@@ -1,8 +1,8 @@
--- Turned-back calls: document 01's table, with document 02's 15 and its part of 6 (E1), less the row that E2 took away. For each call the tests that apply to
--- it, in the table's order; the first that holds is the number given. Assumes nothing.
+-- Turned-back calls: document 01's table, with document 02's 15 and its part of 6 (E1) and its 16 (E3), less the row that E2 took away. For each call the tests
+-- that apply to it, in the table's order; the first that holds is the number given. Assumes nothing.
 use Rattle.std.specs.Prelude.{ℕ, ◌*◌, ◌/◌, min, Bool, true, false, not, ◌&&◌, ◌||◌, cond, List, [], ◌∷◌, length, eqb, ltb}
 use Rattle.std.proofs.Math.Option.{Option, none, some}
-use Rattle.slots.specs.Sizes.{Limits, Lengths, sizes_ok, alpha_ok, lengths_ok}
+use Rattle.slots.specs.Sizes.{Limits, Lengths, sizes_ok, alpha_ok, weights_ok, lengths_ok}
 use Rattle.slots.specs.Scratch.{size_answer}
 use Rattle.slots.specs.View.{View, live_slots, free_slots}
 use Rattle.slots.specs.Store.{blank}
@@ -55,7 +55,12 @@ module _ (l : Limits) where
       let z = m.sizes in
       (1, not (sizes_ok l z))
       ∷ (2, not (alpha_ok z.alpha))
-      ∷ (3, not (lengths_ok l z lent && eqb (length m.bytes) (m.count * z.dim) && eqb (length m.rows) (m.count * z.degree) && eqb (length m.numbers) m.count))
+      ∷ (
+        3,
+        not (lengths_ok l z lent && eqb (length m.bytes) (m.count * z.dim) && eqb (length m.rows) (m.count * z.degree) && eqb (length m.numbers) m.count
+            && eqb (length m.weights) z.dim),
+      )
+      ∷ (16, not (weights_ok l m.weights))
       ∷ (4, ltb z.capacity m.count)
       ∷ (5, not (names_given m.count m.rows && entry_given m.count m.entry))
       ∷ (15, taken [] m.numbers)
@@ -85,7 +90,7 @@ module _ (l : Limits) where
   abbrev pub scratch_short : Lent → State View → Bool
   scratch_short lent w = ltb lent.scratch (size_answer w.graph.sizes.capacity)
 
-  -- the tests that all calls but making share, with a call's own part of 3 and its own after 6; `slices` are the lengths of the eight slices lent, w is what
+  -- the tests that all calls but making share, with a call's own part of 3 and its own after 6; `slices` are the lengths of the nine slices lent, w is what
   -- the call is given of the index
   unfoldable pub index_tests : Lengths → State View → Bool → List Test → List Test
   index_tests slices w wrong_length rest =
@@ -93,6 +98,7 @@ module _ (l : Limits) where
       (1, not (sizes_ok l v.sizes))
       ∷ (2, not (alpha_ok v.sizes.alpha))
       ∷ (3, not (lengths_ok l v.sizes slices) || wrong_length)
+      ∷ (16, not (weights_ok l w.weights))
       ∷ (
         6,
         not (eqb w.live (length (live_slots v))) || not (ltb v.entry v.sizes.capacity) || guard_fault w.guard

@@ -15,22 +15,22 @@ abbrev pub First : ℕ → List Test → Type 0
 First n [] = ⊥
 First n (t ∷ ts) = ((t.1 ≡ true) × (t.0 ≡ n)) ⊎ ((t.1 ≡ false) × First n ts)
 
--- the rows of the table, in its order: 15 comes after 10 (document 02, E1); a number that is gone is not used again (E2)
+-- the rows of the table, in its order: 15 comes after 10 (document 02, E1), 16 after 3 (E3); a number that is gone is not used again (E2)
 unfoldable pub all_rows : List ℕ
-all_rows = 1 ∷ 2 ∷ 3 ∷ 4 ∷ 5 ∷ 6 ∷ 7 ∷ 8 ∷ 9 ∷ 10 ∷ 15 ∷ 11 ∷ 12 ∷ 13 ∷ []
+all_rows = 1 ∷ 2 ∷ 3 ∷ 16 ∷ 4 ∷ 5 ∷ 6 ∷ 7 ∷ 8 ∷ 9 ∷ 10 ∷ 15 ∷ 11 ∷ 12 ∷ 13 ∷ []
 
 -- those that apply to a call
 unfoldable pub rows : Operation → List ℕ
-rows (create m) = 1 ∷ 2 ∷ 3 ∷ 4 ∷ 5 ∷ 15 ∷ []
-rows (read r) = 1 ∷ 2 ∷ 3 ∷ 6 ∷ []
-rows (read_vector s) = 1 ∷ 2 ∷ 3 ∷ 6 ∷ []
-rows (search a) = 1 ∷ 2 ∷ 3 ∷ 6 ∷ 7 ∷ 8 ∷ []
-rows (insert a) = 1 ∷ 2 ∷ 3 ∷ 6 ∷ 7 ∷ 8 ∷ 9 ∷ 10 ∷ 15 ∷ []
-rows (delete a) = 1 ∷ 2 ∷ 3 ∷ 6 ∷ 7 ∷ 8 ∷ []
-rows (enable config) = 1 ∷ 2 ∷ 3 ∷ 6 ∷ 7 ∷ 8 ∷ 12 ∷ 13 ∷ []
-rows status = 1 ∷ 2 ∷ 3 ∷ 6 ∷ []
-rows (assess a) = 1 ∷ 2 ∷ 3 ∷ 6 ∷ 7 ∷ 8 ∷ 11 ∷ []
-rows (guarded_delete a) = 1 ∷ 2 ∷ 3 ∷ 6 ∷ 7 ∷ 8 ∷ 11 ∷ []
+rows (create m) = 1 ∷ 2 ∷ 3 ∷ 16 ∷ 4 ∷ 5 ∷ 15 ∷ []
+rows (read r) = 1 ∷ 2 ∷ 3 ∷ 16 ∷ 6 ∷ []
+rows (read_vector s) = 1 ∷ 2 ∷ 3 ∷ 16 ∷ 6 ∷ []
+rows (search a) = 1 ∷ 2 ∷ 3 ∷ 16 ∷ 6 ∷ 7 ∷ 8 ∷ []
+rows (insert a) = 1 ∷ 2 ∷ 3 ∷ 16 ∷ 6 ∷ 7 ∷ 8 ∷ 9 ∷ 10 ∷ 15 ∷ []
+rows (delete a) = 1 ∷ 2 ∷ 3 ∷ 16 ∷ 6 ∷ 7 ∷ 8 ∷ []
+rows (enable config) = 1 ∷ 2 ∷ 3 ∷ 16 ∷ 6 ∷ 7 ∷ 8 ∷ 12 ∷ 13 ∷ []
+rows status = 1 ∷ 2 ∷ 3 ∷ 16 ∷ 6 ∷ []
+rows (assess a) = 1 ∷ 2 ∷ 3 ∷ 16 ∷ 6 ∷ 7 ∷ 8 ∷ 11 ∷ []
+rows (guarded_delete a) = 1 ∷ 2 ∷ 3 ∷ 16 ∷ 6 ∷ 7 ∷ 8 ∷ 11 ∷ []
 
 module _ {B : Type 0} (K : Kind B) (w : State B) (c : Call) where
   abbrev pub tests_of : List Test

@@ -22,11 +22,11 @@ pub record Run : Type 0 where
   pub scratch_before : List ℕ
   pub scratch_after : List ℕ
 
--- an index's eight slices, and its value
+-- an index's nine slices, and its value
 unfoldable pub slices_of : State Store → Slices
 slices_of w =
     let a = w.graph.arrays in
-    slices a.vectors a.targets a.edges a.versions a.marks w.pool w.numbers w.summary
+    slices a.vectors a.targets a.edges a.versions a.marks w.pool w.numbers w.summary w.weights
 
 unfoldable pub value_of : State Store → Value
 value_of w = record { sizes = (store_view w.graph).sizes; entry = w.graph.entry; live = w.live; guard = w.guard }

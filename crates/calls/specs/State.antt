@@ -1,6 +1,7 @@
 -- What a call finds and leaves, of the stored index and of the plain one (document 01: the plain book). Assumes nothing.
 use Rattle.std.specs.Prelude.{ℕ, ◌-◌, List, [], ◌++◌, length, get_or, replicate}
 use Rattle.lists.specs.Lists.{put_front}
+use Rattle.vectors.specs.Distance.{distance}
 use Rattle.slots.specs.Sizes.{Sizes, Slices, limits}
 use Rattle.slots.specs.View.{View, live_slots}
 use Rattle.slots.specs.Ops.{Ops}
@@ -20,6 +21,8 @@ pub record State (B : Type 0) : Type 0 where
   -- the figure number of each slot, and the summary: beside the graph, and alike in both (document 02, E1)
   pub numbers : List ℕ
   pub summary : List ℕ
+  -- the weights, of which the graph has the distance that they make (E3)
+  pub weights : List ℕ
 
 -- what an app holds of an index by value
 pub record Value : Type 0 where
@@ -28,13 +31,13 @@ pub record Value : Type 0 where
   pub live : ℕ
   pub guard : Guard
 
--- the stored index that an app has: by value, and in eight slices
+-- the stored index that an app has: by value, and in nine slices
 abbrev pub state : Value → Slices → State Store
 state v s =
     let z = v.sizes in
     record {
       graph = record {
-        arrays = arrays z.dim z.degree s.vectors s.targets s.edges s.versions s.marks;
+        arrays = arrays (distance s.weights) z.dim z.degree s.vectors s.targets s.edges s.versions s.marks;
         capacity = z.capacity;
         alpha = z.alpha;
         entry = v.entry;
@@ -44,6 +47,7 @@ state v s =
       pool = s.pool;
       numbers = s.numbers;
       summary = s.summary;
+      weights = s.weights;
     }
 
 -- what differs between the stored index and the plain one
@@ -59,7 +63,7 @@ pub record Kind (B : Type 0) : Type 0 where
 unfoldable pub stored : Kind Store
 stored = record {
   ops = store_ops;
-  new = λ m. record { arrays = new_arrays m.sizes m.count m.bytes m.rows; capacity = m.sizes.capacity; alpha = m.sizes.alpha; entry = m.entry };
+  new = λ m. record { arrays = new_arrays m.sizes (distance m.weights) m.count m.bytes m.rows; capacity = m.sizes.capacity; alpha = m.sizes.alpha; entry = m.entry };
   no_pool = replicate limits.pool 0;
   put_pool = λ words pool. put_front pool words;
   version_of = λ b s. get_or b.arrays.versions s 0;
@@ -69,7 +73,7 @@ stored = record {
 unfoldable pub plain : Kind View
 plain = record {
   ops = plain_ops;
-  new = λ m. new_plain m.sizes m.count m.bytes m.rows m.entry;
+  new = λ m. new_plain m.sizes (distance m.weights) m.count m.bytes m.rows m.entry;
   no_pool = [];
   put_pool = λ words pool. pool;
   version_of = λ v s. 0;
@@ -81,7 +85,7 @@ module _ {B : Type 0} (K : Kind B) where
 
   -- what a call sees: the view of the graph, and the pool alone
   unfoldable pub shown : State B → State View
-  shown w = record { graph = view_of w; live = w.live; guard = w.guard; pool = pool_of w.guard w.pool; numbers = w.numbers; summary = w.summary }
+  shown w = record { graph = view_of w; live = w.live; guard = w.guard; pool = pool_of w.guard w.pool; numbers = w.numbers; summary = w.summary; weights = w.weights }
 
   -- the summary that goes with a graph and numbers
   abbrev pub summary_for : B → List ℕ → List ℕ
@@ -93,14 +97,14 @@ module _ {B : Type 0} (K : Kind B) where
   made m =
       let b = K.new m in
       let numbers = m.numbers ++ replicate (m.sizes.capacity - m.count) 0 in
-      record { graph = b; live = length (live_slots (K.ops.view b)); guard = off; pool = K.no_pool; numbers = numbers; summary = summary_for b numbers }
+      record { graph = b; live = length (live_slots (K.ops.view b)); guard = off; pool = K.no_pool; numbers = numbers; summary = summary_for b numbers; weights = m.weights }
 
   -- another graph and other numbers; the live count counts its live marks
   unfoldable pub with_graph : State B → B → List ℕ → State B
   with_graph w b numbers =
-      record { graph = b; live = length (live_slots (K.ops.view b)); guard = w.guard; pool = w.pool; numbers = numbers; summary = summary_for b numbers }
+      record { graph = b; live = length (live_slots (K.ops.view b)); guard = w.guard; pool = w.pool; numbers = numbers; summary = summary_for b numbers; weights = w.weights }
 
   -- another guard and its pool
   unfoldable pub with_guard : State B → Config → List ℕ → State B
   with_guard w c pool =
-      record { graph = w.graph; live = w.live; guard = on c (length pool); pool = K.put_pool w.pool pool; numbers = w.numbers; summary = w.summary }
+      record { graph = w.graph; live = w.live; guard = on c (length pool); pool = K.put_pool w.pool pool; numbers = w.numbers; summary = w.summary; weights = w.weights }

@@ -71,18 +71,23 @@ shelf = record {
   rows = 1 ∷ blank ∷ 0 ∷ 2 ∷ 1 ∷ blank ∷ [];
   entry = 1;
   numbers = 30 ∷ 10 ∷ 20 ∷ [];
+  weights = 1 ∷ [];
 }
 
+abbrev weighing : List ℕ → Making → Making
+weighing weights m = record { sizes = m.sizes; count = m.count; bytes = m.bytes; rows = m.rows; entry = m.entry; numbers = m.numbers; weights = weights }
+
 abbrev given : ℕ → List ℕ → List ℕ → ℕ → List ℕ → Making
-given n bytes rows entry numbers = record { sizes = shelf.sizes; count = n; bytes = bytes; rows = rows; entry = entry; numbers = numbers }
+given n bytes rows entry numbers =
+    record { sizes = shelf.sizes; count = n; bytes = bytes; rows = rows; entry = entry; numbers = numbers; weights = shelf.weights }
 
 -- three vectors of dim 2 in four slots
 unfoldable pub wide : List ℕ → Making
-wide bytes = record { sizes = size 2 4 1 (f32 1); count = 3; bytes = bytes; rows = replicate 3 blank; entry = 0; numbers = 1 ∷ 2 ∷ 3 ∷ [] }
+wide bytes = record { sizes = size 2 4 1 (f32 1); count = 3; bytes = bytes; rows = replicate 3 blank; entry = 0; numbers = 1 ∷ 2 ∷ 3 ∷ []; weights = 1 ∷ 1 ∷ [] }
 
 -- memory that holds nothing
 unfoldable pub nothing : State Store
-nothing = state (record { sizes = size 0 0 0 (f32 0); entry = 0; live = 0; guard = off }) (slices [] [] [] [] [] [] [] [])
+nothing = state (record { sizes = size 0 0 0 (f32 0); entry = 0; live = 0; guard = off }) (slices [] [] [] [] [] [] [] [] [])
 
 -- ---- cases
 
@@ -112,12 +117,19 @@ back row w cs = map (λ c. record { start = w; calls = c ∷ []; outcome = recor
 abbrev held : Sizes → ℕ → ℕ → Guard → State Store
 held z entry live guard = state (record { sizes = z; entry = entry; live = live; guard = guard }) (slices_of (made stored shelf))
 
+-- the same with weights that are wrong
+abbrev weighed : List ℕ → Sizes → ℕ → ℕ → State Store
+weighed weights z entry live =
+    let s = slices_of (made stored shelf) in
+    state (record { sizes = z; entry = entry; live = live; guard = off })
+    (slices s.vectors s.targets s.edges s.versions s.marks s.pool s.numbers s.summary weights)
+
 -- the shelf with other numbers and another summary
 abbrev labelled : List ℕ → List ℕ → State Store
 labelled numbers summary =
     let s = slices_of (made stored shelf) in
     state (record { sizes = shelf.sizes; entry = 1; live = 3; guard = off })
-    (slices s.vectors s.targets s.edges s.versions s.marks s.pool numbers summary)
+    (slices s.vectors s.targets s.edges s.versions s.marks s.pool numbers summary s.weights)
 
 -- the shelf after a delete
 abbrev without : List ℕ → State Store
@@ -147,7 +159,7 @@ looking =
 
 -- a making with all but its sizes wrong
 abbrev wrongly : Sizes → Making
-wrongly z = record { sizes = z; count = 5; bytes = []; rows = 9 ∷ []; entry = 9; numbers = 0 ∷ [] }
+wrongly z = record { sizes = z; count = 5; bytes = []; rows = 9 ∷ []; entry = 9; numbers = 0 ∷ []; weights = 5 ∷ 5 ∷ [] }
 
 -- 1: dim, capacity and degree outside their ranges
 abbrev wrong_sizes : Float → List Sizes
@@ -160,10 +172,17 @@ wrong_alphas = of_bits binary32 0x3f66_6666 ∷ of_bits binary32 0x4000_0001 ∷
 -- 3: one of the slices shorter or longer
 abbrev wrong_lengths : List Lengths
 wrong_lengths =
-    let long : ℕ → ℕ → ℕ → ℕ → ℕ → ℕ → ℕ → ℕ → Lengths = λ v t e n m p f s.
-    record { vectors = v; targets = t; edges = e; versions = n; marks = m; pool = p; numbers = f; summary = s } in
-    long 3 8 8 4 4 1024 4 4 ∷ long 4 9 8 4 4 1024 4 4 ∷ long 4 8 7 4 4 1024 4 4 ∷ long 4 8 8 5 4 1024 4 4 ∷ long 4 8 8 4 3 1024 4 4 ∷ long 4 8 8 4 4 1025 4 4
-    ∷ long 4 8 8 4 4 1024 3 4 ∷ long 4 8 8 4 4 1024 4 5 ∷ []
+    let long : ℕ → ℕ → ℕ → ℕ → ℕ → ℕ → ℕ → ℕ → ℕ → Lengths = λ v t e n m p f s w.
+    record { vectors = v; targets = t; edges = e; versions = n; marks = m; pool = p; numbers = f; summary = s; weights = w } in
+    long 3 8 8 4 4 1024 4 4 1 ∷ long 4 9 8 4 4 1024 4 4 1 ∷ long 4 8 7 4 4 1024 4 4 1 ∷ long 4 8 8 5 4 1024 4 4 1 ∷ long 4 8 8 4 3 1024 4 4 1
+    ∷ long 4 8 8 4 4 1025 4 4 1 ∷ long 4 8 8 4 4 1024 3 4 1 ∷ long 4 8 8 4 4 1024 4 5 1 ∷ long 4 8 8 4 4 1024 4 4 2 ∷ long 4 8 8 4 4 1024 4 4 0 ∷ []
+
+-- 16: a weight out of its range; and 86 weights, each within it, with a sum of 257
+abbrev wrong_weights : List (List ℕ)
+wrong_weights = (0 ∷ []) ∷ (5 ∷ []) ∷ (255 ∷ []) ∷ []
+
+abbrev heavy : Making
+heavy = record { sizes = size 86 1 1 (f32 1); count = 0; bytes = []; rows = []; entry = 0; numbers = []; weights = 2 ∷ replicate 85 3 }
 
 -- 6: a guard that is on
 abbrev wrong_guards : List Guard
@@ -201,6 +220,11 @@ refusals =
     (given 5 (replicate 4 0) (replicate 10 9) 9 (replicate 5 0) ∷ given 5 (replicate 5 0) (replicate 11 9) 9 (replicate 5 0)
     ∷ given 5 (replicate 5 0) (replicate 10 9) 9 (replicate 4 0) ∷ given 5 (replicate 5 0) (replicate 10 9) 9 (replicate 6 0) ∷ []))
     ++ back 3 nothing (ample (lengths 2 4 1) (create (wide (1 ∷ 2 ∷ 3 ∷ 4 ∷ 5 ∷ []))) ∷ [])
+    ++ back 3 nothing
+    (map (λ ws. ample (lengths 1 4 2) (create (weighing ws (given 5 (replicate 5 0) (replicate 10 9) 9 (replicate 5 0))))) ([] ∷ (5 ∷ 1 ∷ []) ∷ []))
+    ++ back 16 nothing
+    (map (λ ws. ample (lengths 1 4 2) (create (weighing ws (given 5 (replicate 5 0) (replicate 10 9) 9 (replicate 5 0))))) wrong_weights)
+    ++ back 16 nothing (ample (lengths 86 1 1) (create heavy) ∷ [])
     ++ back 4 nothing (ample (lengths 1 4 2) (create (given 5 (replicate 5 0) (replicate 10 9) 9 (replicate 5 0))) ∷ [])
     ++ back 5 nothing
     (map (λ m. ample (lengths 1 4 2) (create m))
@@ -208,13 +232,15 @@ refusals =
     ++ back 15 nothing
     (map (λ m. ample (lengths 1 4 2) (create m))
     (given 3 shelf.bytes shelf.rows 1 (30 ∷ 0 ∷ 20 ∷ []) ∷ given 3 shelf.bytes shelf.rows 1 (20 ∷ 10 ∷ 20 ∷ []) ∷ []))
-    -- 1, 2, 3 and 6 of every other call, and each way in which they can hold
-    ++ back 1 (held (size 257 4 2 nan) 4 2 off) (map short calls)
-    ++ concat_map (λ z. back 1 (held z 4 2 off) (short status ∷ [])) (wrong_sizes nan)
-    ++ back 2 (held (size 1 4 2 nan) 4 2 off) (map short calls)
-    ++ concat_map (λ a. back 2 (held (size 1 4 2 a) 4 2 off) (short status ∷ [])) wrong_alphas
-    ++ back 3 (held right 4 2 off) (map short calls)
-    ++ back 3 (held right 4 2 off) (map (λ n. ample n status) wrong_lengths)
+    -- 1, 2, 3, 16 and 6 of every other call, and each way in which they can hold
+    ++ back 1 (weighed (5 ∷ []) (size 257 4 2 nan) 4 2) (map short calls)
+    ++ concat_map (λ z. back 1 (weighed (5 ∷ []) z 4 2) (short status ∷ [])) (wrong_sizes nan)
+    ++ back 2 (weighed (5 ∷ []) (size 1 4 2 nan) 4 2) (map short calls)
+    ++ concat_map (λ a. back 2 (weighed (5 ∷ []) (size 1 4 2 a) 4 2) (short status ∷ [])) wrong_alphas
+    ++ back 3 (weighed (5 ∷ []) right 4 2) (map short calls)
+    ++ back 3 (weighed (5 ∷ []) right 4 2) (map (λ n. ample n status) wrong_lengths)
+    ++ back 16 (weighed (5 ∷ []) right 4 2) (map (lent (lengths 1 4 2) 257 64 0) calls)
+    ++ concat_map (λ ws. back 16 (weighed ws right 1 3) (ample (lengths 1 4 2) status ∷ [])) wrong_weights
     ++ back 6 (held right 1 2 off) (map (lent (lengths 1 4 2) 257 64 0) calls)
     ++ back 6 (held right 4 3 off) (ample (lengths 1 4 2) status ∷ [])
     ++ concat_map (λ g. back 6 (held right 1 3 g) (ample (lengths 1 4 2) status ∷ [])) wrong_guards
@@ -311,6 +337,17 @@ table =
     -- delete of the numbers 10, 0, 10 and 7: slot 1 alone; a number that is free again
     ∷ on_shelf (delete (deleting_numbers (10 ∷ 0 ∷ 10 ∷ 7 ∷ []) 2 1) ∷ read (read_mark 1) ∷ insert_as (10 ∷ []) (6 ∷ []) 2 ∷ read (read_number 1) ∷ [])
     (deleted (stats 2 1 2 2 ∷ []) ∷ number 0 ∷ inserted (1 ∷ []) ∷ number 10 ∷ [])
+    -- weights 1 and 4: of (1, 2) from (0, 0) the distance is 1 + 4 * 4; 86 weights with a sum of 256
+    ∷ record {
+      start = nothing;
+      calls = map (ample (lengths 2 4 1)) (create (weighing (1 ∷ 4 ∷ []) (wide (1 ∷ 2 ∷ 3 ∷ 4 ∷ 5 ∷ 6 ∷ []))) ∷ search (record { query = 0 ∷ 0 ∷ []; k = 1; beam = 1 }) ∷ []);
+      outcome = record { answers = created ∷ found (at 0 17 ∷ []) (1 ∷ []) ∷ []; pool = [] };
+    }
+    ∷ record {
+      start = nothing;
+      calls = ample (lengths 86 1 1) (create (weighing (1 ∷ replicate 85 3) heavy)) ∷ [];
+      outcome = record { answers = created ∷ []; pool = [] };
+    }
     -- empty batches: no slots, no counts
     ∷ on_shelf (insert_all 0 [] 2 ∷ delete (deleting [] 2 1) ∷ []) (inserted [] ∷ deleted [] ∷ [])
     ∷ refusals

@@ -17,7 +17,7 @@ use Rattle.words.specs.Given.{CreatesWords, ReadsNumber, ReadsAlpha, ReadsLength
 use Rattle.guarding.specs.Guarding.{report_outputs}
 use Rattle.guarding.specs.Guarded.{guarded_outputs}
 
--- an index as the app holds it: its twelve words and its eight slices
+-- an index as the app holds it: its twelve words and its nine slices
 pub record Memory : Type 0 where
   pub words : List ℕ
   pub slices : Slices
