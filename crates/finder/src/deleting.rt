@@ -24,6 +24,7 @@ pub extern "C" fn finder_delete(
     pool: &[u32],
     numbers: &mut [u32],
     summary: &mut [u32],
+    weights: &[u8],
     ids: &[u32],
     repair_beam: u32,
     repair_degree: u32,
@@ -31,7 +32,7 @@ pub extern "C" fn finder_delete(
     scratch: &mut [u32],
     found: &mut u32,
 ) -> u32
-    ensures { DeletesWords words.old (slices vectors.now targets.old edges.old versions.old marks.old pool.now numbers.old summary.old) (deleting ids.now Slots repair_beam repair_degree) (stats_outputs (map stats_in stats.old)) scratch.old words.new (slices vectors.now targets.new edges.new versions.new marks.new pool.now numbers.new summary.new) (stats_outputs (map stats_in stats.new)) scratch.new found.old found.new result }
+    ensures { DeletesWords words.old (slices vectors.now targets.old edges.old versions.old marks.old pool.now numbers.old summary.old weights.now) (deleting ids.now Slots repair_beam repair_degree) (stats_outputs (map stats_in stats.old)) scratch.old words.new (slices vectors.now targets.new edges.new versions.new marks.new pool.now numbers.new summary.new weights.now) (stats_outputs (map stats_in stats.new)) scratch.new found.old found.new result }
 {
     let mut slices = DeleteSlices {
         vectors,
@@ -42,6 +43,7 @@ pub extern "C" fn finder_delete(
         pool,
         numbers,
         summary,
+        weights,
     };
     let asked = Deleting {
         names: ids,
@@ -68,6 +70,7 @@ pub extern "C" fn finder_delete_numbers(
     pool: &[u32],
     numbers: &mut [u32],
     summary: &mut [u32],
+    weights: &[u8],
     names: &[u32],
     repair_beam: u32,
     repair_degree: u32,
@@ -75,7 +78,7 @@ pub extern "C" fn finder_delete_numbers(
     scratch: &mut [u32],
     found: &mut u32,
 ) -> u32
-    ensures { DeletesWords words.old (slices vectors.now targets.old edges.old versions.old marks.old pool.now numbers.old summary.old) (deleting names.now Numbers repair_beam repair_degree) (stats_outputs (map stats_in stats.old)) scratch.old words.new (slices vectors.now targets.new edges.new versions.new marks.new pool.now numbers.new summary.new) (stats_outputs (map stats_in stats.new)) scratch.new found.old found.new result }
+    ensures { DeletesWords words.old (slices vectors.now targets.old edges.old versions.old marks.old pool.now numbers.old summary.old weights.now) (deleting names.now Numbers repair_beam repair_degree) (stats_outputs (map stats_in stats.old)) scratch.old words.new (slices vectors.now targets.new edges.new versions.new marks.new pool.now numbers.new summary.new weights.now) (stats_outputs (map stats_in stats.new)) scratch.new found.old found.new result }
 {
     let mut slices = DeleteSlices {
         vectors,
@@ -86,6 +89,7 @@ pub extern "C" fn finder_delete_numbers(
         pool,
         numbers,
         summary,
+        weights,
     };
     let asked = Deleting {
         names,

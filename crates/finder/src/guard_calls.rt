@@ -22,6 +22,7 @@ pub extern "C" fn finder_guard_enable(
     pool: &mut [u32],
     numbers: &[u32],
     summary: &[u32],
+    weights: &[u8],
     landmark_count: u32,
     multiplier: u32,
     sample: u32,
@@ -29,7 +30,7 @@ pub extern "C" fn finder_guard_enable(
     scratch: &mut [u32],
     status: &mut [u32; 5],
 ) -> u32
-    ensures { EnablesWords words.old (slices vectors.now targets.now edges.now versions.now marks.now pool.old numbers.now summary.now) (config landmark_count multiplier sample beam) scratch.old words.new (slices vectors.now targets.now edges.now versions.now marks.now pool.new numbers.now summary.now) scratch.new status.old status.new result }
+    ensures { EnablesWords words.old (slices vectors.now targets.now edges.now versions.now marks.now pool.old numbers.now summary.now weights.now) (config landmark_count multiplier sample beam) scratch.old words.new (slices vectors.now targets.now edges.now versions.now marks.now pool.new numbers.now summary.now weights.now) scratch.new status.old status.new result }
 {
     let held = index_from(words);
     let mut slices = EnableSlices {
@@ -41,6 +42,7 @@ pub extern "C" fn finder_guard_enable(
         pool,
         numbers,
         summary,
+        weights,
     };
     let config = Config {
         count: landmark_count,
@@ -64,9 +66,10 @@ pub extern "C" fn finder_guard_status(
     pool: &[u32],
     numbers: &[u32],
     summary: &[u32],
+    weights: &[u8],
     status: &mut [u32; 5],
 ) -> u32
-    ensures { StandsWords words.now (slices vectors.now targets.now edges.now versions.now marks.now pool.now numbers.now summary.now) status.old status.new result }
+    ensures { StandsWords words.now (slices vectors.now targets.now edges.now versions.now marks.now pool.now numbers.now summary.now weights.now) status.old status.new result }
 {
     let slices = Slices {
         vectors,
@@ -77,6 +80,7 @@ pub extern "C" fn finder_guard_status(
         pool,
         numbers,
         summary,
+        weights,
     };
     let answer = guarding::guard_status(index_from(words), &slices);
     put_status(answer, status)
@@ -94,13 +98,14 @@ pub extern "C" fn finder_assess(
     pool: &[u32],
     numbers: &[u32],
     summary: &[u32],
+    weights: &[u8],
     ids: &[u32],
     checked: &mut [u32],
     lost: &mut [u32],
     scratch: &mut [u32],
     report: &mut [u32; 8],
 ) -> u32
-    ensures { AssessesWords words.now (slices vectors.now targets.now edges.now versions.now marks.now pool.now numbers.now summary.now) (assessing ids.now) (report_outputs checked.old lost.old) scratch.old (report_outputs checked.new lost.new) scratch.new report.old report.new result }
+    ensures { AssessesWords words.now (slices vectors.now targets.now edges.now versions.now marks.now pool.now numbers.now summary.now weights.now) (assessing ids.now) (report_outputs checked.old lost.old) scratch.old (report_outputs checked.new lost.new) scratch.new report.old report.new result }
 {
     let held = index_from(words);
     let slices = Slices {
@@ -112,6 +117,7 @@ pub extern "C" fn finder_assess(
         pool,
         numbers,
         summary,
+        weights,
     };
     let mut lists = Lists { checked, lost };
     let answer = guarding::assess_delete(held, &slices, ids, &mut lists, scratch);

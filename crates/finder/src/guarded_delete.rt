@@ -27,6 +27,7 @@ pub extern "C" fn finder_guarded_delete(
     pool: &[u32],
     numbers: &mut [u32],
     summary: &mut [u32],
+    weights: &[u8],
     ids: &[u32],
     repair_beam: u32,
     repair_degree: u32,
@@ -37,7 +38,7 @@ pub extern "C" fn finder_guarded_delete(
     found: &mut u32,
     report: &mut [u32; 8],
 ) -> u32
-    ensures { GuardsWords words.old (slices vectors.now targets.old edges.old versions.old marks.old pool.now numbers.old summary.old) (deleting ids.now Slots repair_beam repair_degree) (guarded_outputs (map stats_in stats.old) checked.old lost.old) scratch.old words.new (slices vectors.now targets.new edges.new versions.new marks.new pool.now numbers.new summary.new) (guarded_outputs (map stats_in stats.new) checked.new lost.new) scratch.new found.old found.new report.old report.new result }
+    ensures { GuardsWords words.old (slices vectors.now targets.old edges.old versions.old marks.old pool.now numbers.old summary.old weights.now) (deleting ids.now Slots repair_beam repair_degree) (guarded_outputs (map stats_in stats.old) checked.old lost.old) scratch.old words.new (slices vectors.now targets.new edges.new versions.new marks.new pool.now numbers.new summary.new weights.now) (guarded_outputs (map stats_in stats.new) checked.new lost.new) scratch.new found.old found.new report.old report.new result }
 {
     let mut slices = DeleteSlices {
         vectors,
@@ -48,6 +49,7 @@ pub extern "C" fn finder_guarded_delete(
         pool,
         numbers,
         summary,
+        weights,
     };
     let asked = Deleting {
         names: ids,
@@ -80,6 +82,7 @@ pub extern "C" fn finder_guarded_delete_numbers(
     pool: &[u32],
     numbers: &mut [u32],
     summary: &mut [u32],
+    weights: &[u8],
     names: &[u32],
     repair_beam: u32,
     repair_degree: u32,
@@ -90,7 +93,7 @@ pub extern "C" fn finder_guarded_delete_numbers(
     found: &mut u32,
     report: &mut [u32; 8],
 ) -> u32
-    ensures { GuardsWords words.old (slices vectors.now targets.old edges.old versions.old marks.old pool.now numbers.old summary.old) (deleting names.now Numbers repair_beam repair_degree) (guarded_outputs (map stats_in stats.old) checked.old lost.old) scratch.old words.new (slices vectors.now targets.new edges.new versions.new marks.new pool.now numbers.new summary.new) (guarded_outputs (map stats_in stats.new) checked.new lost.new) scratch.new found.old found.new report.old report.new result }
+    ensures { GuardsWords words.old (slices vectors.now targets.old edges.old versions.old marks.old pool.now numbers.old summary.old weights.now) (deleting names.now Numbers repair_beam repair_degree) (guarded_outputs (map stats_in stats.old) checked.old lost.old) scratch.old words.new (slices vectors.now targets.new edges.new versions.new marks.new pool.now numbers.new summary.new weights.now) (guarded_outputs (map stats_in stats.new) checked.new lost.new) scratch.new found.old found.new report.old report.new result }
 {
     let mut slices = DeleteSlices {
         vectors,
@@ -101,6 +104,7 @@ pub extern "C" fn finder_guarded_delete_numbers(
         pool,
         numbers,
         summary,
+        weights,
     };
     let asked = Deleting {
         names,

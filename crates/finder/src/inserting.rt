@@ -20,6 +20,7 @@ pub extern "C" fn finder_insert(
     pool: &[u32],
     numbers: &mut [u32],
     summary: &mut [u32],
+    weights: &[u8],
     bytes: &[u8],
     given: &[u32],
     beam: u32,
@@ -27,7 +28,7 @@ pub extern "C" fn finder_insert(
     scratch: &mut [u32],
     found: &mut u32,
 ) -> u32
-    ensures { InsertsWords words.old (slices vectors.old targets.old edges.old versions.now marks.old pool.now numbers.old summary.old) (inserting bytes.now given.now beam) (insert_outputs slots.old) scratch.old words.new (slices vectors.new targets.new edges.new versions.now marks.new pool.now numbers.new summary.new) (insert_outputs slots.new) scratch.new found.old found.new result }
+    ensures { InsertsWords words.old (slices vectors.old targets.old edges.old versions.now marks.old pool.now numbers.old summary.old weights.now) (inserting bytes.now given.now beam) (insert_outputs slots.old) scratch.old words.new (slices vectors.new targets.new edges.new versions.now marks.new pool.now numbers.new summary.new weights.now) (insert_outputs slots.new) scratch.new found.old found.new result }
 {
     let held = index_from(words);
     let mut slices = InsertSlices {
@@ -39,6 +40,7 @@ pub extern "C" fn finder_insert(
         pool,
         numbers,
         summary,
+        weights,
     };
     let asked = Inserting {
         bytes,

@@ -8,12 +8,12 @@ use index::{Making, NewSlices};
 use words::{put, put_created};
 
 // 10,000 for each major version, 100 for each minor one and 1 for each patch.
-const VERSION: u32 = 2_00_00;
+const VERSION: u32 = 3_00_00;
 
 // The library's version.
 #[unsafe(no_mangle)]
 pub extern "C" fn finder_version() -> u32
-    ensures { result ≡ 20000 }
+    ensures { result ≡ 30000 }
 {
     VERSION
 }
@@ -26,7 +26,7 @@ pub extern "C" fn finder_scratch_words(dim: u32, capacity: u32, degree: u32, siz
     put(index::scratch_words(dim, capacity, degree), size)
 }
 
-// Makes an index of the given vectors, rows and numbers in the eight lent slices, and writes its words.
+// Makes an index of the given vectors, rows, numbers and weights in the nine lent slices, and writes its words.
 #[tactic(auto, using(words::proofs::Told::made_number, words::proofs::Told::creates_words))]
 #[unsafe(no_mangle)]
 pub extern "C" fn finder_create(
@@ -39,6 +39,7 @@ pub extern "C" fn finder_create(
     bytes: &[u8],
     rows: &[u32],
     given: &[u32],
+    given_weights: &[u8],
     vectors: &mut [u8],
     targets: &mut [u32],
     edges: &mut [u16],
@@ -47,9 +48,10 @@ pub extern "C" fn finder_create(
     pool: &mut [u32],
     numbers: &mut [u32],
     summary: &mut [u32],
+    weights: &mut [u8],
     words: &mut [u32; 12],
 ) -> u32
-    ensures { CreatesWords (making dim capacity degree alpha entry count bytes.now rows.now given.now) (slices vectors.old targets.old edges.old versions.old marks.old pool.old numbers.old summary.old) (slices vectors.new targets.new edges.new versions.new marks.new pool.new numbers.new summary.new) words.old words.new result }
+    ensures { CreatesWords (making dim capacity degree alpha entry count bytes.now rows.now given.now given_weights.now) (slices vectors.old targets.old edges.old versions.old marks.old pool.old numbers.old summary.old weights.old) (slices vectors.new targets.new edges.new versions.new marks.new pool.new numbers.new summary.new weights.new) words.old words.new result }
 {
     let asked = Making {
         dim,
@@ -61,6 +63,7 @@ pub extern "C" fn finder_create(
         bytes,
         rows,
         numbers: given,
+        weights: given_weights,
     };
     let mut slices = NewSlices {
         vectors,
@@ -71,6 +74,7 @@ pub extern "C" fn finder_create(
         pool,
         numbers,
         summary,
+        weights,
     };
     put_created(index::create(&asked, &mut slices), words)
 }

@@ -19,9 +19,10 @@ pub extern "C" fn finder_dim(
     pool: &[u32],
     numbers: &[u32],
     summary: &[u32],
+    weights: &[u8],
     value: &mut u32,
 ) -> u32
-    ensures { ReadsNumber words.now (slices vectors.now targets.now edges.now versions.now marks.now pool.now numbers.now summary.now) Dim value.old value.new result }
+    ensures { ReadsNumber words.now (slices vectors.now targets.now edges.now versions.now marks.now pool.now numbers.now summary.now weights.now) Dim value.old value.new result }
 {
     let slices = Slices {
         vectors,
@@ -32,6 +33,7 @@ pub extern "C" fn finder_dim(
         pool,
         numbers,
         summary,
+        weights,
     };
     read_number(words, &slices, Reading::Dim, value)
 }
@@ -48,9 +50,10 @@ pub extern "C" fn finder_capacity(
     pool: &[u32],
     numbers: &[u32],
     summary: &[u32],
+    weights: &[u8],
     value: &mut u32,
 ) -> u32
-    ensures { ReadsNumber words.now (slices vectors.now targets.now edges.now versions.now marks.now pool.now numbers.now summary.now) Capacity value.old value.new result }
+    ensures { ReadsNumber words.now (slices vectors.now targets.now edges.now versions.now marks.now pool.now numbers.now summary.now weights.now) Capacity value.old value.new result }
 {
     let slices = Slices {
         vectors,
@@ -61,6 +64,7 @@ pub extern "C" fn finder_capacity(
         pool,
         numbers,
         summary,
+        weights,
     };
     read_number(words, &slices, Reading::Capacity, value)
 }
@@ -77,9 +81,10 @@ pub extern "C" fn finder_degree(
     pool: &[u32],
     numbers: &[u32],
     summary: &[u32],
+    weights: &[u8],
     value: &mut u32,
 ) -> u32
-    ensures { ReadsNumber words.now (slices vectors.now targets.now edges.now versions.now marks.now pool.now numbers.now summary.now) Degree value.old value.new result }
+    ensures { ReadsNumber words.now (slices vectors.now targets.now edges.now versions.now marks.now pool.now numbers.now summary.now weights.now) Degree value.old value.new result }
 {
     let slices = Slices {
         vectors,
@@ -90,6 +95,7 @@ pub extern "C" fn finder_degree(
         pool,
         numbers,
         summary,
+        weights,
     };
     read_number(words, &slices, Reading::Degree, value)
 }
@@ -106,9 +112,10 @@ pub extern "C" fn finder_entry(
     pool: &[u32],
     numbers: &[u32],
     summary: &[u32],
+    weights: &[u8],
     value: &mut u32,
 ) -> u32
-    ensures { ReadsNumber words.now (slices vectors.now targets.now edges.now versions.now marks.now pool.now numbers.now summary.now) Entry value.old value.new result }
+    ensures { ReadsNumber words.now (slices vectors.now targets.now edges.now versions.now marks.now pool.now numbers.now summary.now weights.now) Entry value.old value.new result }
 {
     let slices = Slices {
         vectors,
@@ -119,6 +126,7 @@ pub extern "C" fn finder_entry(
         pool,
         numbers,
         summary,
+        weights,
     };
     read_number(words, &slices, Reading::Entry, value)
 }
@@ -135,9 +143,10 @@ pub extern "C" fn finder_live(
     pool: &[u32],
     numbers: &[u32],
     summary: &[u32],
+    weights: &[u8],
     value: &mut u32,
 ) -> u32
-    ensures { ReadsNumber words.now (slices vectors.now targets.now edges.now versions.now marks.now pool.now numbers.now summary.now) Live value.old value.new result }
+    ensures { ReadsNumber words.now (slices vectors.now targets.now edges.now versions.now marks.now pool.now numbers.now summary.now weights.now) Live value.old value.new result }
 {
     let slices = Slices {
         vectors,
@@ -148,6 +157,7 @@ pub extern "C" fn finder_live(
         pool,
         numbers,
         summary,
+        weights,
     };
     read_number(words, &slices, Reading::Live, value)
 }
@@ -164,10 +174,11 @@ pub extern "C" fn finder_mark(
     pool: &[u32],
     numbers: &[u32],
     summary: &[u32],
+    weights: &[u8],
     slot: u32,
     value: &mut u32,
 ) -> u32
-    ensures { ReadsNumber words.now (slices vectors.now targets.now edges.now versions.now marks.now pool.now numbers.now summary.now) (Mark slot) value.old value.new result }
+    ensures { ReadsNumber words.now (slices vectors.now targets.now edges.now versions.now marks.now pool.now numbers.now summary.now weights.now) (Mark slot) value.old value.new result }
 {
     let slices = Slices {
         vectors,
@@ -178,6 +189,7 @@ pub extern "C" fn finder_mark(
         pool,
         numbers,
         summary,
+        weights,
     };
     read_number(words, &slices, Reading::Mark(slot), value)
 }
@@ -194,10 +206,11 @@ pub extern "C" fn finder_slot_version(
     pool: &[u32],
     numbers: &[u32],
     summary: &[u32],
+    weights: &[u8],
     slot: u32,
     value: &mut u32,
 ) -> u32
-    ensures { ReadsNumber words.now (slices vectors.now targets.now edges.now versions.now marks.now pool.now numbers.now summary.now) (Version slot) value.old value.new result }
+    ensures { ReadsNumber words.now (slices vectors.now targets.now edges.now versions.now marks.now pool.now numbers.now summary.now weights.now) (Version slot) value.old value.new result }
 {
     let slices = Slices {
         vectors,
@@ -208,6 +221,7 @@ pub extern "C" fn finder_slot_version(
         pool,
         numbers,
         summary,
+        weights,
     };
     read_number(words, &slices, Reading::Version(slot), value)
 }
@@ -224,10 +238,11 @@ pub extern "C" fn finder_number(
     pool: &[u32],
     numbers: &[u32],
     summary: &[u32],
+    weights: &[u8],
     slot: u32,
     value: &mut u32,
 ) -> u32
-    ensures { ReadsNumber words.now (slices vectors.now targets.now edges.now versions.now marks.now pool.now numbers.now summary.now) (Number slot) value.old value.new result }
+    ensures { ReadsNumber words.now (slices vectors.now targets.now edges.now versions.now marks.now pool.now numbers.now summary.now weights.now) (Number slot) value.old value.new result }
 {
     let slices = Slices {
         vectors,
@@ -238,6 +253,7 @@ pub extern "C" fn finder_number(
         pool,
         numbers,
         summary,
+        weights,
     };
     read_number(words, &slices, Reading::Number(slot), value)
 }
@@ -254,11 +270,12 @@ pub extern "C" fn finder_target(
     pool: &[u32],
     numbers: &[u32],
     summary: &[u32],
+    weights: &[u8],
     slot: u32,
     place: u32,
     value: &mut u32,
 ) -> u32
-    ensures { ReadsNumber words.now (slices vectors.now targets.now edges.now versions.now marks.now pool.now numbers.now summary.now) (Target slot place) value.old value.new result }
+    ensures { ReadsNumber words.now (slices vectors.now targets.now edges.now versions.now marks.now pool.now numbers.now summary.now weights.now) (Target slot place) value.old value.new result }
 {
     let slices = Slices {
         vectors,
@@ -269,6 +286,7 @@ pub extern "C" fn finder_target(
         pool,
         numbers,
         summary,
+        weights,
     };
     read_number(words, &slices, Reading::Target(slot, place), value)
 }
@@ -286,9 +304,10 @@ pub extern "C" fn finder_alpha(
     pool: &[u32],
     numbers: &[u32],
     summary: &[u32],
+    weights: &[u8],
     value: &mut f32,
 ) -> u32
-    ensures { ReadsAlpha words.now (slices vectors.now targets.now edges.now versions.now marks.now pool.now numbers.now summary.now) value.old value.new result }
+    ensures { ReadsAlpha words.now (slices vectors.now targets.now edges.now versions.now marks.now pool.now numbers.now summary.now weights.now) value.old value.new result }
 {
     let slices = Slices {
         vectors,
@@ -299,6 +318,7 @@ pub extern "C" fn finder_alpha(
         pool,
         numbers,
         summary,
+        weights,
     };
     let read = read_value(words, &slices, Reading::Alpha);
     put_alpha(read, value)
@@ -316,9 +336,10 @@ pub extern "C" fn finder_vector(
     pool: &[u32],
     numbers: &[u32],
     summary: &[u32],
+    weights: &[u8],
     slot: u32,
 ) -> usize
-    ensures { ReadsLength words.now (slices vectors.now targets.now edges.now versions.now marks.now pool.now numbers.now summary.now) slot result }
+    ensures { ReadsLength words.now (slices vectors.now targets.now edges.now versions.now marks.now pool.now numbers.now summary.now weights.now) slot result }
 {
     let slices = Slices {
         vectors,
@@ -329,6 +350,7 @@ pub extern "C" fn finder_vector(
         pool,
         numbers,
         summary,
+        weights,
     };
     reading::read_vector(index_from(words), &slices, slot).len()
 }

@@ -19,6 +19,7 @@ pub extern "C" fn finder_search(
     pool: &[u32],
     numbers: &[u32],
     summary: &[u32],
+    weights: &[u8],
     query: &[u8],
     k: u32,
     beam: u32,
@@ -28,7 +29,7 @@ pub extern "C" fn finder_search(
     scratch: &mut [u32],
     found: &mut u32,
 ) -> u32
-    ensures { SearchesWords words.now (slices vectors.now targets.now edges.now versions.now marks.now pool.now numbers.now summary.now) (searching query.now k beam) (search_outputs slots.old dists.old found_numbers.old) scratch.old (search_outputs slots.new dists.new found_numbers.new) scratch.new found.old found.new result }
+    ensures { SearchesWords words.now (slices vectors.now targets.now edges.now versions.now marks.now pool.now numbers.now summary.now weights.now) (searching query.now k beam) (search_outputs slots.old dists.old found_numbers.old) scratch.old (search_outputs slots.new dists.new found_numbers.new) scratch.new found.old found.new result }
 {
     let held = index_from(words);
     let slices = Slices {
@@ -40,6 +41,7 @@ pub extern "C" fn finder_search(
         pool,
         numbers,
         summary,
+        weights,
     };
     let asked = Searching { query, k, beam };
     let mut lists = Found {

@@ -11,7 +11,9 @@ use lib.ListN.{length, take, drop}
 use lib.Seq.{take-append_seam}
 use Rattle.std.proofs.lemmas.Bool.{or_parts}
 use Rattle.lists.specs.Lists.{put_front}
-use Rattle.slots.specs.Sizes.{Slices, Lengths, lengths_of, limits, sizes_ok, alpha_ok, lengths_ok}
+use Rattle.vectors.specs.Distance.{distance}
+use Rattle.vectors.specs.Weights.{Weighing}
+use Rattle.slots.specs.Sizes.{Slices, Lengths, lengths_of, limits, sizes_ok, alpha_ok, weights_ok, lengths_ok}
 use Rattle.slots.specs.Scratch.{size_answer}
 use Rattle.slots.specs.View.{View, live_slots}
 use Rattle.slots.specs.Store.{Store, store_view, store_ops}
@@ -32,7 +34,7 @@ use Rattle.calls.proofs.Enabling.{one_live}
 use Rattle.index.specs.Index.{guard_of, state_of}
 use Rattle.numbers.specs.Numbers.{labels_ok}
 use Rattle.index.specs.Inner.Deciding.{Decided, Passed}
-use Rattle.index.proofs.Decide.{decided_before, decided_after, turned_back, let_through, own_none, passed, passed_marks, passed_bytes, step_back, step_on}
+use Rattle.index.proofs.Decide.{decided_before, decided_after, turned_back, let_through, own_none, passed, passed_marks, passed_bytes, passed_weighing, step_back, step_on}
 use Rattle.guarding.specs.declared.Status.{Status}
 use Rattle.index.specs.declared.Refusal.{Refusal}
 use Rattle.index.specs.declared.Refusal.TheVariants as Refused
@@ -89,17 +91,19 @@ own_tests slices w wrong xs ys h =
     let q₁ = not (sizes_ok limits v.sizes) in
     let q₂ = not (alpha_ok v.sizes.alpha) in
     let q₃ = not (lengths_ok limits v.sizes slices) || wrong in
+    let q₁₆ = not (weights_ok limits w.weights) in
     let counted = eqb w.live (length (live_slots v)) in
     let inside = ltb v.entry v.sizes.capacity in
     let labels = labels_ok v.live v.sizes.capacity w.live w.numbers w.summary in
     let q₆ = not counted || not inside || guard_fault limits w.guard || not labels in
-    behind 1 q₁ ((2, q₂) ∷ (3, q₃) ∷ (6, q₆) ∷ xs) ((2, q₂) ∷ (3, q₃) ∷ (6, q₆) ∷ ys) (λ i.
-    behind 2 q₂ ((3, q₃) ∷ (6, q₆) ∷ xs) ((3, q₃) ∷ (6, q₆) ∷ ys) (λ j.
-    behind 3 q₃ ((6, q₆) ∷ xs) ((6, q₆) ∷ ys) (λ k.
+    behind 1 q₁ ((2, q₂) ∷ (3, q₃) ∷ (16, q₁₆) ∷ (6, q₆) ∷ xs) ((2, q₂) ∷ (3, q₃) ∷ (16, q₁₆) ∷ (6, q₆) ∷ ys) (λ i.
+    behind 2 q₂ ((3, q₃) ∷ (16, q₁₆) ∷ (6, q₆) ∷ xs) ((3, q₃) ∷ (16, q₁₆) ∷ (6, q₆) ∷ ys) (λ j.
+    behind 3 q₃ ((16, q₁₆) ∷ (6, q₆) ∷ xs) ((16, q₁₆) ∷ (6, q₆) ∷ ys) (λ k.
+    behind 16 q₁₆ ((6, q₆) ∷ xs) ((6, q₆) ∷ ys) (λ l.
     behind 6 q₆ xs ys (λ f.
     let g = (or_parts (not counted || not inside || guard_fault limits w.guard) (not labels) f).0 in
     let o = or_parts (not counted) (not inside) (or_parts (not counted || not inside) (guard_fault limits w.guard) g).0 in
-    h (eqb-true w.live (length (live_slots v)) (not-false counted o.0)) (ltb-true v.entry v.sizes.capacity (not-false inside o.1))))))
+    h (eqb-true w.live (length (live_slots v)) (not-false counted o.0)) (ltb-true v.entry v.sizes.capacity (not-false inside o.1)))))))
 
 own_same : (v : View) (c : Config) (live : ℕ) (a b : Bool) → live ≡ length (live_slots v) → v.entry < v.sizes.capacity
     → first_of ((7, a) ∷ (8, b) ∷ (12, eqb live 0) ∷ (13, eqb live 1) ∷ []) ≡ first_of ((7, a) ∷ (8, b) ∷ (12, eqb (length (live_slots v)) 0) ∷ (13, eqb (length (new_pool v c)) 0) ∷ [])
@@ -187,6 +191,9 @@ module _ {index : Index} {s₀ s : Slices} {c : Config} {scratch : List ℕ} {A 
     pub marks_few : length s.marks ≤ 65536
     marks_few = omega (arith, passed_marks able, able.capacity_high)
 
+    pub weights_ready : Weighing s.weights × (length s.weights ≡ index.dim)
+    weights_ready = (passed_weighing able, able.weights_long)
+
     -- the residual entry: the code's other case does not come up
     module _ {e : Option ℕ} (f : Entered s.marks [] index.entry e) {start : ℕ} (se : start ≡ unwrap_or e index.entry) where
       entered : (residual_entry (store_view before.graph) [] ≡ some start) × (start < length s.marks)
@@ -211,7 +218,7 @@ module _ {index : Index} {s₀ s : Slices} {c : Config} {scratch : List ℕ} {A 
         unfolding normalized
         sample_is = ap (λ x. x.sample_size) m
 
-        pub pool_ready : Poolable index.dim s.vectors s.marks start t.count t.multiplier t.sample s.pool scratch
+        pub pool_ready : Poolable (distance s.weights) index.dim s.vectors s.marks start t.count t.multiplier t.sample s.pool scratch
         unfolding limits
         pool_ready =
             let o₁ = ltb 64 c.landmark_count in
@@ -230,7 +237,7 @@ module _ {index : Index} {s₀ s : Slices} {c : Config} {scratch : List ℕ} {A 
               room = guard_room able scratch own.1;
             }
 
-        module _ {pool' : List ℕ} {n : ℕ} (g : Pooled index.dim s.vectors s.marks start t.count t.multiplier t.sample s.pool pool' n) where
+        module _ {pool' : List ℕ} {n : ℕ} (g : Pooled (distance s.weights) index.dim s.vectors s.marks start t.count t.multiplier t.sample s.pool pool' n) where
           abbrev new : List ℕ
           new = new_pool (store_view before.graph) c
 
@@ -240,11 +247,11 @@ module _ {index : Index} {s₀ s : Slices} {c : Config} {scratch : List ℕ} {A 
 
           words_are : pool' ≡ put_front new s.pool
           unfolding state_of
-          words_are = (g.does before.graph t.beam refl refl refl (sym (passed_marks able))).list ∙ ap (λ l. put_front l s.pool) chosen_is
+          words_are = (g.does before.graph t.beam refl refl refl refl (sym (passed_marks able))).list ∙ ap (λ l. put_front l s.pool) chosen_is
 
           many : n ≡ length new
           unfolding state_of
-          many = (g.does before.graph t.beam refl refl refl (sym (passed_marks able))).count ∙ ap length chosen_is
+          many = (g.does before.graph t.beam refl refl refl refl (sym (passed_marks able))).count ∙ ap length chosen_is
 
           front : take n pool' ≡ new
           front = rw (many, words_are) (take-append_seam new (drop (length new) s.pool))

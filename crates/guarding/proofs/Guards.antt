@@ -9,6 +9,7 @@ use borrow.Author.Tests.{ltb-false}
 use lib.Dec.{ltb}
 use lib.ListN.{length, replicate, length-replicate}
 use Rattle.lists.specs.Lists.{range, put_front}
+use Rattle.vectors.specs.Weights.{Weighing}
 use Rattle.slots.specs.Sizes.{Slices, limits, alpha_ok}
 use Rattle.slots.specs.Store.{Store, store_view, store_ops}
 use Rattle.slots.proofs.Live.{MarksFit, store_marking}
@@ -31,7 +32,7 @@ use Rattle.calls.proofs.Tests.{first_none, index_finds}
 use Rattle.calls.proofs.Labelled.{same_guarded, same_guarded_refusal}
 use Rattle.index.specs.Index.{state_of, arrays_of}
 use Rattle.index.specs.Inner.Deciding.{Passed}
-use Rattle.index.proofs.Decide.{shared_none, passed_none, passed_marks, step_back, step_on}
+use Rattle.index.proofs.Decide.{shared_none, passed_none, passed_marks, passed_weighing, step_back, step_on}
 use Rattle.numbers.specs.Inner.Listed.{Struck}
 use Rattle.updating.specs.Inner.Emptying.{slot_delete, fewer, BySlots}
 use Rattle.updating.proofs.Named.{same_named, slots_asked}
@@ -148,12 +149,12 @@ module _ {index : Index} {s₀ s : Slices} {ids : List ℕ} {beam degree room : 
 
     pub guards_able : length scratch₁ ≡ length scratch
         → Deletable (arrays_of index s) index.entry beam degree ids scratch₁
-        × (length s.numbers ≡ length s.marks) × (index.live ≤ length s.summary)
+        × Weighing s.weights × (length s.weights ≡ index.dim) × (length s.numbers ≡ length s.marks) × (index.live ≤ length s.summary)
     guards_able k =
         let d = (subst (λ (x : Result Report Refusal). Tested index s (wrong room) over ids checked lost scratch checked' lost' scratch₁ x) e t).decided in
         let p = own index s (wrong room) over scratch d refl in
         let f = strike_able passes ids beam degree in
-        (delete_able passes ids beam degree scratch₁ p.0 (rw k p.1), f.0, f.1)
+        (delete_able passes ids beam degree scratch₁ p.0 (rw k p.1), passed_weighing passes, passes.weights_long, f.0, f.1)
 
     -- of the slices that the batch leaves
     module _ (s' : Slices) {scratch' : List ℕ} {entry' n : ℕ} (b : BatchDeleted (arrays_of index s) index.alpha index.entry beam degree ids (arrays_of index s') entry' n scratch')
@@ -170,12 +171,12 @@ module _ {index : Index} {s₀ s : Slices} {ids : List ℕ} {beam degree room : 
       inside : length scratch₁ ≡ length scratch → length scratch' ≡ length scratch₁ → stats_at index.capacity + 4 * n ≤ length scratch'
       inside q l = let d = (guards_able q).0 in omega (arith, rw (passed_marks passes) at d.enough, b.few, d.ids_most, l)
 
-      pub guards_applied : {c : Changed} → s'.pool ≡ s.pool → length scratch₁ ≡ length scratch → length scratch' ≡ length scratch₁ → v.admitted ≡ true → c ≡ fewer index entry' n
+      pub guards_applied : {c : Changed} → s'.pool ≡ s.pool → s'.weights ≡ s.weights → length scratch₁ ≡ length scratch → length scratch' ≡ length scratch₁ → v.admitted ≡ true → c ≡ fewer index entry' n
           → Guards index s a room checked lost scratch s' checked' lost' scratch' (Ok (Applied c v))
       unfolding perform guarded guarded_as index_kept written call_of slices_of run_refusal state_of stored slots_of
-      guards_applied {c} p q ls f e =
+      guards_applied {c} p w q ls f e =
           let g = reports in
-          let u = state_left passes ids beam degree s' b k p (ap (λ x. x.index) e) in
+          let u = state_left passes ids beam degree s' b k p w (ap (λ x. x.index) e) in
           record {
             report = report;
             stats = map (stats_of scratch' (stats_at index.capacity)) (range 0 n);

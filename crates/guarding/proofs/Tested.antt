@@ -6,6 +6,7 @@ use mathlib.Core.List.{List, [], ◌∷◌}
 use mathlib.Core.Option.{none, some}
 use lib.Dec.{ltb}
 use lib.ListN.{length, take}
+use Rattle.vectors.specs.Weights.{Weighing}
 use Rattle.slots.specs.Sizes.{Slices, lengths_of, limits}
 use Rattle.slots.specs.Scratch.{size_answer}
 use Rattle.admission.specs.Inner.Reports.{Reports, Assessable}
@@ -19,7 +20,7 @@ use Rattle.calls.specs.Step.{report_of}
 use Rattle.calls.proofs.Tests.{first_none}
 use Rattle.index.specs.Index.{guard_of, state_of, arrays_of}
 use Rattle.index.specs.Inner.Deciding.{Decided, Passed}
-use Rattle.index.proofs.Decide.{decided_before, decided_after, turned_back, let_through, own_none, not_wrong, passed}
+use Rattle.index.proofs.Decide.{decided_before, decided_after, turned_back, let_through, own_none, not_wrong, passed, passed_weighing}
 use Rattle.index.specs.declared.Refusal.{Refusal}
 use Rattle.index.specs.declared.Refusal.TheVariants as Refused
 use Rattle.index.specs.Refusal.{number_of}
@@ -117,10 +118,12 @@ module _ (index : Index) (s : Slices) (wrong over : Bool) (scratch : List ℕ) {
   on = IfOk-at_ok (λ g. index.guard ≡ Some g) z c.1
 
   pub tested_ready : Testable wrong over ids checked lost → Assessable (arrays_of index s) t.config.count t.config.sample t.config.beam s.pool t.pool ids checked lost scratch
+      × Weighing s.weights × (length s.weights ≡ index.dim)
   unfolding limits
   tested_ready q =
       let o = own index s wrong over scratch c.0 z in
-      assessable (able index s wrong over scratch c.0 z) on ids checked lost scratch (q.few o.0) (q.long (lists_right index s wrong over scratch c.0 z)) o.1
+      let p = able index s wrong over scratch c.0 z in
+      (assessable p on ids checked lost scratch (q.few o.0) (q.long (lists_right index s wrong over scratch c.0 z)) o.1, passed_weighing p, p.weights_long)
 
   pub tested_on : {checked' lost' scratch' : List ℕ} {n : Report}
       → Reporting.Assessed (arrays_of index s) index.entry t.config.count t.config.sample t.config.beam (take t.pool s.pool) ids checked checked' lost lost' n

@@ -1,5 +1,6 @@
 // Assessing a delete.
 ghost use Rattle.std.specs.Prelude.{IfOk, Some, ◌≡◌, min, ltb, length, take};
+ghost use Rattle.vectors.specs.Weights.{Weighing};
 ghost use Rattle.slots.specs.Sizes.{limits};
 ghost use Rattle.admission.specs.Lent.{SameLists};
 ghost use Rattle.admission.specs.Inner.Reports.{Assessable, Assessed as Reported};
@@ -35,7 +36,7 @@ pub fn check_guard(index: Index, scratch: usize) -> Result<Guard, Refusal>
     index.guard.ok_or(Refusal::GuardOff)
 }
 
-// The guard, or the first of rows 1, 2, 3, 6, 7, 8 and 11 that turns an assessment back.
+// The guard, or the first of rows 1, 2, 3, 16, 6, 7, 8 and 11 that turns an assessment back.
 #[tactic(auto, unfolding(slots::specs::Sizes::limits))]
 fn check_assess(
     index: Index,
@@ -62,7 +63,8 @@ pub fn report_by(
     lists: &mut Lists<'_>,
     scratch: &mut [u32],
 ) -> Report
-    requires { Assessable (arrays_of index (slices_of slices.now)) guard.config.count guard.config.sample guard.config.beam slices.now.pool.now guard.pool ids.now lists.old.checked.now lists.old.lost.now scratch.old }
+    requires { Assessable (arrays_of index (slices_of slices.now)) guard.config.count guard.config.sample guard.config.beam slices.now.pool.now guard.pool ids.now lists.old.checked.now lists.old.lost.now scratch.old
+        × Weighing slices.now.weights.now × (length slices.now.weights.now ≡ index.dim) }
     ensures { Reported (arrays_of index (slices_of slices.now)) index.entry guard.config.count guard.config.sample guard.config.beam (take guard.pool slices.now.pool.now) ids.now lists.old.checked.now lists.new.checked.now lists.old.lost.now lists.new.lost.now result × SameLists lists.old lists.new }
 {
     let graph = slices.graph(index);

@@ -24,7 +24,7 @@ fn outputs_short(room: usize, ids: usize, lists: &Lists<'_>) -> bool
     room < ids || lists_short(lists)
 }
 
-// The guard, or the first of rows 1, 2, 3, 6, 7, 8 and 11 that turns a guarded delete of slots back.
+// The guard, or the first of rows 1, 2, 3, 16, 6, 7, 8 and 11 that turns a guarded delete of slots back.
 fn check_guarded(
     index: Index,
     slices: &Slices<'_>,

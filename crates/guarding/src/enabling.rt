@@ -1,5 +1,6 @@
 // Enabling the guard.
 ghost use Rattle.std.specs.Prelude.{false, ◌≡◌, max, length};
+ghost use Rattle.vectors.specs.Lent.{measure_of};
 ghost use Rattle.guard.specs.Guard.{normalized};
 ghost use Rattle.guard.specs.Lent.{config_of};
 ghost use Rattle.admission.specs.Inner.Pools.{Poolable, Pooled};
@@ -29,7 +30,7 @@ fn normalized(config: Config) -> Config
     }
 }
 
-// Whether one of rows 1, 2, 3, 6, 7, 8, 12 and 13 turns enabling back: the first; the live count decides 12 and 13.
+// Whether one of rows 1, 2, 3, 16, 6, 7, 8, 12 and 13 turns enabling back: the first; the live count decides 12 and 13.
 fn check_enable(
     index: Index,
     slices: &Slices<'_>,
@@ -63,8 +64,8 @@ fn choose_pool(
     pool: &mut [u32],
     scratch: &mut [u32],
 ) -> usize
-    requires { Poolable space.now.dim space.now.vectors.now marks.now start config.count config.multiplier config.sample pool.old scratch.old }
-    ensures { Pooled space.now.dim space.now.vectors.now marks.now start config.count config.multiplier config.sample pool.old pool.new result }
+    requires { Poolable (measure_of space.now.weights) space.now.dim space.now.vectors.now marks.now start config.count config.multiplier config.sample pool.old scratch.old }
+    ensures { Pooled (measure_of space.now.weights) space.now.dim space.now.vectors.now marks.now start config.count config.multiplier config.sample pool.old pool.new result }
 {
     let settings = Config::<usize>::from(config);
     landmark_pool(space, marks, start, settings, pool, scratch)
@@ -92,10 +93,7 @@ pub fn enable_guard(
     check_enable(index, &slices.read(), config, scratch.len())?;
     let config = normalized(config);
     let start = residual_entry(slices.marks, &[], index.entry).unwrap_or(index.entry);
-    let space = Space {
-        dim: index.dim as usize,
-        vectors: slices.vectors,
-    };
+    let space = index::space(index, slices.vectors, slices.weights);
     let pool = &mut *slices.pool;
     let n = choose_pool(&space, slices.marks, start, config, pool, scratch);
     let new = with_guard(index, config, n as u32);

@@ -16,9 +16,10 @@ use Rattle.vectors.specs.Distance.{f32}
 use Rattle.lists.specs.Lists.{filter, range}
 use Rattle.lists.proofs.Filter.{filter_length}
 use Rattle.lists.proofs.Ranges.{length_range}
-use Rattle.slots.specs.Sizes.{Sizes, Slices, Lengths, lengths_of, limits, within, sizes_ok, alpha_ok, exact, lengths_ok}
+use Rattle.slots.specs.Sizes.{Sizes, Slices, Lengths, lengths_of, limits, within, sizes_ok, alpha_ok, weights_ok, exact, lengths_ok}
 use Rattle.slots.specs.Scratch.{size_answer}
 use Rattle.vectors.specs.Vector.{Bytes}
+use Rattle.vectors.specs.Weights.{Weighing}
 use Rattle.slots.specs.View.{View, live_slots}
 use Rattle.slots.specs.Store.{Store, is_valid, store_view, store_ops}
 use Rattle.slots.specs.Inner.Rows.{RowShape}
@@ -39,6 +40,7 @@ use Rattle.calls.specs.Step.{perform, refusal, settle, step}
 use Rattle.index.specs.Index.{words_for, sizes, sizes_of, guard_of, state_of}
 use Rattle.index.specs.Inner.Deciding.{index_fault, Decided, Passed}
 use Rattle.calls.proofs.Tests.{passed_lengths}
+use Rattle.slots.proofs.Weights.{weights_weigh}
 
 -- an error that `?` hands on
 pub handed_on : {A E : Type 0} (r : Result A E) {x : E} → IsErrAnd r (λ y. y ≡ x) → r ≡ Err x
@@ -92,21 +94,21 @@ module _ (dim capacity degree : ℕ) {r : Bool} (e : (alpha : Float) → r ≡ n
 
 -- ---- lengths
 
--- eight tests, however they are joined
-joined : (a b c d e f g h : Bool) → a && (b && (c && (d && (e && (f && (g && h)))))) ≡ a && b && c && d && e && f && g && h
-joined a b c d e f g h = simp and_assoc
+-- nine tests, however they are joined
+joined : (a b c d e f g h k : Bool) → a && (b && (c && (d && (e && (f && (g && (h && k))))))) ≡ a && b && c && d && e && f && g && h && k
+joined a b c d e f g h k = simp and_assoc
 
 -- lengths that are compared with the only ones that pass
 pub lengths_compared : (z : Sizes) (n m : Lengths) → m ≡ exact limits z
-    → eqb n.vectors m.vectors && (eqb n.targets m.targets && (eqb n.edges m.edges && (eqb n.versions m.versions && (eqb n.marks m.marks && (eqb n.pool m.pool && (eqb n.numbers m.numbers && eqb n.summary m.summary)))))) ≡ lengths_ok limits z n
+    → eqb n.vectors m.vectors && (eqb n.targets m.targets && (eqb n.edges m.edges && (eqb n.versions m.versions && (eqb n.marks m.marks && (eqb n.pool m.pool && (eqb n.numbers m.numbers && (eqb n.summary m.summary && eqb n.weights m.weights))))))) ≡ lengths_ok limits z n
 unfolding lengths_ok
 lengths_compared z n m e =
     joined (eqb n.vectors m.vectors) (eqb n.targets m.targets) (eqb n.edges m.edges) (eqb n.versions m.versions) (eqb n.marks m.marks) (eqb n.pool m.pool) (eqb n.numbers m.numbers)
-    (eqb n.summary m.summary) ∙ ap (λ (k : Lengths). eqb n.vectors k.vectors && eqb n.targets k.targets && eqb n.edges k.edges && eqb n.versions k.versions && eqb n.marks k.marks && eqb n.pool k.pool && eqb n.numbers k.numbers && eqb n.summary k.summary) e
+    (eqb n.summary m.summary) (eqb n.weights m.weights) ∙ ap (λ (k : Lengths). eqb n.vectors k.vectors && eqb n.targets k.targets && eqb n.edges k.edges && eqb n.versions k.versions && eqb n.marks k.marks && eqb n.pool k.pool && eqb n.numbers k.numbers && eqb n.summary k.summary && eqb n.weights k.weights) e
 
 -- ---- the shared tests, one after the other
 
--- the first three tests of an index
+-- the first three tests of an index, and that of its weights
 abbrev bad₁ : Index → Bool
 bad₁ index = not (sizes_ok limits (sizes_of index))
 
@@ -116,12 +118,15 @@ bad₂ index = not (alpha_ok index.alpha)
 abbrev bad₃ : Index → Lengths → Bool
 bad₃ index n = not (lengths_ok limits (sizes_of index) n)
 
-abbrev four : Bool → Bool → Bool → Bool → List Test → List Test
-four q₁ q₂ q₃ q₆ rest = (1, q₁) ∷ (2, q₂) ∷ (3, q₃) ∷ (6, q₆) ∷ rest
+abbrev bad₁₆ : Slices → Bool
+bad₁₆ s = not (weights_ok limits s.weights)
+
+abbrev five : Bool → Bool → Bool → Bool → Bool → List Test → List Test
+five q₁ q₂ q₃ q₁₆ q₆ rest = (1, q₁) ∷ (2, q₂) ∷ (3, q₃) ∷ (16, q₁₆) ∷ (6, q₆) ∷ rest
 
 -- these decide
 decided : {index : Index} {s : Slices} {wrong : Bool} {rest : List Test} {A : Type 0} {r : Result A Refusal}
-    → back r ≡ first_of (four (bad₁ index) (bad₂ index) (bad₃ index (lengths_of s) || wrong) (index_fault index s index.capacity) rest) → Decided index s wrong rest r
+    → back r ≡ first_of (five (bad₁ index) (bad₂ index) (bad₃ index (lengths_of s) || wrong) (bad₁₆ s) (index_fault index s index.capacity) rest) → Decided index s wrong rest r
 unfolding index_tests shown stored store_ops store_view state_of
 decided e = record { does = e }
 
@@ -164,7 +169,7 @@ module _ (index : Index) (s : Slices) {A : Type 0} {r₁ : Result A Refusal} {le
   pub index_refused : {wrong : Bool} {B : Type 0} {e : Refusal} → r₁ ≡ Err e → Decided index s wrong [] {A = B} (Err e)
   index_refused {wrong} z =
       let q = bad₃ index (lengths_of s) in
-      decided (three_more (bad₁ index) (bad₂ index) q (q || wrong) ((6, index_fault index s index.capacity) ∷ []) (λ h. rw h refl) (ap back (sym z) ∙ rw alike at sized))
+      decided (three_more (bad₁ index) (bad₂ index) q (q || wrong) ((16, bad₁₆ s) ∷ (6, index_fault index s index.capacity) ∷ []) (λ h. rw h refl) (ap back (sym z) ∙ rw alike at sized))
 
   module _ {a : A} (z : r₁ ≡ Ok a) where
     index_sized : (bad₁ index ≡ false) × (bad₂ index ≡ false) × (bad₃ index (lengths_of s) ≡ false)
@@ -174,12 +179,23 @@ module _ (index : Index) (s : Slices) {A : Type 0} {r₁ : Result A Refusal} {le
       pub decided_wrong : wrong ≡ true → Decided index s wrong [] {A = B} (Err Refused.Lengths)
       decided_wrong t = let p = index_sized in decided (rw (p.0, p.1, p.2, t) refl)
 
-      module _ {r₆ : Bool} (t : wrong ≡ false) (sound : r₆ ≡ index_fault index s (length s.marks)) where
-        pub decided_index : r₆ ≡ true → Decided index s wrong [] {A = B} (Err Refused.Index)
-        decided_index t₆ = let p = index_sized in decided (rw (p.0, p.1, p.2, t, sym (marked index s p.2 sound) ∙ t₆) refl)
+      module _ {r₁₆ : Bool} (t : wrong ≡ false) (weighed : r₁₆ ≡ bad₁₆ s) where
+        pub decided_weights : r₁₆ ≡ true → Decided index s wrong [] {A = B} (Err Refused.Weights)
+        decided_weights t₁₆ = let p = index_sized in decided (rw (p.0, p.1, p.2, t, sym weighed ∙ t₁₆) refl)
 
-        pub decided_none : {b : B} → r₆ ≡ false → Decided index s wrong [] (Ok b)
-        decided_none t₆ = let p = index_sized in decided (rw (p.0, p.1, p.2, t, sym (marked index s p.2 sound) ∙ t₆) refl)
+        module _ {r₆ : Bool} (t₁₆ : r₁₆ ≡ false) (sound : r₆ ≡ index_fault index s (length s.marks)) where
+          pub decided_index : r₆ ≡ true → Decided index s wrong [] {A = B} (Err Refused.Index)
+          decided_index t₆ = let p = index_sized in decided (rw (p.0, p.1, p.2, t, sym weighed ∙ t₁₆, sym (marked index s p.2 sound) ∙ t₆) refl)
+
+          pub decided_none : {b : B} → r₆ ≡ false → Decided index s wrong [] (Ok b)
+          decided_none t₆ = let p = index_sized in decided (rw (p.0, p.1, p.2, t, sym weighed ∙ t₁₆, sym (marked index s p.2 sound) ∙ t₆) refl)
+
+    -- there are few weights
+    pub weights_few : length s.weights ≤ 256
+    weights_few =
+        let e = passed_lengths (sizes_of index) (lengths_of s) (not-false (lengths_ok limits (sizes_of index) (lengths_of s)) index_sized.2) in
+        let r = ranges (sizes_of index) (not-false (sizes_ok limits (sizes_of index)) index_sized.0) in
+        omega (arith, ap (λ l. l.weights) e, r.dim_high)
 
     -- numbers and summary are as many as marks
     pub lent_alike : (length s.numbers ≡ length s.marks) × (length s.summary ≡ length s.marks)
@@ -194,44 +210,47 @@ live_few marks e = omega (arith, filter_length (is_valid marks) (range 0 (length
 
 -- ---- what the answer says
 
--- none of the four holds
-record Four (q₁ q₂ q₃ q₆ : Bool) : Type 0 where
+-- none of the five holds
+record Five (q₁ q₂ q₃ q₁₆ q₆ : Bool) : Type 0 where
   pub one : q₁ ≡ false
   pub two : q₂ ≡ false
   pub three : q₃ ≡ false
+  pub sixteen : q₁₆ ≡ false
   pub six : q₆ ≡ false
 
-none_of : (q₁ q₂ q₃ q₆ : Bool) (rest : List Test) → none ≡ first_of (four q₁ q₂ q₃ q₆ rest) → Four q₁ q₂ q₃ q₆ × (none ≡ first_of rest)
-none_of true q₂ q₃ q₆ rest e = cc
-none_of false true q₃ q₆ rest e = cc
-none_of false false true q₆ rest e = cc
-none_of false false false true rest e = cc
-none_of false false false false rest e = (record { one = refl; two = refl; three = refl; six = refl }, e)
+none_of : (q₁ q₂ q₃ q₁₆ q₆ : Bool) (rest : List Test) → none ≡ first_of (five q₁ q₂ q₃ q₁₆ q₆ rest) → Five q₁ q₂ q₃ q₁₆ q₆ × (none ≡ first_of rest)
+none_of true q₂ q₃ q₁₆ q₆ rest e = cc
+none_of false true q₃ q₁₆ q₆ rest e = cc
+none_of false false true q₁₆ q₆ rest e = cc
+none_of false false false true q₆ rest e = cc
+none_of false false false false true rest e = cc
+none_of false false false false false rest e = (record { one = refl; two = refl; three = refl; sixteen = refl; six = refl }, e)
 
 -- a call's own tests come after the shared ones: where one of those holds they do not count
-first_four : (q₁ q₂ q₃ q₆ : Bool) (rest : List Test) {n : ℕ} → some n ≡ first_of (four q₁ q₂ q₃ q₆ []) → some n ≡ first_of (four q₁ q₂ q₃ q₆ rest)
-first_four true q₂ q₃ q₆ rest e = e
-first_four false true q₃ q₆ rest e = e
-first_four false false true q₆ rest e = e
-first_four false false false true rest e = e
-first_four false false false false rest e = cc
+first_five : (q₁ q₂ q₃ q₁₆ q₆ : Bool) (rest : List Test) {n : ℕ} → some n ≡ first_of (five q₁ q₂ q₃ q₁₆ q₆ []) → some n ≡ first_of (five q₁ q₂ q₃ q₁₆ q₆ rest)
+first_five true q₂ q₃ q₁₆ q₆ rest e = e
+first_five false true q₃ q₁₆ q₆ rest e = e
+first_five false false true q₁₆ q₆ rest e = e
+first_five false false false true q₆ rest e = e
+first_five false false false false true rest e = e
+first_five false false false false false rest e = cc
 
 module _ {index : Index} {s : Slices} {wrong : Bool} {A : Type 0} {r₁ : Result A Refusal} (d : Decided index s wrong [] r₁) where
   pub decided_before : {B : Type 0} (rest : List Test) {e : Refusal} → r₁ ≡ Err e → Decided index s wrong rest {A = B} (Err e)
   unfolding index_tests shown stored store_ops store_view state_of
-  decided_before rest z = record { does = first_four (bad₁ index) (bad₂ index) (bad₃ index (lengths_of s) || wrong) (index_fault index s index.capacity) rest (ap back (sym z) ∙ d.does) }
+  decided_before rest z = record { does = first_five (bad₁ index) (bad₂ index) (bad₃ index (lengths_of s) || wrong) (bad₁₆ s) (index_fault index s index.capacity) rest (ap back (sym z) ∙ d.does) }
 
   -- and where none of those does they decide
   pub decided_after : {B : Type 0} (rest : List Test) (r : Result B Refusal) {a : A} → r₁ ≡ Ok a → back r ≡ first_of rest → Decided index s wrong rest r
   unfolding index_tests shown stored store_ops store_view state_of
   decided_after rest r z k =
-      let f = (none_of (bad₁ index) (bad₂ index) (bad₃ index (lengths_of s) || wrong) (index_fault index s index.capacity) [] (ap back (sym z) ∙ d.does)).0 in
-      record { does = rw (f.one, f.two, f.three, f.six) k }
+      let f = (none_of (bad₁ index) (bad₂ index) (bad₃ index (lengths_of s) || wrong) (bad₁₆ s) (index_fault index s index.capacity) [] (ap back (sym z) ∙ d.does)).0 in
+      record { does = rw (f.one, f.two, f.three, f.sixteen, f.six) k }
 
--- an index of which none of the four holds: all that a call may rest on
-four_passed : (index : Index) (s : Slices) (wrong : Bool) → Four (bad₁ index) (bad₂ index) (bad₃ index (lengths_of s) || wrong) (index_fault index s index.capacity) → Passed index s
+-- an index of which none of the five holds: all that a call may rest on
+five_passed : (index : Index) (s : Slices) (wrong : Bool) → Five (bad₁ index) (bad₂ index) (bad₃ index (lengths_of s) || wrong) (bad₁₆ s) (index_fault index s index.capacity) → Passed index s
 unfolding store_view state_of
-four_passed index s wrong f =
+five_passed index s wrong f =
     let m = sizes_of index in
     let sized = not-false (sizes_ok limits m) f.one in
     let b = ranges m sized in
@@ -254,6 +273,7 @@ four_passed index s wrong f =
       pool_long = ap (λ x. x.pool) l;
       numbers_long = ap (λ x. x.numbers) l;
       summary_long = ap (λ x. x.summary) l;
+      weights_long = ap (λ x. x.weights) l;
       dim_low = b.dim_low;
       dim_high = b.dim_high;
       capacity_low = b.capacity_low;
@@ -262,6 +282,7 @@ four_passed index s wrong f =
       degree_high = b.degree_high;
       sizes_right = sized;
       alpha_right = not-false (alpha_ok index.alpha) f.two;
+      weights_right = not-false (weights_ok limits s.weights) f.sixteen;
       entry_inside = ltb-true index.entry index.capacity (not-false i p.1);
       live_right = right;
       guard_right = o.1;
@@ -274,23 +295,24 @@ pub shared_none : (lent : Lengths) (w : State View) (wrong : Bool) (rest : List 
 unfolding index_tests
 shared_none lent w wrong rest e =
     let v = w.graph in
-    go (not (sizes_ok limits v.sizes)) (not (alpha_ok v.sizes.alpha)) (not (lengths_ok limits v.sizes lent)) wrong
+    go (not (sizes_ok limits v.sizes)) (not (alpha_ok v.sizes.alpha)) (not (lengths_ok limits v.sizes lent)) wrong (not (weights_ok limits w.weights))
     (not (eqb w.live (length (live_slots v))) || not (ltb v.entry v.sizes.capacity) || guard_fault limits w.guard
     || not (labels_ok v.live v.sizes.capacity w.live w.numbers w.summary)) e
   where
-    go : (q₁ q₂ q₃ x q₆ : Bool) → first_of (four q₁ q₂ (q₃ || x) q₆ rest) ≡ none → first_of (four q₁ q₂ (q₃ || false) q₆ []) ≡ none
-    go true q₂ q₃ x q₆ h = cc
-    go false true q₃ x q₆ h = cc
-    go false false true x q₆ h = cc
-    go false false false true q₆ h = cc
-    go false false false false true h = cc
-    go false false false false false h = refl
+    go : (q₁ q₂ q₃ x q₁₆ q₆ : Bool) → first_of (five q₁ q₂ (q₃ || x) q₁₆ q₆ rest) ≡ none → first_of (five q₁ q₂ (q₃ || false) q₁₆ q₆ []) ≡ none
+    go true q₂ q₃ x q₁₆ q₆ h = cc
+    go false true q₃ x q₁₆ q₆ h = cc
+    go false false true x q₁₆ q₆ h = cc
+    go false false false true q₁₆ q₆ h = cc
+    go false false false false true q₆ h = cc
+    go false false false false false true h = cc
+    go false false false false false false h = refl
 
 -- so of an index of which no test of a call holds
 pub passed_none : (index : Index) (s : Slices) (wrong : Bool) (rest : List Test)
     → first_of (index_tests limits (lengths_of s) (shown stored (state_of index s)) wrong rest) ≡ none → Passed index s
 unfolding index_tests shown stored store_ops store_view state_of
-passed_none index s wrong rest h = four_passed index s wrong (none_of _ _ _ _ rest (sym h)).0
+passed_none index s wrong rest h = five_passed index s wrong (none_of _ _ _ _ _ rest (sym h)).0
 
 module _ {index : Index} {s : Slices} {wrong : Bool} {rest : List Test} {A : Type 0} {r : Result A Refusal} (d : Decided index s wrong rest r) where
   -- the number of an error is the number given
@@ -302,9 +324,9 @@ module _ {index : Index} {s : Slices} {wrong : Bool} {rest : List Test} {A : Typ
     pub let_through : first_of (index_tests limits (lengths_of s) (shown stored (state_of index s)) wrong rest) ≡ none
     let_through = sym d.does ∙ ap back z
 
-    none_found : Four (bad₁ index) (bad₂ index) (bad₃ index (lengths_of s) || wrong) (index_fault index s index.capacity) × (none ≡ first_of rest)
+    none_found : Five (bad₁ index) (bad₂ index) (bad₃ index (lengths_of s) || wrong) (bad₁₆ s) (index_fault index s index.capacity) × (none ≡ first_of rest)
     unfolding index_tests shown stored store_ops store_view state_of
-    none_found = none_of _ _ _ _ rest (sym let_through)
+    none_found = none_of _ _ _ _ _ rest (sym let_through)
 
     -- nor does a test of the call's own hold
     pub own_none : first_of rest ≡ none
@@ -315,7 +337,7 @@ module _ {index : Index} {s : Slices} {wrong : Bool} {rest : List Test} {A : Typ
 
     -- and says all that a call may rest on
     pub passed : Passed index s
-    passed = four_passed index s wrong none_found.0
+    passed = five_passed index s wrong none_found.0
 
 -- what the functions on rows and on vectors ask
 module _ {index : Index} {s : Slices} (p : Passed index s) where
@@ -330,6 +352,10 @@ module _ {index : Index} {s : Slices} (p : Passed index s) where
   pub passed_bytes : Bytes index.dim (length s.marks) s.vectors
   unfolding state_of
   passed_bytes = record { long = rw p.shaped.marks_long p.shaped.vectors_long; small = p.dim_high }
+
+  -- the weights measure
+  pub passed_weighing : Weighing s.weights
+  passed_weighing = weights_weigh s.weights p.weights_right
 
   -- the numbers can be looked up
   pub passed_listed : Listed s.numbers s.summary index.live

@@ -1,3 +1,4 @@
 pub mod Decide
+pub mod Weigh
 pub mod Makes
 pub mod Calls

@@ -15,13 +15,13 @@ use Rattle.calls.specs.Runs.{value_of, Run}
 use Rattle.index.specs.Index.{sizes, state_of}
 
 -- what making is given, one by one
-abbrev pub making : ℕ → ℕ → ℕ → Float → ℕ → ℕ → List ℕ → List ℕ → List ℕ → Making
-making dim capacity degree alpha entry count bytes rows numbers =
-    record { sizes = sizes dim capacity degree alpha; count = count; bytes = bytes; rows = rows; entry = entry; numbers = numbers }
+abbrev pub making : ℕ → ℕ → ℕ → Float → ℕ → ℕ → List ℕ → List ℕ → List ℕ → List ℕ → Making
+making dim capacity degree alpha entry count bytes rows numbers weights =
+    record { sizes = sizes dim capacity degree alpha; count = count; bytes = bytes; rows = rows; entry = entry; numbers = numbers; weights = weights }
 
 -- as the code has it
 abbrev pub making_of : lent.Making → Making
-making_of m = making m.dim m.capacity m.degree m.alpha m.entry m.count m.bytes.now m.rows.now m.numbers.now
+making_of m = making m.dim m.capacity m.degree m.alpha m.entry m.count m.bytes.now m.rows.now m.numbers.now m.weights.now
 
 -- the slices as they are lent, and as they are left
 module _ (m : Making) (before after : Slices) where

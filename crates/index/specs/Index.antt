@@ -1,5 +1,6 @@
--- The index by value with its eight lent slices, as the definitions' state; the size answer. Assumes nothing.
+-- The index by value with its nine lent slices, as the definitions' state; the size answer. Assumes nothing.
 use Rattle.std.specs.Prelude.{ℕ, cond, Float, Option, Some, None, Result, Ok, Err}
+use Rattle.vectors.specs.Distance.{distance}
 use Rattle.slots.specs.Sizes.{Sizes, Slices, limits, sizes_ok}
 use Rattle.slots.specs.Sizes as Sizes
 use Rattle.slots.specs.Scratch.{size_answer}
@@ -36,6 +37,7 @@ lengths_in l =
       pool = l.pool;
       numbers = l.numbers;
       summary = l.summary;
+      weights = l.weights;
     }
 
 unfoldable pub guard_of : Option Guard → Guards.Guard
@@ -51,4 +53,4 @@ state_of i s = state (index_value i) s
 
 -- the graph in its slices
 abbrev pub arrays_of : Index → Slices → Arrays
-arrays_of i s = arrays i.dim i.degree s.vectors s.targets s.edges s.versions s.marks
+arrays_of i s = arrays (distance s.weights) i.dim i.degree s.vectors s.targets s.edges s.versions s.marks

@@ -1,8 +1,8 @@
--- The refusals of the code, by the numbers of document 01's table and document 02's 15. Assumes nothing.
+-- The refusals of the code, by the numbers of document 01's table and document 02's 15 and 16. Assumes nothing.
 use Rattle.std.specs.Prelude.{ℕ, Result, Ok, Err}
 use Rattle.std.proofs.Math.Option.{Option, none, some}
 use Rattle.index.specs.declared.Refusal.{Refusal}
-use Rattle.index.specs.declared.Refusal.TheVariants.{Sizes, Alpha, Lengths, Count, Names, Index, Limits, Scratch, Bytes, Full, GuardOff, NoneLive, NoLandmark, Numbers}
+use Rattle.index.specs.declared.Refusal.TheVariants.{Sizes, Alpha, Lengths, Count, Names, Index, Limits, Scratch, Bytes, Full, GuardOff, NoneLive, NoLandmark, Numbers, Weights}
 
 abbrev pub number_of : Refusal → ℕ
 number_of Sizes = 1
@@ -19,6 +19,7 @@ number_of GuardOff = 11
 number_of NoneLive = 12
 number_of NoLandmark = 13
 number_of Numbers = 15
+number_of Weights = 16
 
 -- the number that a call is turned back with; none where it is carried out
 abbrev pub turned_back : {A : Type 0} → Result A Refusal → Option ℕ

@@ -1,4 +1,4 @@
--- A run of a call on an index by value and its eight slices, as the theorem over runs takes it. Assumes nothing.
+-- A run of a call on an index by value and its nine slices, as the theorem over runs takes it. Assumes nothing.
 use Rattle.std.specs.Prelude.{ℕ, List, []}
 use Rattle.slots.specs.Sizes.{Slices}
 use Rattle.index.specs.declared.Index.{Index}

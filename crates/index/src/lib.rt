@@ -1,4 +1,4 @@
-// An index by value and the eight slices that are lent beside it: making one, and the tests that all calls share.
+// An index by value and the nine slices that are lent beside it: making one, and the tests that all calls share.
 #![tactic(auto)]
 
 mod making;
@@ -8,7 +8,7 @@ mod slices;
 use guard::Config;
 pub use making::{Making, create};
 pub use refusals::scratch_words;
-pub use slices::{DeleteSlices, EnableSlices, InsertSlices, NewSlices, Slices};
+pub use slices::{DeleteSlices, EnableSlices, InsertSlices, NewSlices, Slices, space};
 
 // A guard that is on: its settings, and the length of its landmark pool.
 #[derive(Clone, Copy)]
@@ -17,7 +17,7 @@ pub struct Guard {
     pub pool: u32,
 }
 
-// An index without its eight slices; its guard may be off.
+// An index without its nine slices; its guard may be off.
 #[derive(Clone, Copy)]
 pub struct Index {
     pub dim: u32,
@@ -29,7 +29,7 @@ pub struct Index {
     pub guard: Option<Guard>,
 }
 
-// The lengths of the eight slices.
+// The lengths of the nine slices.
 #[derive(Clone, Copy, PartialEq)]
 pub struct Lengths {
     pub vectors: usize,
@@ -40,9 +40,10 @@ pub struct Lengths {
     pub pool: usize,
     pub numbers: usize,
     pub summary: usize,
+    pub weights: usize,
 }
 
-// Why a call is turned back: the rows of document 01's table, by their numbers, and document 02's 15. `refusal as u32` is the number.
+// Why a call is turned back: the rows of document 01's table, by their numbers, and document 02's 15 and 16. `refusal as u32` is the number.
 #[derive(Clone, Copy, PartialEq, Eq, Debug)]
 pub enum Refusal {
     // dim, capacity or degree
@@ -68,4 +69,6 @@ pub enum Refusal {
     NoLandmark = 13,
     // a figure number is 0, taken, or twice in the list
     Numbers = 15,
+    // a weight is outside its range, or their sum is over its limit
+    Weights = 16,
 }

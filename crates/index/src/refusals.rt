@@ -1,7 +1,7 @@
 // The tests of document 01's table that calls share, and the size answer. A test says what is bad, as its row does: one that gave the row's error as a `Result`
 // would be no shorter, and `check_sizes` and `check_index` would show less well in which order their rows are tested.
-ghost use Rattle.std.specs.Prelude.{not, ◌∷◌, [], ◌≡◌, ◌*◌, Float, ltb, length};
-ghost use Rattle.slots.specs.Sizes.{limits, within, sizes_ok, alpha_ok, exact, lengths_ok};
+ghost use Rattle.std.specs.Prelude.{not, ◌∷◌, [], ◌≡◌, ◌*◌, ◌≤◌, Float, ltb, length};
+ghost use Rattle.slots.specs.Sizes.{limits, within, sizes_ok, alpha_ok, weights_ok, exact, lengths_ok};
 ghost use Rattle.guard.specs.Lent.{config_of};
 ghost use Rattle.calls.specs.Refusals.{first_of, guard_fault, config_over, config_zero};
 ghost use Rattle.slots.specs.Scratch.{size_answer};
@@ -49,7 +49,7 @@ pub fn product(a: u32, b: u32) -> usize
     a as usize * b as usize
 }
 
-// The lengths that the eight slices of an index of these sizes have.
+// The lengths that the nine slices of an index of these sizes have.
 #[tactic(auto, unfolding(slots::specs::Sizes::limits))]
 fn exact_lengths(dim: u32, capacity: u32, degree: u32) -> Lengths
     ensures { (alpha : Float) → lengths_in result ≡ exact limits (sizes dim capacity degree alpha) }
@@ -65,14 +65,29 @@ fn exact_lengths(dim: u32, capacity: u32, degree: u32) -> Lengths
         pool: limits::POOL as usize,
         numbers: count,
         summary: count,
+        weights: dim as usize,
     }
 }
 
-// Row 3, of the eight slices of an index: one of them has another length. Sizes one by one, as for row 1.
+// Row 3, of the nine slices of an index: one of them has another length. Sizes one by one, as for row 1.
 fn lengths_bad(dim: u32, capacity: u32, degree: u32, lent: Lengths) -> bool
     ensures { (alpha : Float) → result ≡ not (lengths_ok limits (sizes dim capacity degree alpha) (lengths_in lent)) }
 {
     lent != exact_lengths(dim, capacity, degree)
+}
+
+// Row 16: a weight is outside 1 to 4, or their sum is over 256. With no exit, so that the compiler takes many weights at a time.
+pub fn weights_bad(weights: &[u8]) -> bool
+    requires { length weights.now ≤ 256 }
+    ensures { result ≡ not (weights_ok limits weights.now) }
+{
+    let mut bad = false;
+    let mut sum: u16 = 0;
+    for weight in weights {
+        bad |= !(1..=limits::WEIGHT).contains(weight);
+        sum += u16::from(*weight);
+    }
+    bad || limits::WEIGHT_SUM < u32::from(sum)
 }
 
 // Row 7, of a guard's settings: one of them is over its limit.
@@ -118,7 +133,7 @@ fn index_bad(index: Index, slices: &Slices<'_>) -> bool
         || labels_bad(slices.marks, slices.numbers, slices.summary, live)
 }
 
-// Turns a call or a making back by the first of rows 1, 2 and 3 that holds of its sizes, its alpha and the lengths of its eight slices.
+// Turns a call or a making back by the first of rows 1, 2 and 3 that holds of its sizes, its alpha and the lengths of its nine slices.
 pub fn check_sizes(
     dim: u32,
     capacity: u32,
@@ -140,8 +155,8 @@ pub fn check_sizes(
     Ok(())
 }
 
-// Turns a call back by the first of rows 1, 2, 3 and 6 that holds. `wrong` is whether the call's own part of row 3 holds: it stands between the index's rows,
-// so what the call found comes in as a value. It chooses no step.
+// Turns a call back by the first of rows 1, 2, 3, 16 and 6 that holds. `wrong` is whether the call's own part of row 3 holds: it stands between the index's
+// rows, so what the call found comes in as a value. It chooses no step.
 pub fn check_index(index: Index, slices: &Slices<'_>, wrong: bool) -> Result<(), Refusal>
     ensures { Decided index (slices_of slices.now) wrong [] result }
 {
@@ -154,6 +169,9 @@ pub fn check_index(index: Index, slices: &Slices<'_>, wrong: bool) -> Result<(),
     )?;
     if wrong {
         return Err(Refusal::Lengths);
+    }
+    if weights_bad(slices.weights) {
+        return Err(Refusal::Weights);
     }
     if index_bad(index, slices) {
         return Err(Refusal::Index);

@@ -1,10 +1,13 @@
-// The eight slices of an index, as its calls are lent them: by `&mut` those that the call writes. One struct with a type parameter for each slice would be no
+// The nine slices of an index, as its calls are lent them: by `&mut` those that the call writes. One struct with a type parameter for each slice would be no
 // plainer than these, so their `read`s are alike.
-ghost use Rattle.std.specs.Prelude.{◌≡◌};
+ghost use Rattle.std.specs.Prelude.{◌≡◌, length};
+ghost use Rattle.vectors.specs.Distance.{distance};
+ghost use Rattle.vectors.specs.Weights.{Weighing};
+ghost use Rattle.vectors.specs.Lent.{measure_of};
 
 use super::{Index, Lengths};
 use slots::{Graph, Rows};
-use vectors::Space;
+use vectors::{Space, Weights};
 
 // To be read.
 #[derive(Clone, Copy)]
@@ -17,6 +20,7 @@ pub struct Slices<'a> {
     pub pool: &'a [u32],
     pub numbers: &'a [u32],
     pub summary: &'a [u32],
+    pub weights: &'a [u8],
 }
 
 // To be written by making.
@@ -30,9 +34,10 @@ pub struct NewSlices<'a> {
     pub pool: &'a mut [u32],
     pub numbers: &'a mut [u32],
     pub summary: &'a mut [u32],
+    pub weights: &'a mut [u8],
 }
 
-// To be written by an insert, which leaves versions and pool.
+// To be written by an insert, which leaves versions, pool and weights.
 #[derive(Drop)]
 pub struct InsertSlices<'a> {
     pub vectors: &'a mut [u8],
@@ -43,9 +48,10 @@ pub struct InsertSlices<'a> {
     pub pool: &'a [u32],
     pub numbers: &'a mut [u32],
     pub summary: &'a mut [u32],
+    pub weights: &'a [u8],
 }
 
-// To be written by a delete, which leaves vectors and pool.
+// To be written by a delete, which leaves vectors, pool and weights.
 #[derive(Drop)]
 pub struct DeleteSlices<'a> {
     pub vectors: &'a [u8],
@@ -56,6 +62,7 @@ pub struct DeleteSlices<'a> {
     pub pool: &'a [u32],
     pub numbers: &'a mut [u32],
     pub summary: &'a mut [u32],
+    pub weights: &'a [u8],
 }
 
 // To be written by enabling the guard, which writes the pool alone.
@@ -69,10 +76,26 @@ pub struct EnableSlices<'a> {
     pub pool: &'a mut [u32],
     pub numbers: &'a [u32],
     pub summary: &'a [u32],
+    pub weights: &'a [u8],
+}
+
+// The vectors of an index, and the weights that they are measured with. A function, since the borrow checker does not cover a `Space` that is written in place
+// where a graph to be deleted from is made.
+pub fn space<'a>(index: Index, vectors: &'a [u8], weights: &'a [u8]) -> Space<'a>
+    requires weighing { Weighing weights.now }
+    requires weighted { length weights.now ≡ index.dim }
+    ensures dim { result.dim ≡ index.dim }
+    ensures vectors { result.vectors ≡ vectors.entry }
+    ensures measure { measure_of result.weights ≡ distance weights.now }
+{
+    Space {
+        dim: index.dim as usize,
+        weights: Weights::new(weights),
+        vectors,
+    }
 }
 
 impl<'a> Slices<'a> {
-    ghost use Rattle.std.specs.Prelude.{length};
     ghost use Rattle.vectors.specs.Vector.{Bytes};
     ghost use Rattle.slots.specs.Sizes.{lengths_of};
     ghost use Rattle.slots.specs.Lent.{graph_of};
@@ -80,7 +103,7 @@ impl<'a> Slices<'a> {
     ghost use Rattle.index.specs.Index.{lengths_in, arrays_of};
     ghost use Rattle.index.specs.Lent.{slices_of};
 
-    // The lengths of the eight.
+    // The lengths of the nine.
     pub fn lengths(&self) -> Lengths
         ensures { lengths_in result ≡ lengths_of (slices_of self.now) }
     {
@@ -93,20 +116,20 @@ impl<'a> Slices<'a> {
             pool: self.pool.len(),
             numbers: self.numbers.len(),
             summary: self.summary.len(),
+            weights: self.weights.len(),
         }
     }
 
     // The graph of an index that these are the slices of.
     pub fn graph(&self, index: Index) -> Graph<'a>
         requires bytes { Bytes index.dim (length self.now.marks.now) self.now.vectors.now }
+        requires weighing { Weighing self.now.weights.now }
+        requires weighted { length self.now.weights.now ≡ index.dim }
         requires shape { RowShape index.degree self.now.targets.now self.now.edges.now self.now.versions.now self.now.marks.now }
         ensures { graph_of result ≡ arrays_of index (slices_of self.now) }
     {
         Graph {
-            space: Space {
-                dim: index.dim as usize,
-                vectors: self.vectors,
-            },
+            space: space(index, self.vectors, self.weights),
             rows: Rows {
                 degree: index.degree as usize,
                 targets: self.targets,
@@ -134,6 +157,7 @@ impl NewSlices<'_> {
             pool: self.pool,
             numbers: self.numbers,
             summary: self.summary,
+            weights: self.weights,
         }
     }
 }
@@ -154,6 +178,7 @@ impl InsertSlices<'_> {
             pool: self.pool,
             numbers: self.numbers,
             summary: self.summary,
+            weights: self.weights,
         }
     }
 }
@@ -174,6 +199,7 @@ impl DeleteSlices<'_> {
             pool: self.pool,
             numbers: self.numbers,
             summary: self.summary,
+            weights: self.weights,
         }
     }
 }
@@ -194,6 +220,7 @@ impl EnableSlices<'_> {
             pool: self.pool,
             numbers: self.numbers,
             summary: self.summary,
+            weights: self.weights,
         }
     }
 }

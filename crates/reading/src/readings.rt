@@ -4,6 +4,7 @@ ghost use Rattle.std.specs.List.{slice_get};
 ghost use Rattle.lists.specs.Lists.{filter};
 ghost use Rattle.slots.specs.Store.{is_valid, refs_of};
 ghost use Rattle.vectors.specs.Vector.{Bytes};
+ghost use Rattle.vectors.specs.Weights.{Weighing};
 ghost use Rattle.slots.specs.Lent.{graph_of};
 ghost use Rattle.slots.specs.Inner.Rows.{RowShape};
 ghost use Rattle.index.specs.Lent.{slices_of};
@@ -16,7 +17,6 @@ use index::{Index, Refusal, Slices};
 use slots::Graph;
 use slots::marks::{is_valid, live_vector};
 use slots::rows::BLANK;
-use vectors::Space;
 
 // The target with `place` live ones before it in slot `s`'s row; none past the last.
 fn target(graph: &Graph<'_>, s: usize, place: u32) -> Option<u32>
@@ -35,6 +35,8 @@ fn target(graph: &Graph<'_>, s: usize, place: u32) -> Option<u32>
 #[tactic(auto, using(crate::proofs::Shown::target_number), unfolding(crate::specs::Read::reading_of, crate::specs::Read::answer_of, calls::specs::Step::reading, calls::specs::State::stored, slots::specs::Store::store_ops, slots::specs::Store::store_view, index::specs::Index::state_of))]
 fn answer(index: Index, slices: &Slices<'_>, reading: Reading) -> Value
     requires bytes { Bytes index.dim (length slices.now.marks.now) slices.now.vectors.now }
+    requires weighing { Weighing slices.now.weights.now }
+    requires weighted { length slices.now.weights.now ≡ index.dim }
     requires shape { RowShape index.degree slices.now.targets.now slices.now.edges.now slices.now.versions.now slices.now.marks.now }
     ensures { Answers index (slices_of slices.now) reading result }
 {
@@ -76,9 +78,6 @@ pub fn read_vector<'a>(index: Index, slices: &Slices<'a>, slot: u32) -> &'a [u8]
         return &slices.vectors[..0];
     };
     // A space of its own: `slices.graph(index)` says what its vectors are, not that they are the lent ones, of which the result is a part.
-    let space = Space {
-        dim: index.dim as usize,
-        vectors: slices.vectors,
-    };
+    let space = index::space(index, slices.vectors, slices.weights);
     live_vector(&space, slices.marks, slot as usize)
 }

@@ -37,7 +37,7 @@ pub struct Found<'a> {
     pub numbers: &'a mut [u32],
 }
 
-// Turns a search back by the first of rows 1, 2, 3, 6, 7 and 8 that holds.
+// Turns a search back by the first of rows 1, 2, 3, 16, 6, 7 and 8 that holds.
 fn check_search(
     index: Index,
     slices: &Slices<'_>,

@@ -13,6 +13,7 @@ use Rattle.std.proofs.lemmas.Bool.{or_parts}
 use Rattle.lists.specs.Lists.{filter, range}
 use Rattle.lists.proofs.Filter.{filter_length}
 use Rattle.lists.proofs.Ranges.{length_range}
+use Rattle.vectors.specs.Weights.{Weighing}
 use Rattle.slots.specs.Sizes.{Slices, limits}
 use Rattle.slots.specs.Scratch.{size_answer}
 use Rattle.slots.specs.View.{live_slots, emptied}
@@ -35,7 +36,7 @@ use Rattle.calls.proofs.Tests.{first_none}
 use Rattle.index.specs.declared.Index.{Index}
 use Rattle.index.specs.Index.{guard_of, state_of, arrays_of}
 use Rattle.index.specs.Inner.Deciding.{Decided, Passed}
-use Rattle.index.proofs.Decide.{turned_back, let_through, own_none, not_wrong, passed, passed_rows, passed_marks, passed_bytes, step_back, step_on}
+use Rattle.index.proofs.Decide.{turned_back, let_through, own_none, not_wrong, passed, passed_rows, passed_marks, passed_bytes, passed_weighing, step_back, step_on}
 use Rattle.std.specs.Prelude.{Result, Ok, Err}
 use Rattle.index.specs.declared.Refusal.{Refusal}
 use Rattle.index.specs.Refusal.{number_of}
@@ -144,12 +145,12 @@ module _ {index : Index} {s : Slices} (able : Passed index s) (ids : List ℕ) (
         ∙ ap₂ (λ (c : ℕ) (l : List ℕ). summary_of (is_valid s'.marks) c l) so_many numbers_left
 
     -- the index that is left, by value and by its slices, and its stats
-    pub state_left : {i : Index} → s'.pool ≡ s.pool → i ≡ with_entry index entry' (index.live - n)
+    pub state_left : {i : Index} → s'.pool ≡ s.pool → s'.weights ≡ s.weights → i ≡ with_entry index entry' (index.live - n)
         → (state_of i s', stats_left) ≡ deletion stored (state_of index s) (slot_delete ids beam degree)
     unfolding deletion slots_of with_graph state_of stored store_ops store_view
-    state_left p e =
+    state_left p w e =
         ap (λ (j : Index). (state_of j s', stats_left)) e
-        ∙ (λ i. (record { graph = left; live = live_left i; guard = guard_of index.guard; pool = p i; numbers = numbers_left i; summary = summary_left i }, stats_left))
+        ∙ (λ i. (record { graph = left; live = live_left i; guard = guard_of index.guard; pool = p i; numbers = numbers_left i; summary = summary_left i; weights = w i }, stats_left))
         ∙ ap (λ (d : Store × List Stats). let v = store_view d.0 in (with_graph stored (state_of index s) d.0 (live_numbers v.live v.sizes.capacity s.numbers), d.1)) (sym does_delete)
 
 -- ---- a delete of slots
@@ -194,8 +195,8 @@ module _ {index : Index} {s₀ s : Slices} {ids : List ℕ} {beam degree room : 
         (e.0, (first_none 8 short [] e.1).0)
 
     pub deletes_able : Deletable (arrays_of index s) index.entry beam degree ids scratch
-        × (length s.numbers ≡ length s.marks) × (index.live ≤ length s.summary)
-    deletes_able = let k = strike_able able ids beam degree in (delete_able able ids beam degree scratch own.0 own.1, k.0, k.1)
+        × Weighing s.weights × (length s.weights ≡ index.dim) × (length s.numbers ≡ length s.marks) × (index.live ≤ length s.summary)
+    deletes_able = let k = strike_able able ids beam degree in (delete_able able ids beam degree scratch own.0 own.1, passed_weighing able, able.weights_long, k.0, k.1)
 
     not_refused : (before : List Stats) → length before ≡ room → (m : ℕ) → refusal stored (state_of index s) (call before) ≡ some m → ⊥
     unfolding refusal tests state_of stored store_ops store_view shown room_of
@@ -207,17 +208,17 @@ module _ {index : Index} {s₀ s : Slices} {ids : List ℕ} {beam degree room : 
       pub deletes_few : n ≤ index.live
       deletes_few = (fewer_fits able ids beam degree s' b k).0
 
-      pub deletes_on : {c : Changed} → s'.pool ≡ s.pool → c ≡ fewer index entry' n
+      pub deletes_on : {c : Changed} → s'.pool ≡ s.pool → s'.weights ≡ s.weights → c ≡ fewer index entry' n
           → Deletes index s (slot_delete ids beam degree) room scratch s' scratch' (Ok c)
       unfolding tests perform deleted_as index_left written state_of stored store_ops store_view shown room_of call_of slices_of run_refusal
-      deletes_on {c} p e =
-          let w = state_left able ids beam degree s' b k p (ap (λ x. x.index) e) in
+      deletes_on {c} p w e =
+          let left = state_left able ids beam degree s' b k p w (ap (λ x. x.index) e) in
           record {
             stats = map (stats_of scratch' (stats_at index.capacity)) (range 0 n);
             words = λ k g. ap (λ (x : ℕ). map (stats_of scratch' (stats_at index.capacity)) (range 0 x)) (counted k g);
             fits = λ k g. omega (arith, counted k g, b.few, ltb-false room (length ids) (not_wrong d z));
             meets = λ before l. record {
-              does = ap (λ (v : State Store × List Stats). (v.0, deleted v.1)) w ∙ sym (step_on (state_of index s) (call before) (let_through (with_list before l) z));
+              does = ap (λ (v : State Store × List Stats). (v.0, deleted v.1)) left ∙ sym (step_on (state_of index s) (call before) (let_through (with_list before l) z));
               writes = refl;
               keeps = λ m g. absurd (not_refused before l m g);
             };

@@ -13,6 +13,7 @@ use Rattle.std.proofs.lemmas.Bool.{or_parts}
 use Rattle.lists.specs.Lists.{filter, range, elem, put_front}
 use Rattle.lists.proofs.Filtered.{count_both}
 use Rattle.lists.proofs.Ranges.{length_range}
+use Rattle.vectors.specs.Weights.{Weighing}
 use Rattle.slots.specs.Sizes.{Slices, limits, alpha_ok}
 use Rattle.slots.specs.Scratch.{size_answer}
 use Rattle.slots.specs.View.{live_slots}
@@ -38,7 +39,7 @@ use Rattle.calls.proofs.Labelled.{inserting_now, filled_now}
 use Rattle.index.specs.declared.Index.{Index}
 use Rattle.index.specs.Index.{guard_of, state_of, arrays_of}
 use Rattle.index.specs.Inner.Deciding.{Decided, Passed}
-use Rattle.index.proofs.Decide.{decided_before, decided_after, turned_back, let_through, own_none, not_wrong, passed, passed_none, passed_rows, passed_marks, passed_bytes, passed_live, passed_listed, step_back, step_on}
+use Rattle.index.proofs.Decide.{decided_before, decided_after, turned_back, let_through, own_none, not_wrong, passed, passed_none, passed_rows, passed_marks, passed_bytes, passed_weighing, passed_live, passed_listed, step_back, step_on}
 use Rattle.std.specs.Prelude.{Result, Ok, Err}
 use Rattle.index.specs.declared.Refusal.{Refusal}
 use Rattle.index.specs.declared.Refusal.TheVariants as Refused
@@ -214,6 +215,10 @@ module _ {index : Index} {s₀ s : Slices} {a : Insert} {slots scratch : List �
           enough = rw m (omega (arith, insert_enough index.capacity index.degree p.degree_high, ltb-false (length scratch) (size_answer index.capacity) own.1));
         }
 
+    -- the weights measure
+    pub insert_weighed : Weighing s.weights × (length s.weights ≡ index.dim)
+    insert_weighed = (passed_weighing able, able.weights_long)
+
     -- of the slices that the batch leaves
     module _ (s' : Slices) {slots' : List ℕ} {n : ℕ} (b : BatchInserted (arrays_of index s) index.alpha index.entry a.beam a.bytes slots (arrays_of index s') slots' n) where
       lm : length s'.marks ≡ length s.marks
@@ -298,8 +303,8 @@ module _ {index : Index} {s₀ s : Slices} {a : Insert} {slots scratch : List �
             long = omega (arith, given_many, counted, b.count, ls, insert_able.room_in);
           }
 
-      -- of slices with the graph that the batch leaves, and the pool that there was
-      module _ (s₂ : Slices) (left : (arrays_of index s₂ ≡ arrays_of index s') × (s₂.pool ≡ s.pool))
+      -- of slices with the graph that the batch leaves, and the pool and the weights that there were
+      module _ (s₂ : Slices) (left : (arrays_of index s₂ ≡ arrays_of index s') × (s₂.pool ≡ s.pool) × (s₂.weights ≡ s.weights))
           (k : Relabelled s.numbers s.summary index.live slots' a.numbers s₂.numbers s₂.summary) where
         numbers_are : s₂.numbers ≡ write_numbers filled a.numbers s.numbers
         numbers_are = k.numbers_new ∙ ap (λ l. write_numbers l a.numbers s.numbers) front_is
@@ -330,6 +335,7 @@ module _ {index : Index} {s₀ s : Slices} {a : Insert} {slots scratch : List �
               live = live_is_more i;
               guard = guard_of index.guard;
               pool = left.1 i;
+              weights = left.2 i;
               numbers = numbers_are i;
               summary = summary_is i;
             })

@@ -1,5 +1,6 @@
 // Delete.
 ghost use Rattle.std.specs.Prelude.{◌≡◌, ◌≤◌, ltb, length};
+ghost use Rattle.vectors.specs.Weights.{Weighing};
 ghost use Rattle.slots.specs.Sizes.{limits};
 ghost use Rattle.numbers.specs.Inner.Listed.{Struck};
 ghost use Rattle.deletion.specs.Batch.{Deletable, BatchDeleted};
@@ -17,7 +18,6 @@ use index::refusals::{check_index, scratch_short};
 use index::{DeleteSlices, Index, Refusal, Slices};
 use numbers::strike;
 use slots::limits;
-use vectors::Space;
 
 // What a delete asks for: the slots or numbers it names, and how rows are repaired.
 #[derive(Clone, Copy)]
@@ -38,7 +38,7 @@ pub fn delete_over(asked: &Deleting<'_>) -> bool
         || (limits::IDS as usize) < asked.names.len()
 }
 
-// Whether one of rows 1, 2, 3, 6, 7 and 8 turns a delete of slots back: the first. `room` is the length of the list for its stats.
+// Whether one of rows 1, 2, 3, 16, 6, 7 and 8 turns a delete of slots back: the first. `room` is the length of the list for its stats.
 fn check_delete(
     index: Index,
     slices: &Slices<'_>,
@@ -66,15 +66,13 @@ pub fn delete_batch(
     scratch: &mut [u32],
 ) -> Emptied
     requires { Deletable (arrays_of index (delete_slices_of slices.old)) index.entry asked.now.repair_beam asked.now.repair_degree asked.now.names.now scratch.old
+        × Weighing slices.old.weights.now × (length slices.old.weights.now ≡ index.dim)
         × (length slices.old.numbers.now ≡ length slices.old.marks.now) × (index.live ≤ length slices.old.summary.now) }
     ensures { BatchDeleted (arrays_of index (delete_slices_of slices.old)) index.alpha index.entry asked.now.repair_beam asked.now.repair_degree asked.now.names.now
         (arrays_of index (delete_slices_of slices.new)) result.entry result.count scratch.new
         × Struck slices.new.marks.now slices.old.numbers.now slices.old.summary.now index.live slices.new.numbers.now slices.new.summary.now × SameDeleteSlices slices.old slices.new }
 {
-    let space = Space {
-        dim: index.dim as usize,
-        vectors: slices.vectors,
-    };
+    let space = index::space(index, slices.vectors, slices.weights);
     let mut graph = GraphMut {
         space,
         degree: index.degree as usize,

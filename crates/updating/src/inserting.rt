@@ -1,5 +1,6 @@
 // Insert.
 ghost use Rattle.std.specs.Prelude.{not, ◌||◌, ◌≡◌, ◌+◌, ◌-◌, ◌/◌, ◌≤◌, eqb, ltb, length};
+ghost use Rattle.vectors.specs.Weights.{Weighing};
 ghost use Rattle.numbers.specs.Numbers as Numbers;
 ghost use Rattle.insertion.specs.Batch.{Insertable, BatchInserted};
 ghost use Rattle.index.specs.Index.{arrays_of};
@@ -14,6 +15,7 @@ use index::{Index, InsertSlices, Refusal, Slices};
 use insertion::{GraphMut, Selection};
 use numbers::{Labels, enter, repeated, write_numbers};
 use slots::limits;
+use vectors::Weights;
 
 // What an insert asks for: vectors and a number for each, and the beam of their walks.
 #[derive(Clone, Copy)]
@@ -54,7 +56,7 @@ fn taken(labels: &Labels<'_>, given: &[u32]) -> bool
     labels.any_live(given) || repeated(given)
 }
 
-// Whether one of rows 1, 2, 3, 6, 7, 8, 9, 10 and 15 turns an insert back: the first.
+// Whether one of rows 1, 2, 3, 16, 6, 7, 8, 9, 10 and 15 turns an insert back: the first.
 fn check_insert(
     index: Index,
     slices: &Slices<'_>,
@@ -98,7 +100,8 @@ fn insert_batch(
     slots: &mut [u32],
     scratch: &mut [u32],
 ) -> usize
-    requires { Insertable (arrays_of index (insert_slices_of slices.old)) index.alpha index.entry asked.now.beam asked.now.bytes.now slots.old scratch.old }
+    requires { Insertable (arrays_of index (insert_slices_of slices.old)) index.alpha index.entry asked.now.beam asked.now.bytes.now slots.old scratch.old
+        × Weighing slices.old.weights.now × (length slices.old.weights.now ≡ index.dim) }
     ensures { BatchInserted (arrays_of index (insert_slices_of slices.old)) index.alpha index.entry asked.now.beam asked.now.bytes.now slots.old
         (arrays_of index (insert_slices_of slices.new)) slots.new result
         × (slices.new.numbers.now ≡ slices.old.numbers.now) × (slices.new.summary.now ≡ slices.old.summary.now) × SameInsertSlices slices.old slices.new }
@@ -106,6 +109,7 @@ fn insert_batch(
     let versions = slices.versions;
     let mut graph = GraphMut {
         dim: index.dim as usize,
+        weights: Weights::new(slices.weights),
         degree: index.degree as usize,
         vectors: slices.vectors,
         targets: slices.targets,

@@ -41,7 +41,7 @@ guarded_index i c n =
 
 -- the slices with another pool
 abbrev pub with_pool : Slices → List ℕ → Slices
-with_pool s pool = slices s.vectors s.targets s.edges s.versions s.marks pool s.numbers s.summary
+with_pool s pool = slices s.vectors s.targets s.edges s.versions s.marks pool s.numbers s.summary s.weights
 
 -- the status of a guard, by the marks
 pub record Stood (g : Guards.Guard) (marks pool : List ℕ) (r : Status) : Type 0 where

@@ -1,7 +1,7 @@
 -- What the tests decide, and what is known where none that calls share holds. Assumes nothing.
 use Rattle.std.specs.Prelude.{ℕ, ◌≤◌, ◌<◌, Bool, true, false, not, ◌||◌, List, ◌≡◌, eqb, ltb, length, Result}
 use Rattle.lists.specs.Lists.{filter, range}
-use Rattle.slots.specs.Sizes.{Slices, Lengths, lengths_of, limits, sizes_ok, alpha_ok}
+use Rattle.slots.specs.Sizes.{Slices, Lengths, lengths_of, limits, sizes_ok, alpha_ok, weights_ok}
 use Rattle.slots.specs.View.{live_slots}
 use Rattle.slots.specs.Store.{Shaped, is_valid, store_view}
 use Rattle.numbers.specs.Numbers.{Labelled, labels_ok}
@@ -27,12 +27,13 @@ pub record Judged (m : Making) (lent : Lengths) {A : Type 0} (r : Result A Refus
 pub record Decided (index : Index) (s : Slices) (wrong : Bool) (rest : List Test) {A : Type 0} (r : Result A Refusal) : Type 0 where
   pub does : turned_back r ≡ first_of (index_tests limits (lengths_of s) (shown stored (state_of index s)) wrong rest)
 
--- an index and eight slices of which no shared test holds
+-- an index and nine slices of which no shared test holds
 pub record Passed (index : Index) (s : Slices) : Type 0 where
   pub shaped : Shaped index.capacity (state_of index s).graph.arrays
   pub pool_long : length s.pool ≡ limits.pool
   pub numbers_long : length s.numbers ≡ index.capacity
   pub summary_long : length s.summary ≡ index.capacity
+  pub weights_long : length s.weights ≡ index.dim
   pub dim_low : 1 ≤ index.dim
   pub dim_high : index.dim ≤ 256
   pub capacity_low : 1 ≤ index.capacity
@@ -41,6 +42,7 @@ pub record Passed (index : Index) (s : Slices) : Type 0 where
   pub degree_high : index.degree ≤ 64
   pub sizes_right : sizes_ok limits (sizes_of index) ≡ true
   pub alpha_right : alpha_ok index.alpha ≡ true
+  pub weights_right : weights_ok limits s.weights ≡ true
   pub entry_inside : index.entry < index.capacity
   pub live_right : index.live ≡ length (live_slots (store_view (state_of index s).graph))
   pub guard_right : guard_fault limits (guard_of index.guard) ≡ false

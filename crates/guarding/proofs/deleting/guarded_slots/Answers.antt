@@ -27,7 +27,7 @@ returns-in_err-guard c =
         read = c.read-lent.ensures;
         tested = tested_back c.args.index (slices_of c.read-lent.result) _ _ c.args.scratch.now c.check_guarded.ensures.0 c.args.asked.now.names.now l.checked.now l.lost.now c.in_err-guard.was;
       }) refl,
-      record { vectors = refl; targets = refl; edges = refl; versions = refl; marks = refl; pool = refl; numbers = refl; summary = refl },
+      record { vectors = refl; targets = refl; edges = refl; versions = refl; marks = refl; pool = refl; numbers = refl; summary = refl; weights = refl },
       record { checked = refl; lost = refl },
     )
 
@@ -49,7 +49,7 @@ with_fewer-requires c =
 pub returns-then-not-report : goal.returns-then-not-report
 returns-then-not-report c = (
   guards_deferred (known (goal.at.returns-then-not-report c).After-report_by-report) refl (not-true _ c.if-not-report.true),
-  record { vectors = refl; targets = refl; edges = refl; versions = refl; marks = refl; pool = refl; numbers = refl; summary = refl },
+  record { vectors = refl; targets = refl; edges = refl; versions = refl; marks = refl; pool = refl; numbers = refl; summary = refl; weights = refl },
   c.report_by-report.ensures.1,
 )
 
@@ -57,7 +57,7 @@ pub returns : goal.returns
 returns c =
     let e = c.delete_batch-emptied.ensures in (
       guards_applied (known (goal.at.returns c).After-report_by-report) refl (delete_slices_of c.delete_batch-emptied.new.slices) e.0 e.1
-          (ap (λ x. x.now) e.2.pool) c.report_by-report.auto.scratch c.delete_batch-emptied.auto.scratch (not-false _ c.if-not-report.false) c.with_fewer.ensures,
+          (ap (λ x. x.now) e.2.pool) (ap (λ x. x.now) e.2.weights) c.report_by-report.auto.scratch c.delete_batch-emptied.auto.scratch (not-false _ c.if-not-report.false) c.with_fewer.ensures,
       e.2,
       c.report_by-report.ensures.1,
     )

@@ -1,5 +1,5 @@
 use mathlib.Core.Path.{refl}
-use Rattle.index.proofs.Decide.{passed, passed_bytes, passed_rows, handed_on}
+use Rattle.index.proofs.Decide.{passed, passed_bytes, passed_weighing, passed_rows, handed_on}
 use Rattle.reading.proofs.Finds.{searches_back, search_ready, search_inside, search_list, search_fits, search_named, search_first, search_copies, searches_on}
 use Rattle.reading.proofs.searching.search.Goals as goal
 
@@ -9,6 +9,12 @@ returns-in_err-check_search c =
 
 pub graph-graph-requires-clause-bytes : goal.graph-graph-requires-clause-bytes
 graph-graph-requires-clause-bytes c = passed_bytes (passed c.check_search.ensures c.in_ok-check_search.was)
+
+pub graph-graph-requires-clause-weighing : goal.graph-graph-requires-clause-weighing
+graph-graph-requires-clause-weighing c = passed_weighing (passed c.check_search.ensures c.in_ok-check_search.was)
+
+pub graph-graph-requires-clause-weighted : goal.graph-graph-requires-clause-weighted
+graph-graph-requires-clause-weighted c = (passed c.check_search.ensures c.in_ok-check_search.was).weights_long
 
 pub graph-graph-requires-clause-shape : goal.graph-graph-requires-clause-shape
 graph-graph-requires-clause-shape c = passed_rows (passed c.check_search.ensures c.in_ok-check_search.was)

@@ -13,7 +13,7 @@ pub returns-in_err-check_delete : goal.returns-in_err-check_delete
 returns-in_err-check_delete c =
     rw (handed_on c.from_residual.result c.from_residual.ensures.1) (
       deletes_back (checked (goal.at.returns-in_err-check_delete c).After-check_delete) c.in_err-check_delete.was,
-      record { vectors = refl; targets = refl; edges = refl; versions = refl; marks = refl; pool = refl; numbers = refl; summary = refl },
+      record { vectors = refl; targets = refl; edges = refl; versions = refl; marks = refl; pool = refl; numbers = refl; summary = refl; weights = refl },
     )
 
 pub delete_batch-emptied-requires : goal.delete_batch-emptied-requires
@@ -30,6 +30,6 @@ pub returns : goal.returns
 returns c =
     let e = c.delete_batch-emptied.ensures in (
       deletes_on (checked (goal.at.returns c).After-check_delete) c.in_ok-check_delete.was
-          (delete_slices_of c.delete_batch-emptied.new.slices) e.0 e.1 (ap (λ x. x.now) e.2.pool) c.with_fewer.ensures,
+          (delete_slices_of c.delete_batch-emptied.new.slices) e.0 e.1 (ap (λ x. x.now) e.2.pool) (ap (λ x. x.now) e.2.weights) c.with_fewer.ensures,
       e.2,
     )

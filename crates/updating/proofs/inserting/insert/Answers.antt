@@ -3,7 +3,7 @@ use native.Mathlib.Omega.{arith}
 use Rattle.index.proofs.Decide.{handed_on}
 use Rattle.index.specs.Lent.{insert_slices_of, slices_of}
 use Rattle.updating.specs.Insert.{inserting_of}
-use Rattle.updating.proofs.Fills.{InsertChecked, inserts_back, insert_able, more_fits, insert_labelable, inserts_on}
+use Rattle.updating.proofs.Fills.{InsertChecked, inserts_back, insert_able, insert_weighed, more_fits, insert_labelable, inserts_on}
 use Rattle.updating.proofs.inserting.insert.Goals.{After-check_insert}
 use Rattle.updating.proofs.inserting.insert.Goals as goal
 
@@ -14,12 +14,14 @@ pub returns-in_err-check_insert : goal.returns-in_err-check_insert
 returns-in_err-check_insert c =
     rw (handed_on c.from_residual.result c.from_residual.ensures.1) (
       inserts_back (checked (goal.at.returns-in_err-check_insert c).After-check_insert) c.in_err-check_insert.was,
-      record { vectors = refl; targets = refl; edges = refl; versions = refl; marks = refl; pool = refl; numbers = refl; summary = refl },
+      record { vectors = refl; targets = refl; edges = refl; versions = refl; marks = refl; pool = refl; numbers = refl; summary = refl; weights = refl },
     )
 
 pub insert_batch-n-requires : goal.insert_batch-n-requires
 insert_batch-n-requires c =
-    insert_able (checked (goal.at.insert_batch-n-requires c).After-check_insert) c.in_ok-check_insert.was
+    let k = checked (goal.at.insert_batch-n-requires c).After-check_insert in
+    let w = insert_weighed k c.in_ok-check_insert.was in
+    (insert_able k c.in_ok-check_insert.was, w.0, w.1)
 
 pub overflow_cast-n : goal.overflow_cast-n
 overflow_cast-n c =
@@ -46,7 +48,7 @@ returns c =
     let e = c.insert_batch-n.ensures in
     let labelled = rw (e.1, e.2) at c.label.ensures in (
       inserts_on (checked (goal.at.returns c).After-check_insert) c.in_ok-check_insert.was
-          (insert_slices_of c.insert_batch-n.new.slices) e.0 _ (refl, ap (λ x. x.now) e.3.pool) labelled c.with_more.ensures,
+          (insert_slices_of c.insert_batch-n.new.slices) e.0 _ (refl, ap (λ x. x.now) e.3.pool, ap (λ x. x.now) e.3.weights) labelled c.with_more.ensures,
       record {
         vectors = e.3.vectors;
         targets = e.3.targets;
@@ -56,5 +58,6 @@ returns c =
         pool = e.3.pool;
         numbers = e.3.numbers;
         summary = e.3.summary;
+        weights = e.3.weights;
       },
     )
