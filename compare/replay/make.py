@@ -3,8 +3,8 @@
 
 Drives the Rust (compare/rust, variant `sorted`) through random histories and writes them with its answers to LIST, which the
 program `replay` performs. The Rust gives answers; the refusals that only the port has are worked out here, from document 01's
-table, and figure numbers, which the Rust does not know, from document 02: it is given the slots that numbers name. Some lines are
-made wrong on purpose (`spoil`); PRINTED is what `replay` must print: the number of each of these, and the counts.
+table, and figure numbers, which the Rust does not know, from document 02: it is given the slots that numbers name. It measures with
+the weights of the index. Some lines are made wrong on purpose (`spoil`); PRINTED is what `replay` must print: the number of each of these, and the counts.
 """
 import subprocess
 import sys
@@ -14,7 +14,7 @@ BLANK = 4294967295
 NAN = 4294967295  # as an alpha
 ONE = 1 << 24  # alpha 1.0
 POOL = 1024
-SLOTS, DISTS, FOUND, WORDS = 8, 9, 10, 11  # places of the lengths lent, after the index's eight
+SLOTS, DISTS, FOUND, WORDS = 9, 10, 11, 12  # places of the lengths lent, after the index's nine
 BY_SLOT, BY_NUMBER = 0, 1  # what the names of a delete are
 
 
@@ -39,14 +39,14 @@ class Random:
 
 
 class Oracle:
-    """The Rust, run anew on the calls since the last making each time that it is asked."""
+    """The Rust, run anew on the calls since the last making, which its weights go before, each time that it is asked."""
 
     def __init__(self, path):
         self.path, self.calls = path, []
 
     def call(self, *words):
-        if words[0] == "make":
-            self.calls = []
+        if words[0] == "weights":
+            self.calls = []  # those of the making that comes next
         self.calls.append(joined(*words))
 
     def answers(self, lines):
@@ -124,7 +124,12 @@ def settings_over(settings):
 
 def exact(dim, capacity, degree):
     rows = capacity * degree
-    return [capacity * dim, rows, rows, capacity, capacity, POOL, capacity, capacity]
+    return [capacity * dim, rows, rows, capacity, capacity, POOL, capacity, capacity, dim]
+
+
+def overweight(weights):
+    """Row 16: a weight is outside 1 to 4, or their sum exceeds 256."""
+    return any(not 1 <= w <= 4 for w in weights) or sum(weights) > 256
 
 
 def unfit(numbers, live):
@@ -132,14 +137,16 @@ def unfit(numbers, live):
     return 0 in numbers or len(set(numbers)) < len(numbers) or not live.isdisjoint(numbers)
 
 
-def making_refusal(sizes, alpha, entry, count, lent, given, rows, numbers):
+def making_refusal(sizes, alpha, entry, count, lent, given, rows, numbers, weights):
     dim, capacity, degree = sizes
     if sizes_bad(*sizes):
         return 1
     if alpha_bad(alpha):
         return 2
-    if lent[:8] != exact(*sizes) or len(given) != count * dim or len(rows) != count * degree or len(numbers) != count:
+    if lent[:9] != exact(*sizes) or len(given) != count * dim or len(rows) != count * degree or len(numbers) != count or len(weights) != dim:
         return 3
+    if overweight(weights):
+        return 16
     if count > capacity:
         return 4
     if any(t != BLANK and t >= count for t in rows) or not (entry < count or (count == 0 and entry == 0)):
@@ -151,9 +158,10 @@ class Book:
     """What is known of the index that the list has made: enough to say which calls are turned back."""
 
     def __init__(self):
-        self.sizes, self.alpha, self.entry, self.live, self.marked, self.lent = [0, 0, 0], 0, 0, 0, 0, [0] * 12
+        self.sizes, self.alpha, self.entry, self.live, self.marked, self.lent = [0, 0, 0], 0, 0, 0, 0, [0] * 13
         self.guard = None  # or its four settings and the length of its pool
         self.numbers, self.mislabelled = {}, False  # the number of each live slot; whether numbers or summary were made to break their rules
+        self.weights = []
 
     def guard_fault(self):
         return self.guard is not None and (0 in self.guard[:4] or settings_over(self.guard) or self.guard[4] > POOL)
@@ -163,8 +171,10 @@ class Book:
             return 1
         if alpha_bad(self.alpha):
             return 2
-        if self.lent[:8] != exact(*self.sizes) or wrong_length:
+        if self.lent[:9] != exact(*self.sizes) or wrong_length:
             return 3
+        if overweight(self.weights):
+            return 16
         if self.live != self.marked or self.entry >= self.sizes[1] or self.guard_fault() or self.mislabelled:
             return 6
         return 0
@@ -236,7 +246,9 @@ class Book:
 class List:
     def __init__(self, oracle, random):
         self.oracle, self.random, self.book, self.given, self.rows, self.numbers = oracle, random, Book(), [], [], []
+        self.weights = []
         self.figures = Random(SEED + 1)  # what concerns figure numbers alone is drawn from this
+        self.scales = Random(SEED + 2)  # and what concerns weights alone from this
         self.text, self.lines, self.agreed, self.wrong, self.change = [], 0, {}, [], None
 
     def note(self, text):
@@ -274,11 +286,31 @@ class List:
         fit = scratch_words(sizes[1]) if words is None else words
         self.lend(*exact(*sizes), slots, dists, found, fit)
 
-    def give(self, given, rows, numbers):
+    def give(self, given, rows, numbers, weights):
         self.given, self.rows = given, rows
         self.put("give", len(given), *given)
         self.put("rows", len(rows), *[(t + 1) % 2**32 for t in rows])
         self.number(numbers)
+        self.weigh(weights)
+
+    def weigh(self, weights):
+        """The weights of the making that comes next, unless they were given last."""
+        if weights != self.weights:
+            self.weights = list(weights)
+            self.put("weights", len(weights), *weights)
+
+    def given_weights(self, dim):
+        """Weights: all 1, any, the last places heavier, or any with the largest sum."""
+        r, weights = self.scales, [1] * dim
+        style, room = r.below(4), min(256 - dim, 3 * dim)
+        while style == 3 and room:
+            place = r.below(dim)
+            weights[place] += weights[place] < 4
+            room = min(256, 4 * dim) - sum(weights)
+        for place in range(dim - 1, -1 if style == 1 else dim - 1 - (dim + 7) // 8 if style == 2 else dim - 1, -1):
+            more = min(room, r.below(4))
+            weights[place], room = 1 + more, room - more
+        return weights
 
     def number(self, numbers):
         """The figure numbers of the making or the insert that comes next, whose line alone is made wrong."""
@@ -298,12 +330,12 @@ class List:
         return numbers
 
     def make(self, sizes, alpha, entry, count):
-        refused = making_refusal(sizes, alpha, entry, count, self.book.lent, self.given, self.rows, self.numbers)
+        refused = making_refusal(sizes, alpha, entry, count, self.book.lent, self.given, self.rows, self.numbers, self.weights)
         self.put("make", *sizes, alpha, entry, count, refused)
         if not refused:
             b = self.book
             b.sizes, b.alpha, b.entry, b.live, b.marked, b.guard = list(sizes), alpha, entry, count, count, None
-            b.numbers = dict(enumerate(self.numbers))
+            b.numbers, b.weights = dict(enumerate(self.numbers)), list(self.weights)
         return refused
 
     def set(self, field, value):
@@ -436,13 +468,15 @@ class List:
         answer = self.emptied(joined("gdelete", beam, degree, *slots), slots)
         self.put("guarded", naming, beam, degree, 0, *report_of(answer), *(stats_of(answer) if answer[0] == "applied" else []))
 
-    def begin(self, sizes, alpha, entry, vectors, rows, numbers=None):
+    def begin(self, sizes, alpha, entry, vectors, rows, numbers=None, weights=None):
         """Makes an index of these vectors and rows, on the Rust too."""
+        weights = self.given_weights(sizes[0]) if weights is None else weights
         bits = "0x%08x" % (0x3F800000 + (alpha - ONE) // 2)
         words = ["x" + bytes(v).hex() for v in vectors] + [",".join("-" if t == BLANK else str(t) for t in row) for row in rows]
+        self.oracle.call("weights", "x" + bytes(weights).hex())
         self.oracle.call("make", *sizes, bits, entry, len(vectors), *words)
         self.lend_for(sizes)
-        self.give([x for v in vectors for x in v], [t for row in rows for t in row], self.fresh(len(vectors), ()) if numbers is None else numbers)
+        self.give([x for v in vectors for x in v], [t for row in rows for t in row], self.fresh(len(vectors), ()) if numbers is None else numbers, weights)
         if self.make(sizes, alpha, entry, len(vectors)):
             sys.exit("a making that is refused")
 
@@ -484,6 +518,16 @@ class List:
         for place, (before, after) in enumerate(zip(old + [BLANK] * (n - len(old)), new + [BLANK] * (n - len(new)))):
             if before != after:
                 self.store(6, place, after)
+
+    def put_weights(self, weights):
+        """Other weights, on the Rust too where it may have them."""
+        b = self.book
+        for place, (before, after) in enumerate(zip(b.weights, weights)):
+            if before != after:
+                self.store(7, place, after)
+        b.weights = list(weights)
+        if not overweight(weights):
+            self.oracle.call("setweights", "x" + bytes(weights).hex())
 
     def put_entry(self, slot):
         self.oracle.call("setentry", slot)
@@ -533,11 +577,11 @@ class History:
         blanks = self.random.pick([0, 0, 0, 0, 1, 1, 2, 4])
         return [BLANK if self.random.below(4) < blanks else self.random.below(count) for _ in range(self.sizes[2])]
 
-    def make(self, count):
+    def make(self, count, weights=None):
         vectors = [self.vector() for _ in range(count)]
         rows = [self.row(count) for _ in range(count)]
         entry = self.random.pick([i for i in range(count) if any(t != BLANK for t in rows[i])] or [0])
-        self.out.begin(self.sizes, self.alpha, entry, vectors, rows)
+        self.out.begin(self.sizes, self.alpha, entry, vectors, rows, weights=weights)
 
     def insert(self, most, reads=2):
         """One vector or more, and readings of some slots whose rows they changed; more vectors than fit are refused."""
@@ -594,6 +638,7 @@ class History:
             one, other = [out.figures.pick(sorted(numbers)) for _ in range(2)]
             numbers[one], numbers[other] = numbers[other], numbers[one]
             out.put_numbers(numbers)
+        out.put_weights(out.given_weights(self.sizes[0]))
 
     def shown(self, searches, reads, k=12, beams=(0, 1, 2, 3, 5, 8, 16, 64)):
         dump = self.oracle.dump()
@@ -610,7 +655,7 @@ class History:
 
 def small(out):
     r = out.random
-    for i in range(17):
+    for i in range(16):
         capacity = r.among(1, 32)
         alpha = r.pick([ONE, ONE * 5 // 4, ONE * 3 // 2, 2 * ONE, ONE + 2 * r.below(ONE // 2)])
         h = History(out, r.among(1, 5), capacity, r.among(1, 6), alpha, r.pick([2, 2, 3, 4, 256]))
@@ -647,11 +692,10 @@ def dead_entries(out):
 
 
 def wide(out):
-    """Dim 256 and degree 64."""
-    r = out.random
-    for degree, values in ((64, 2), (3, 256)):
-        h = History(out, 256, 14, degree, ONE * 5 // 4, values)
-        h.make(9)
+    """Dim 256 and degree 64; and a dim at which half of the places weigh more, as many as may."""
+    for dim, degree, values, weights in ((256, 64, 2, [1] * 256), (128, 3, 256, [1, 2, 4, 1] * 32)):
+        h = History(out, dim, 14, degree, ONE * 5 // 4, values)
+        h.make(9, weights)
         h.changes(4, 3)
         h.shown(6, 1)
     h = History(out, 2, 90, 64, ONE * 3 // 2, 6)
@@ -688,7 +732,7 @@ def largest(out):
 
 def guarded_shelf(out):
     """Document 01's small shelf under the guard: deleting slot 1 would lose slot 2, deleting slot 2 is admitted, deleting all that is left is not."""
-    out.begin([1, 4, 2], ONE, 1, [[0], [3], [10]], [[1, BLANK], [0, 2], [1, BLANK]], [30, 10, 20])
+    out.begin([1, 4, 2], ONE, 1, [[0], [3], [10]], [[1, BLANK], [0, 2], [1, BLANK]], [30, 10, 20], [1])
     out.status()
     out.assess([1])
     out.guarded(2, 1, [1])
@@ -751,9 +795,9 @@ def refused_makings(out):
     sizes = [2, 4, 3]
     given, rows = [7] * 6, [1, BLANK, 0, 2, 2, BLANK, BLANK, BLANK, 0]
 
-    def attempt(sizes=sizes, alpha=ONE, entry=1, count=3, given=given, rows=rows, numbers=None, lent=None):
+    def attempt(sizes=sizes, alpha=ONE, entry=1, count=3, given=given, rows=rows, numbers=None, lent=None, weights=(1, 2)):
         out.lend_for([2, 4, 3]) if lent is None else out.lend(*lent, 1024, 1024, 1024, 0)
-        out.give(given, rows, out.fresh(count, ()) if numbers is None else numbers)
+        out.give(given, rows, out.fresh(count, ()) if numbers is None else numbers, list(weights))
         out.make(sizes, alpha, entry, count)
         out.read(5, 0, 0, out.book.live)
 
@@ -762,7 +806,7 @@ def refused_makings(out):
         attempt(sizes=bad)
     for alpha in (0, ONE - 1, ONE, 2 * ONE, 2 * ONE + 4, NAN, 15099494):
         attempt(alpha=alpha)
-    for i in range(8):
+    for i in range(9):
         for more in (-1, 1):
             attempt(lent=[n + more * (j == i) - (j == 5 and more == 1 and i == 5) * 2 for j, n in enumerate(exact(*sizes))])
     attempt(given=given[1:])
@@ -783,6 +827,17 @@ def refused_makings(out):
     attempt(numbers=[3, 3, 0], alpha=0)
     attempt(count=0, given=[], rows=[], numbers=[1], entry=0)
     attempt(count=5, given=[1] * 10, rows=[0] * 15, numbers=[2] * 5)
+    for weights in ((), (1,), (1, 1, 1), (0, 0, 0), (0, 1), (1, 0), (5, 1), (4, 4), (255, 255), (1, 1)):
+        attempt(weights=weights)
+    # 16 comes after 2 and 3, before 4, 5 and 15
+    attempt(weights=(0, 5), alpha=0)
+    attempt(weights=(0, 5), rows=rows[1:])
+    attempt(weights=(0, 5), count=5, given=[1] * 10, rows=[0] * 15)
+    attempt(weights=(0, 5), entry=3)
+    attempt(weights=(0, 5), numbers=[3, 3, 0])
+    for weights in ([4] * 64, [4] * 63 + [3, 1], [4] * 63 + [3, 2], [4] * 65, [1] * 255 + [2], [1] * 256):
+        dim = len(weights)
+        attempt(sizes=[dim, 4, 3], count=0, given=[], rows=[], entry=0, lent=exact(dim, 4, 3), weights=weights)
 
 
 def refused_calls(out):
@@ -806,7 +861,7 @@ def refused_calls(out):
         out.set(field, kept)
         attempts()
     fit = exact(*book.sizes) + [12, 10, 11, scratch_words(book.sizes[1])]
-    for i in range(12):
+    for i in range(13):
         out.lend(*[n - (j == i) for j, n in enumerate(fit)])
         attempts(k=9)
         attempts(k=10)
@@ -866,10 +921,55 @@ def mislabelled(out):
     attempts()
 
 
+def overweighted(out):
+    """Calls on an index whose weights were made to break their rules, alone and beside other faults."""
+    h = History(out, 3, 5, 2, ONE, 9)
+    h.make(5, [1, 4, 2])
+    h.delete([1])
+    out.enable(2, 1, 5, 4)
+    book = out.book
+
+    def attempts(query=(1, 2, 3)):
+        out.read(5, 0, 0, book.live)
+        out.vector(0, dump.slots[0].vector)
+        out.search(2, 3, query)
+        out.insert(1025, [3] * 3, [0])
+        out.delete(257, 1, [0])
+        out.enable(65, 1, 5, 4)
+        out.status()
+        out.assess([0])
+        out.guarded(1, 17, [0])
+
+    dump = out.oracle.dump()
+    right = book.weights
+    for place, weight in ((0, 0), (0, 5), (2, 255), (1, 5)):
+        out.put_weights(right[:place] + [weight] + right[place + 1:])
+        attempts()
+        out.put_weights(right)
+    out.put_weights([0, 4, 2])
+    attempts((1, 2))
+    for field, wrong, kept in ((0, 0, 3), (3, 0, ONE), (5, 5, 4), (4, 9, book.entry)):
+        out.set(field, wrong)
+        attempts()
+        out.set(field, kept)
+    out.put_weights(right)
+    attempts()
+    # the sum, which alone is too large
+    h = History(out, 100, 2, 1, ONE, 2)
+    h.make(1, [4] * 52 + [1] * 48)
+    dump = out.oracle.dump()
+    for weights in ([4] * 52 + [1] * 47 + [2], [4] * 52 + [1] * 48, [4] * 100):
+        out.put_weights(weights)
+        out.read(5, 0, 0, out.book.live)
+        out.vector(0, dump.slots[0].vector)
+        out.status()
+    out.delete(1, 1, [0])
+
+
 def small_shelf(out):
     """Document 01's: 6 into the shelf, and then 1 is deleted; 7 into it with every slot emptied, and the entry stays dead."""
     for emptied, value, then in (([], 6, [1]), ([0, 1, 2], 7, [])):
-        out.begin([1, 4, 2], ONE, 1, [[0], [3], [10]], [[1, BLANK], [0, 2], [1, BLANK]], [30, 10, 20])
+        out.begin([1, 4, 2], ONE, 1, [[0], [3], [10]], [[1, BLANK], [0, 2], [1, BLANK]], [30, 10, 20], [1])
         for call in (lambda: out.delete(2, 1, emptied), lambda: out.insert(2, [value]), lambda: out.delete(2, 1, then)):
             call()
             dump = out.oracle.dump()
@@ -878,7 +978,7 @@ def small_shelf(out):
                 out.read_slot(dump, slot)
         out.search(4, 4, [3])
     # numbers 10, 0, 10 and 7: slot 1 alone, and four names need four places for stats
-    out.begin([1, 4, 2], ONE, 1, [[0], [3], [10]], [[1, BLANK], [0, 2], [1, BLANK]], [30, 10, 20])
+    out.begin([1, 4, 2], ONE, 1, [[0], [3], [10]], [[1, BLANK], [0, 2], [1, BLANK]], [30, 10, 20], [1])
     for places in (3, 4):
         out.lend_for([1, 4, 2], slots=places)
         out.delete(2, 1, [10, 0, 10, 7], BY_NUMBER)
@@ -920,7 +1020,7 @@ def refused_inserts(out):
         out.set(field, kept)
         attempts()
     fit = exact(*book.sizes) + [2, 0, 0, scratch_words(book.sizes[1])]
-    for i in (0, 1, 2, 3, 4, 5, 6, 7, SLOTS, WORDS):
+    for i in (0, 1, 2, 3, 4, 5, 6, 7, 8, SLOTS, WORDS):
         out.lend(*[n - (j == i) for j, n in enumerate(fit)])
         attempts()
         out.insert(1024, two + [5])
@@ -989,7 +1089,7 @@ def refused_deletes(out):
         out.set(field, kept)
         attempts()
     fit = exact(*book.sizes) + [2, 0, 0, scratch_words(book.sizes[1])]
-    for i in (0, 1, 2, 3, 4, 5, 6, 7, SLOTS, WORDS):
+    for i in (0, 1, 2, 3, 4, 5, 6, 7, 8, SLOTS, WORDS):
         out.lend(*[n - (j == i) for j, n in enumerate(fit)])
         attempts()
         out.delete(256, 16, [20, 21])
@@ -1028,7 +1128,7 @@ def refused_guards(out):
         out.set(field, kept)
         attempts()
     fit = exact(*book.sizes) + [64, 64, 1, scratch_words(book.sizes[1])]
-    for i in range(12):
+    for i in range(13):
         out.lend(*[n - (j == i) for j, n in enumerate(fit)])
         attempts()
         out.enable(64, 16, 65536, 1024)
@@ -1099,7 +1199,7 @@ def wrong_answers(out):
     def made():
         out.lend_for(dump.sizes)
         numbers = [book.numbers[slot] for slot in range(count)]
-        out.give([v for s in dump.slots[:count] for v in s.vector], [t for s in dump.slots[:count] for t, _ in s.edges], numbers)
+        out.give([v for s in dump.slots[:count] for v in s.vector], [t for s in dump.slots[:count] for t, _ in s.edges], numbers, book.weights)
 
     for what, change in (("making carried out, not refused", other(7)), ("making, a number missing", lambda w: w[:7]), ("making, a number more", lambda w: w + ["0"])):
         made()
@@ -1159,12 +1259,12 @@ def wrong_answers(out):
     for what, words in (("no word", ["", "1"]), ("another word", ["reads", "5"]), ("no number", ["read", "x"]), ("a field that is not there", ["set", "0"])):
         out.spoil(what, lambda w, words=words: words)
         out.put("read", 5, 0, 0, 0, book.live)
-    for array in (0, 5, 6):
+    for array in (0, 5, 6, 7):
         out.spoil("a store past the memory", other(2, 70000))
         out.store(array, 0, 1)
-    out.spoil("a store to no array", other(1, 7))
+    out.spoil("a store to no array", other(1, 8))
     out.store(0, 0, 1)
-    for what in ("give", "numbers"):
+    for what in ("give", "numbers", "weights"):
         out.spoil("more given than there is room for", other(1, 300000))
         out.put(what, 0)
 
@@ -1303,7 +1403,7 @@ def main():
     oracle = Oracle(sys.argv[1])
     out = List(oracle, Random(SEED))
     out.note("made by compare/replay/make.py, seed %d" % SEED)
-    parts = (size_answers, refused_makings, refused_calls, mislabelled, refused_inserts, refused_deletes, small_shelf, small, medium, chunks, deletes, dead_entries, wide, many, largest, refused_guards, guarded_shelf, guards, wide_guards, wrong_answers)
+    parts = (size_answers, refused_makings, refused_calls, mislabelled, overweighted, refused_inserts, refused_deletes, small_shelf, small, medium, chunks, deletes, dead_entries, wide, many, largest, refused_guards, guarded_shelf, guards, wide_guards, wrong_answers)
     for part in parts:
         out.note(part.__name__)
         part(out)

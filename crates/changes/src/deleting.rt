@@ -94,6 +94,7 @@ pub fn delete(
         pool: part_mut(arrays.pool, lent.pool),
         numbers: part_mut(arrays.numbers, lent.numbers),
         summary: part_mut(arrays.summary, lent.summary),
+        weights: part_mut(arrays.weights, lent.weights),
     };
     let room = lent.slots.min(1024);
     let words = part_mut(scratch, lent.words);

@@ -57,6 +57,7 @@ pub fn insert(
         pool: part_mut(arrays.pool, lent.pool),
         numbers: part_mut(arrays.numbers, lent.numbers),
         summary: part_mut(arrays.summary, lent.summary),
+        weights: part_mut(arrays.weights, lent.weights),
     };
     let room = part_mut(&mut slots, lent.slots);
     let scratch = part_mut(scratch, lent.words);

@@ -45,6 +45,7 @@ pub fn make(
         bytes: part_mut(arrays.given, lent.given),
         rows: part_mut(arrays.rows, lent.rows),
         numbers: part_mut(arrays.figures, lent.figures),
+        weights: part_mut(arrays.given_weights, lent.given_weights),
     };
     // Not by a method of the arrays: see `delete` of deleting.rt.
     let mut slices = NewSlices {
@@ -56,6 +57,7 @@ pub fn make(
         pool: part_mut(arrays.pool, lent.pool),
         numbers: part_mut(arrays.numbers, lent.numbers),
         summary: part_mut(arrays.summary, lent.summary),
+        weights: part_mut(arrays.weights, lent.weights),
     };
     let created = index::create(&given, &mut slices);
     expect_created(line, state, created)

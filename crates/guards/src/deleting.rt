@@ -62,6 +62,7 @@ pub fn delete(
         pool: part_mut(arrays.pool, lent.pool),
         numbers: part_mut(arrays.numbers, lent.numbers),
         summary: part_mut(arrays.summary, lent.summary),
+        weights: part_mut(arrays.weights, lent.weights),
     };
     let mut lists = Lists {
         checked: part_mut(&mut checked, lent.slots),

@@ -60,6 +60,7 @@ pub fn enable(
         pool: part_mut(arrays.pool, lent.pool),
         numbers: part_mut(arrays.numbers, lent.numbers),
         summary: part_mut(arrays.summary, lent.summary),
+        weights: part_mut(arrays.weights, lent.weights),
     };
     let scratch = part_mut(scratch, lent.words);
     let enabled = guarding::enable_guard(state.index, &mut slices, config, scratch);

@@ -21,6 +21,7 @@ pub struct Lent {
     pub pool: usize,
     pub numbers: usize,
     pub summary: usize,
+    pub weights: usize,
     pub slots: usize,
     pub dists: usize,
     pub found: usize,
@@ -28,6 +29,7 @@ pub struct Lent {
     pub given: usize,
     pub rows: usize,
     pub figures: usize,
+    pub given_weights: usize,
 }
 
 // An index, and what is lent to its calls.
@@ -37,13 +39,14 @@ pub struct State {
     pub lent: Lent,
 }
 
-// The arrays for calls, but for the scratch, which goes beside them. What is given stands at the start of the first three; of the eight of an index calls are lent
-// the start, as far as a line `lend` says.
+// The arrays for calls, but for the scratch, which goes beside them. What is given stands at the start of the first four, weights in `given_weights`; of the
+// nine of an index calls are lent the start, as far as a line `lend` says.
 #[derive(Drop)]
 pub struct Arrays<'a> {
     pub given: &'a mut [u8],
     pub rows: &'a mut [u32],
     pub figures: &'a mut [u32],
+    pub given_weights: &'a mut [u8],
     pub vectors: &'a mut [u8],
     pub targets: &'a mut [u32],
     pub edges: &'a mut [u16],
@@ -52,6 +55,7 @@ pub struct Arrays<'a> {
     pub pool: &'a mut [u32],
     pub numbers: &'a mut [u32],
     pub summary: &'a mut [u32],
+    pub weights: &'a mut [u8],
 }
 
 impl Arrays<'_> {
@@ -61,7 +65,7 @@ impl Arrays<'_> {
     // What is lent of an index that is read.
     pub fn slices(&self, lent: Lent) -> Slices<'_>
         ensures graph { (result.vectors.now ≡ lent_of lent.vectors self.now.vectors.now) × (result.targets.now ≡ lent_of lent.targets self.now.targets.now) × (result.edges.now ≡ lent_of lent.edges self.now.edges.now) × (result.versions.now ≡ lent_of lent.versions self.now.versions.now) × (result.marks.now ≡ lent_of lent.marks self.now.marks.now) }
-        ensures beside { (result.pool.now ≡ lent_of lent.pool self.now.pool.now) × (result.numbers.now ≡ lent_of lent.numbers self.now.numbers.now) × (result.summary.now ≡ lent_of lent.summary self.now.summary.now) }
+        ensures beside { (result.pool.now ≡ lent_of lent.pool self.now.pool.now) × (result.numbers.now ≡ lent_of lent.numbers self.now.numbers.now) × (result.summary.now ≡ lent_of lent.summary self.now.summary.now) × (result.weights.now ≡ lent_of lent.weights self.now.weights.now) }
     {
         Slices {
             vectors: part(self.vectors, lent.vectors),
@@ -72,6 +76,7 @@ impl Arrays<'_> {
             pool: part(self.pool, lent.pool),
             numbers: part(self.numbers, lent.numbers),
             summary: part(self.summary, lent.summary),
+            weights: part(self.weights, lent.weights),
         }
     }
 }
@@ -119,6 +124,7 @@ fn lend(line: &mut Numbers<'_>, lent: &mut Lent) -> Result<(), Differs>
         pool: next_length(line, &mut too_much, 1024),
         numbers: next_length(line, &mut too_much, 65536),
         summary: next_length(line, &mut too_much, 65536),
+        weights: next_length(line, &mut too_much, 256),
         slots: next_length(line, &mut too_much, 1024),
         dists: next_length(line, &mut too_much, 1024),
         found: next_length(line, &mut too_much, 1024),
@@ -153,7 +159,7 @@ where
     Ok(())
 }
 
-// Performs a line `give`, `rows` or `numbers`, whose numbers are `more` than they are.
+// Performs a line `give`, `rows`, `numbers` or `weights`, whose numbers are `more` than they are.
 fn give<T: TryFrom<u32> + Copy>(
     line: &mut Numbers<'_>,
     count: &mut usize,
@@ -250,6 +256,7 @@ fn store_to(
         4 => put(arrays.vectors, lent.vectors, place, small(value)?),
         5 => put(arrays.numbers, lent.numbers, place, value),
         6 => put(arrays.summary, lent.summary, place, value),
+        7 => put(arrays.weights, lent.weights, place, small(value)?),
         _ => Err(Differs::Malformed),
     }
 }
@@ -279,6 +286,7 @@ pub fn perform(
         Preparing::Give => give(line, &mut state.lent.given, 0, arrays.given),
         Preparing::Rows => give(line, &mut state.lent.rows, 1, arrays.rows),
         Preparing::Numbers => give(line, &mut state.lent.figures, 0, arrays.figures),
+        Preparing::Weights => give(line, &mut state.lent.given_weights, 0, arrays.given_weights),
         Preparing::Set => set(line, &mut state.index),
         Preparing::Store => store(line, state.lent, arrays),
     }

@@ -11,6 +11,7 @@ pub enum Preparing {
     Give,
     Rows,
     Numbers,
+    Weights,
     Set,
     Store,
 }
@@ -51,11 +52,12 @@ pub enum Call {
 }
 
 // The word for each thing that a line asks for: what prepares calls, then the calls in the order in which they are counted.
-pub const WORDS: [(&str, Call); 17] = [
+pub const WORDS: [(&str, Call); 18] = [
     ("lend", Call::Prepare(Preparing::Lend)),
     ("give", Call::Prepare(Preparing::Give)),
     ("rows", Call::Prepare(Preparing::Rows)),
     ("numbers", Call::Prepare(Preparing::Numbers)),
+    ("weights", Call::Prepare(Preparing::Weights)),
     ("set", Call::Prepare(Preparing::Set)),
     ("store", Call::Prepare(Preparing::Store)),
     ("make", Call::Change(Changing::Make)),

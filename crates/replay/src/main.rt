@@ -133,6 +133,7 @@ fn replay_list(rt: &impl Print, errors: &impl Print, list: &[u8]) -> io::Result<
     let mut given = [0u8; 262144];
     let mut rows = [0u32; 131072];
     let mut figures = [0u32; 2048];
+    let mut given_weights = [0u8; 256];
     let mut vectors = [0u8; 262144];
     let mut targets = [0u32; 131072];
     let mut edges = [0u16; 131072];
@@ -141,11 +142,13 @@ fn replay_list(rt: &impl Print, errors: &impl Print, list: &[u8]) -> io::Result<
     let mut pool = [0u32; 1024];
     let mut numbers = [0u32; 65536];
     let mut summary = [0u32; 65536];
+    let mut weights = [0u8; 256];
     let mut scratch = [0u32; 235520];
     let mut arrays = Arrays {
         given: &mut given,
         rows: &mut rows,
         figures: &mut figures,
+        given_weights: &mut given_weights,
         vectors: &mut vectors,
         targets: &mut targets,
         edges: &mut edges,
@@ -154,6 +157,7 @@ fn replay_list(rt: &impl Print, errors: &impl Print, list: &[u8]) -> io::Result<
         pool: &mut pool,
         numbers: &mut numbers,
         summary: &mut summary,
+        weights: &mut weights,
     };
     let counts = replay(rt, errors, list, &mut arrays, &mut scratch)?;
     counts.report(rt)

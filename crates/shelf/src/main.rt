@@ -1,4 +1,5 @@
-// Document 01's small shelf: it is made with the numbers 30, 10 and 20, 6 is inserted with 41 and slot 1 deleted; then it is printed, as read.
+// Document 01's small shelf: it is made with the numbers 30, 10 and 20 and a weight of 1, 6 is inserted with 41 and slot 1 deleted; then it is printed, as
+// read.
 #![tactic(auto)]
 
 use index::{DeleteSlices, Index, InsertSlices, Making, NewSlices, Refusal};
@@ -61,6 +62,7 @@ fn make(slices: &mut NewSlices<'_>) -> Result<Index, Refusal> {
         bytes: &[0, 3, 10],
         rows: &[1, BLANK, 0, 2, 1, BLANK],
         numbers: &[30, 10, 20],
+        weights: &[1],
     };
     index::create(&given, slices)
 }
@@ -79,6 +81,7 @@ fn insert(
     };
     let versions = &mut *slices.versions;
     let pool = &mut *slices.pool;
+    let weights = &mut *slices.weights;
     let mut slices = InsertSlices {
         vectors: slices.vectors,
         targets: slices.targets,
@@ -88,6 +91,7 @@ fn insert(
         pool,
         numbers: slices.numbers,
         summary: slices.summary,
+        weights,
     };
     updating::insert(index, &mut slices, &asked, &mut slots, scratch)
 }
@@ -106,6 +110,7 @@ fn delete(
     };
     let vectors = &mut *slices.vectors;
     let pool = &mut *slices.pool;
+    let weights = &mut *slices.weights;
     let mut slices = DeleteSlices {
         vectors,
         targets: slices.targets,
@@ -115,6 +120,7 @@ fn delete(
         pool,
         numbers: slices.numbers,
         summary: slices.summary,
+        weights,
     };
     updating::delete(index, &mut slices, &asked, 1, scratch)
 }
@@ -138,6 +144,7 @@ fn main(rt: HostRuntime) -> io::Result<()> {
         pool: &mut [0; 1024],
         numbers: &mut [0; 4],
         summary: &mut [0; 4],
+        weights: &mut [0; 1],
     };
     let Ok(index) = changed(&mut slices) else {
         return Ok(());

@@ -14,13 +14,13 @@ use Rattle.lines.specs.declared.prepare.Lent.{Lent}
 
 -- the lengths that a line `lend` has
 abbrev pub lengths_of : Lent → List ℕ
-lengths_of l = l.vectors ∷ l.targets ∷ l.edges ∷ l.versions ∷ l.marks ∷ l.pool ∷ l.numbers ∷ l.summary ∷ l.slots ∷ l.dists ∷ l.found ∷ l.words ∷ []
+lengths_of l = l.vectors ∷ l.targets ∷ l.edges ∷ l.versions ∷ l.marks ∷ l.pool ∷ l.numbers ∷ l.summary ∷ l.weights ∷ l.slots ∷ l.dists ∷ l.found ∷ l.words ∷ []
 
 -- the lengths lent were read next of a line, which ends behind them; what is given stays
 pub record Lends (old new : Option (Bor (List ℕ))) (before after : Lent) : Type 0 where
   pub reads : ReadsAll old new (lengths_of after)
   pub ended : Ended new
-  pub given : (after.given ≡ before.given) × (after.rows ≡ before.rows) × (after.figures ≡ before.figures)
+  pub given : (after.given ≡ before.given) × (after.rows ≡ before.rows) × (after.figures ≡ before.figures) × (after.given_weights ≡ before.given_weights)
 
 -- alpha from its multiple of 2^24; the largest number is for none
 abbrev pub alpha_of : ℕ → Float
@@ -64,7 +64,7 @@ stored which array place value words = cond (eqb array which) (slice_set words p
 
 -- a value was stored to a place of the array of that number
 pub record Stored (array place value : ℕ) (before after : Arrays) : Type 0 where
-  pub known : array ≤ 6
+  pub known : array ≤ 7
   pub marks : after.marks.now ≡ stored 0 array place value before.marks.now
   pub versions : after.versions.now ≡ stored 1 array place value before.versions.now
   pub targets : after.targets.now ≡ stored 2 array place value before.targets.now
@@ -72,6 +72,7 @@ pub record Stored (array place value : ℕ) (before after : Arrays) : Type 0 whe
   pub vectors : after.vectors.now ≡ stored 4 array place value before.vectors.now
   pub numbers : after.numbers.now ≡ stored 5 array place value before.numbers.now
   pub summary : after.summary.now ≡ stored 6 array place value before.summary.now
+  pub weights : after.weights.now ≡ stored 7 array place value before.weights.now
 
 -- the number of an array, a place and a value were read next of a line, which ends behind them, and the value is stored there
 pub record Stores (old new : Option (Bor (List ℕ))) (before after : Arrays) : Type 0 where
@@ -92,5 +93,6 @@ Prepared Preparing.Lend old new s s′ a a′ = Lends old new s.lent s′.lent �
 Prepared Preparing.Give old new s s′ a a′ = Gives 0 old new s′.lent.given a.given.now a′.given.now × (s′.index ≡ s.index)
 Prepared Preparing.Rows old new s s′ a a′ = Gives 1 old new s′.lent.rows a.rows.now a′.rows.now × (s′.index ≡ s.index)
 Prepared Preparing.Numbers old new s s′ a a′ = Gives 0 old new s′.lent.figures a.figures.now a′.figures.now × (s′.index ≡ s.index)
+Prepared Preparing.Weights old new s s′ a a′ = Gives 0 old new s′.lent.given_weights a.given_weights.now a′.given_weights.now × (s′.index ≡ s.index)
 Prepared Preparing.Set old new s s′ a a′ = Sets old new s.index s′.index × (s′.lent ≡ s.lent)
 Prepared Preparing.Store old new s s′ a a′ = Stores old new a a′ × (s′ ≡ s)

@@ -14,3 +14,7 @@ returns-in-Rows c =
 pub returns-in-Numbers : goal.returns-in-Numbers
 returns-in-Numbers c =
     rw c.in-Numbers.is (IfOk-weaker c.give-in-Numbers.result _ _ (λ _ g. ((g.0, g.1, given_weaker (λ number word is. is.1) _ _ _ _ _ g.2, g.3), refl)) c.give-in-Numbers.ensures)
+
+pub returns-in-Weights : goal.returns-in-Weights
+returns-in-Weights c =
+    rw c.in-Weights.is (IfOk-weaker c.give-in-Weights.result _ _ (λ _ g. ((g.0, g.1, given_weaker (λ number word is. is.1) _ _ _ _ _ g.2, g.3), refl)) c.give-in-Weights.ensures)

@@ -20,7 +20,7 @@ pub returns : goal.returns
 returns c =
     let Spelled = λ (pair : Bor (List ℕ) × Call). pair.0.now ≡ word_of pair.1 in
     let table = c.iter.result.rest.now in
-    let spelled : AllByRecursion Spelled table = subst (AllByRecursion Spelled) (sym c.iter.ensures.rest) (refl, (refl, (refl, (refl, (refl, (refl, (refl, (refl, (refl, (refl, (refl, (refl, (refl, (refl, (refl, (refl, (refl, tt))))))))))))))))) in
+    let spelled : AllByRecursion Spelled table = subst (AllByRecursion Spelled) (sym c.iter.ensures.rest) (refl, (refl, (refl, (refl, (refl, (refl, (refl, (refl, (refl, (refl, (refl, (refl, (refl, (refl, (refl, (refl, (refl, (refl, tt)))))))))))))))))) in
     let found = first_from_find _ _ c.find-named.result (λ pair. pair.0.now ≡ c.args.word.now) (λ pair. Unit {0}) c.find-named.ensures.ran (YieldsList-from_slice {s = c.iter.result} _ refl) (λ x q k. search rules) (λ x q k. search rules) in
     let one = one_of Spelled (λ pair. pair.0.now ≡ c.args.word.now) (λ pair. Unit {0}) table (All-from_recursion Spelled table spelled) c.find-named.result c.in_ok-call.field-0 (search rules) found in
     sym one.0 ∙ one.1
