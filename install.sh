@@ -21,7 +21,7 @@ filled() {
     sed "s/@VERSION@/$version/; s/@MAJOR@/$(number MAJOR)/" "packaging/$1"
 }
 
-(cd crates/finder && rt lib)
+(cd crates/finder && rt lib --cpu=x86-64)
 mkdir -p "$to/include" "$to/lib/pkgconfig" "$to/lib/cmake/finder" "$to/share/doc/finder"
 install -m 644 include/finder.h include/finder.hpp "$to/include"
 install -m 644 crates/finder/out/libfinder.a "$to/lib"

@@ -1,6 +1,7 @@
 /*
- * How much stack the calls take: each runs on a thread whose stack is painted before, and what it wrote of that is counted. An index of 2,000 slots of 256 bytes,
- * degree 32; 64 slots to a delete. Prints a line a call, in bytes. Build: see docs/BENCHMARKS.md, "Stack".
+ * How much stack the calls take: each runs on a thread whose stack is painted before, and what it wrote of that is counted. An index of 2,000 slots of degree 32;
+ * 64 slots to a delete. Prints a line a call, in bytes: at dim 256, where all weights are 1, and at dim 196 with 28 weights of 3. Build: see docs/BENCHMARKS.md,
+ * "Stack".
  */
 #define _POSIX_C_SOURCE 200112L
 #include "finder.h"
@@ -14,8 +15,8 @@ enum { DIM = 256, CAPACITY = 2000, DEGREE = 32, BATCH = 250, BATCHES = 7, IDS = 
 
 static struct finder f;
 static struct finder_scratch scratch;
-static uint8_t bytes[CAPACITY * DIM];
-static uint32_t numbers[CAPACITY], ids[IDS], slots[BATCH], batch, found;
+static uint8_t bytes[CAPACITY * DIM], weights[DIM];
+static uint32_t dim, rows[CAPACITY * DEGREE], numbers[CAPACITY], ids[IDS], slots[BATCH], batch, found;
 static struct finder_stats stats[IDS];
 static struct finder_assessment assessment;
 
@@ -32,16 +33,21 @@ static void nothing(void)
 {
 }
 
+static void create(void)
+{
+    must(finder_create_in(&f, 1.2f, 0, CAPACITY, bytes, (size_t)CAPACITY * dim, rows, CAPACITY * DEGREE, numbers, CAPACITY, weights, dim), "create");
+}
+
 static void insert(void)
 {
-    must(finder_insert_in(&f, bytes + (size_t)batch * BATCH * DIM, BATCH * DIM, numbers + batch * BATCH, BATCH, 64, slots, BATCH, scratch, &found), "insert");
+    must(finder_insert_in(&f, bytes + (size_t)batch * BATCH * dim, (size_t)BATCH * dim, numbers + batch * BATCH, BATCH, 64, slots, BATCH, scratch, &found), "insert");
 }
 
 static void search(void)
 {
     static uint32_t found_numbers[K];
     static float dists[K];
-    must(finder_search_in(&f, bytes, DIM, K, 64, slots, dists, found_numbers, scratch, &found), "search");
+    must(finder_search_in(&f, bytes, dim, K, 64, slots, dists, found_numbers, scratch, &found), "search");
 }
 
 static void delete_slots(void)
@@ -104,38 +110,58 @@ static size_t depth(const struct call *call)
     return STACK - left;
 }
 
-int main(void)
+static const struct call idle = {"nothing", nothing}, making = {"create", create}, inserts = {"insert", insert};
+static const struct call calls[] = {
+    {"search", search}, {"delete", delete_slots}, {"delete by numbers", delete_numbers}, {"enable", enable}, {"assess", assess},
+    {"guarded delete", guarded_slots}, {"guarded delete by numbers", guarded_numbers},
+};
+enum { CALLS = sizeof calls / sizeof *calls };
+
+/* What making, an insert and then each of `calls` takes at a dim, of whose places the last `heavy` have a weight of 3. */
+static void measure(uint32_t places, uint32_t heavy, size_t depths[2 + CALLS])
 {
-    static const struct call calls[] = {
-        {"search", search}, {"delete", delete_slots}, {"delete by numbers", delete_numbers}, {"enable", enable}, {"assess", assess},
-        {"guarded delete", guarded_slots}, {"guarded delete by numbers", guarded_numbers},
-    };
-    static const struct call idle = {"nothing", nothing}, inserts = {"insert", insert};
     struct finder_layout lengths;
     void *block, *words;
-    size_t base, most = 0;
-    must(finder_lengths(DIM, CAPACITY, DEGREE, &lengths), "lengths");
+    size_t base;
+    dim = places;
+    memset(weights, 1, dim);
+    memset(weights + dim - heavy, 3, heavy);
+    must(finder_lengths(dim, CAPACITY, DEGREE, &lengths), "lengths");
     if (posix_memalign(&block, 64, lengths.block_bytes) || posix_memalign(&words, 64, SCRATCH))
-        return 1;
-    must(finder_place(&f, block, lengths.block_bytes, DIM, CAPACITY, DEGREE), "place");
-    must(finder_create_in(&f, 1.2f, 0, 0, NULL, 0, NULL, 0, NULL, 0), "create");
+        exit(1);
+    must(finder_place(&f, block, lengths.block_bytes, dim, CAPACITY, DEGREE), "place");
     must(finder_place_scratch(&scratch, words, SCRATCH), "scratch");
+    base = depth(&idle);
+    depths[0] = depth(&making) - base;
+    must(finder_create_in(&f, 1.2f, 0, 0, NULL, 0, NULL, 0, NULL, 0, weights, dim), "create");
+    depths[1] = 0;
+    for (batch = 0; batch < BATCHES; batch++) {
+        size_t d = depth(&inserts) - base;
+        depths[1] = d > depths[1] ? d : depths[1];
+    }
+    for (uint32_t i = 0; i < CALLS; i++) {
+        /* slots, or numbers, that no call before named */
+        for (uint32_t k = 0; k < IDS; k++)
+            ids[k] = 1 + i * 200 + 3 * k;
+        depths[2 + i] = depth(&calls[i]) - base;
+    }
+    free(block);
+    free(words);
+}
+
+int main(void)
+{
+    size_t ones[2 + CALLS], mixed[2 + CALLS];
     srand(1);
     for (size_t i = 0; i < sizeof bytes; i++)
         bytes[i] = (uint8_t)(rand() >> 8);
     for (uint32_t i = 0; i < CAPACITY; i++)
         numbers[i] = i + 1;
-    base = depth(&idle);
-    for (batch = 0; batch < BATCHES; batch++) {
-        size_t d = depth(&inserts) - base;
-        most = d > most ? d : most;
-    }
-    printf("insert %zu\n", most);
-    for (size_t i = 0; i < sizeof calls / sizeof *calls; i++) {
-        /* slots, or numbers, that no call before named */
-        for (uint32_t k = 0; k < IDS; k++)
-            ids[k] = 1 + (uint32_t)i * 200 + 3 * k;
-        printf("%s %zu\n", calls[i].name, depth(&calls[i]) - base);
-    }
+    for (size_t i = 0; i < sizeof rows / sizeof *rows; i++)
+        rows[i] = FINDER_BLANK;
+    measure(DIM, 0, ones);
+    measure(196, 28, mixed);
+    for (size_t i = 0; i < 2 + CALLS; i++)
+        printf("%s %zu %zu\n", i == 0 ? making.name : i == 1 ? inserts.name : calls[i - 2].name, ones[i], mixed[i]);
     return 0;
 }

@@ -21,7 +21,7 @@ step() {
     fi
 }
 
-step archive sh -c "cd crates/finder && rt lib"
+step archive sh -c "cd crates/finder && rt lib --cpu=x86-64"
 step only-memset sh -c "nm -u crates/finder/out/libfinder.a | awk '/ U / && \$2 != \"memset\" { print; bad = 1 } END { exit bad }'"
 step headers examples/headers.sh
 sed 's/^/  /' "$out/headers.log"

@@ -10,7 +10,8 @@
  *     void *block = malloc(n.block_bytes), *work = malloc(n.scratch_bytes);         the caller's, to be freed at last
  *     finder_place(&f, block, n.block_bytes, 256, 1000, 64);
  *     finder_place_scratch(&s, work, n.scratch_bytes);
- *     finder_create_in(&f, 1.2f, 0, 0, NULL, 0, NULL, 0, NULL, 0);                  alpha 1.2, no vector yet
+ *     memset(weights, 1, 256);                                                      each place of a vector counts alike
+ *     finder_create_in(&f, 1.2f, 0, 0, NULL, 0, NULL, 0, NULL, 0, weights, 256);    alpha 1.2, no vector yet
  *     finder_insert_in(&f, grey, 256, &number, 1, 128, &slot, 1, s, &found);        one vector and its figure number, beam 128; it got the slot
  *     finder_search_in(&f, query, 256, 10, 64, slots, dists, numbers, s, &found);   the 10 nearest, beam 64
  *
@@ -19,12 +20,16 @@
  * Each live slot carries a figure number, 1 to 4,294,967,295, which the caller gives with the vector and no other live slot has; a dead slot holds 0. After a
  * delete, a slot may be given to another vector; a number stays with its vector as long as that is in the index.
  *
- * The names: finder_X is a call on an index in parts, twelve words and eight slices; finder_X_in is the same call on a struct finder. What a call does is told at
+ * Each place of a vector has a weight, 1 to 4, which the caller gives when the index is made and no later call changes. The distance of two vectors is the sum,
+ * over the places, of the squared difference times the place's weight; with all weights 1 it is the sum of squared differences. The weights of an index make 256
+ * at most: at dim 256 only weights of 1 fit, and one place that counts more takes a smaller dim (of 196 places, 28 may weigh 3).
+ *
+ * The names: finder_X is a call on an index in parts, twelve words and nine slices; finder_X_in is the same call on a struct finder. What a call does is told at
  * finder_X. The functions finder_X are in the archive and are proved (docs/CLAIMS.md); the inline ones of this header pass parts on and are not.
  *
  * For all of them:
  *
- * - A call that is refused writes nothing. The refusals that apply are tested in the order of their numbers, and the first that holds is returned.
+ * - A call that is refused writes nothing. Each function lists its refusals in the order in which they are tested; the first that holds is returned.
  * - What a function writes must not overlap anything else that it is lent; what it only reads may overlap. Outputs, scratch and the memory of a new index may
  *   hold anything before.
  * - No function allocates, and none of the archive keeps a pointer or calls anything but memset. Several threads may read one index at a time while none changes
@@ -57,7 +62,7 @@ extern "C" {
 #endif
 
 /* The version of this header. */
-#define FINDER_VERSION_MAJOR 2
+#define FINDER_VERSION_MAJOR 3
 #define FINDER_VERSION_MINOR 0
 #define FINDER_VERSION_PATCH 0
 #define FINDER_VERSION (FINDER_VERSION_MAJOR * 10000 + FINDER_VERSION_MINOR * 100 + FINDER_VERSION_PATCH)
@@ -110,6 +115,10 @@ enum finder_word {
 #define FINDER_MAX_CAPACITY 65536
 #define FINDER_MAX_DEGREE 64
 
+/* The largest weight of a place, the least being 1, and the largest sum of an index's weights. */
+#define FINDER_MAX_WEIGHT 4
+#define FINDER_MAX_WEIGHT_SUM 256
+
 /* The largest beam; 0 acts as 1. */
 #define FINDER_MAX_BEAM 1024
 
@@ -146,7 +155,8 @@ enum finder_word {
     REFUSAL(11, FINDER_GUARD_OFF, "the guard is off") \
     REFUSAL(12, FINDER_NO_LIVE, "no slot is live, so there is nothing to guard") \
     REFUSAL(13, FINDER_NO_LANDMARK, "one slot alone is live, so there is no landmark beside the entry") \
-    REFUSAL(15, FINDER_BAD_NUMBER, "a number to be given is 0, carried by a live slot already, or twice in the list")
+    REFUSAL(15, FINDER_BAD_NUMBER, "a number to be given is 0, carried by a live slot already, or twice in the list") \
+    REFUSAL(16, FINDER_BAD_WEIGHTS, "a weight is outside 1 to 4, or their sum is over 256")
 
 #define FINDER_REFUSAL_NAME(number, name, text) name = number,
 enum finder_refusal { FINDER_REFUSALS(FINDER_REFUSAL_NAME) };
@@ -205,6 +215,7 @@ struct finder {
     uint32_t *pool;     /* FINDER_POOL: the landmark pool */
     uint32_t *numbers;  /* capacity: the figure number of each slot; 0 where it is dead */
     uint32_t *summary;  /* capacity: the live slots by rising number, then FINDER_BLANK */
+    uint8_t *weights;   /* dim: what each place of a vector counts in a distance */
 };
 
 /* What the calls work in: one for each thread, for all indexes whose sizes ask for no more. */
@@ -213,7 +224,7 @@ struct finder_scratch {
     size_t length;
 };
 
-/* The lengths of the eight slices in elements, and what a block and a scratch have in bytes. */
+/* The lengths of the nine slices in elements, and what a block and a scratch have in bytes. */
 struct finder_layout {
     size_t vectors;
     size_t targets;
@@ -223,6 +234,7 @@ struct finder_layout {
     size_t pool;
     size_t numbers;
     size_t summary;
+    size_t weights;
     size_t block_bytes;
     size_t scratch_bytes;
 };
@@ -241,15 +253,16 @@ struct finder_assessment {
 FINDER_CHECKED static inline uint32_t finder_lengths(uint32_t dim, uint32_t capacity, uint32_t degree, struct finder_layout *lengths);
 
 /*
- * Lays the eight slices out in the block, which stays the caller's and is not written. Every call is refused, with 2, until finder_create_in was carried out. A
+ * Lays the nine slices out in the block, which stays the caller's and is not written. Every call is refused, with 2, until finder_create_in was carried out. A
  * block that begins at a multiple of 64 is searched somewhat faster, where capacity is a multiple of 32, so that rows and vectors begin at one too.
  * Refusals, in order: 1, 3 (the block is null, not aligned for uint32_t, or shorter than block_bytes of finder_lengths).
  */
 FINDER_CHECKED static inline uint32_t finder_place(struct finder *f, void *block, size_t block_bytes, uint32_t dim, uint32_t capacity, uint32_t degree);
 
 /*
- * An index that was stored: its words, and the block with the bytes that were stored. What the refusals do not name is not tested.
- * Refusals, in order: those of finder_place, 2, 6.
+ * An index that was stored: its words, and the block with the bytes that were stored. What the refusals do not name is not tested. A block that version 2 stored
+ * lacks the weights at its end: dim bytes, all 1.
+ * Refusals, in order: those of finder_place, 2, 16, 6.
  */
 FINDER_CHECKED static inline uint32_t finder_load(struct finder *f, const uint32_t words[FINDER_INDEX_WORDS], void *block, size_t block_bytes);
 
@@ -268,7 +281,8 @@ static inline struct finder_layout finder_lengths_in(const struct finder *f);
  */
 
 FINDER_CHECKED static inline uint32_t finder_create_in(struct finder *f, float alpha, uint32_t entry, uint32_t count,
-    const uint8_t *bytes, size_t bytes_len, const uint32_t *rows, size_t rows_len, const uint32_t *given_numbers, size_t given_numbers_len);
+    const uint8_t *bytes, size_t bytes_len, const uint32_t *rows, size_t rows_len, const uint32_t *given_numbers, size_t given_numbers_len,
+    const uint8_t *given_weights, size_t given_weights_len);
 
 FINDER_CHECKED static inline uint32_t finder_dim_in(const struct finder *f, uint32_t *value);
 FINDER_CHECKED static inline uint32_t finder_capacity_in(const struct finder *f, uint32_t *value);
@@ -314,20 +328,20 @@ FINDER_CHECKED static inline uint32_t finder_guarded_delete_numbers_in(struct fi
 /* ---- An index in parts: the functions of the archive ---- */
 
 /*
- * They take the words, then the eight slices in the order of struct finder, which tells their lengths. Every pointer is aligned and not null, also where the
+ * They take the words, then the nine slices in the order of struct finder, which tells their lengths. Every pointer is aligned and not null, also where the
  * length is 0, and has that many elements behind it.
  */
 
-/* The eight slices as parameters: const those that are only read. */
-#define FINDER_LENT(VECTORS, TARGETS, EDGES, VERSIONS, MARKS, POOL, NUMBERS, SUMMARY) \
+/* The nine slices as parameters: const those that are only read. */
+#define FINDER_LENT(VECTORS, TARGETS, EDGES, VERSIONS, MARKS, POOL, NUMBERS, SUMMARY, WEIGHTS) \
     VECTORS uint8_t *vectors, size_t vectors_len, TARGETS uint32_t *targets, size_t targets_len, EDGES uint16_t *edges, size_t edges_len, \
     VERSIONS uint16_t *versions, size_t versions_len, MARKS uint8_t *marks, size_t marks_len, POOL uint32_t *pool, size_t pool_len, \
-    NUMBERS uint32_t *numbers, size_t numbers_len, SUMMARY uint32_t *summary, size_t summary_len
-#define FINDER_LENT_READ FINDER_LENT(const, const, const, const, const, const, const, const)
-#define FINDER_LENT_CREATE FINDER_LENT(, , , , , , , )
-#define FINDER_LENT_INSERT FINDER_LENT(, , , const, , const, , )
-#define FINDER_LENT_DELETE FINDER_LENT(const, , , , , const, , )
-#define FINDER_LENT_ENABLE FINDER_LENT(const, const, const, const, const, , const, const)
+    NUMBERS uint32_t *numbers, size_t numbers_len, SUMMARY uint32_t *summary, size_t summary_len, WEIGHTS uint8_t *weights, size_t weights_len
+#define FINDER_LENT_READ FINDER_LENT(const, const, const, const, const, const, const, const, const)
+#define FINDER_LENT_CREATE FINDER_LENT(, , , , , , , , )
+#define FINDER_LENT_INSERT FINDER_LENT(, , , const, , const, , , const)
+#define FINDER_LENT_DELETE FINDER_LENT(const, , , , , const, , , const)
+#define FINDER_LENT_ENABLE FINDER_LENT(const, const, const, const, const, , const, const, const)
 
 /* The version of the archive: FINDER_VERSION of the header that belongs to it. */
 uint32_t finder_version(void);
@@ -340,18 +354,19 @@ FINDER_CALL uint32_t finder_scratch_words(uint32_t dim, uint32_t capacity, uint3
 
 /*
  * Makes an index of which the first count slots are given: bytes has the vectors (count * dim), rows the references (count * degree, each FINDER_BLANK or
- * a given slot), given_numbers the figure numbers (count). Whatever the eight slices held, they are written whole, and so are the index's words. The guard is off.
+ * a given slot), given_numbers the figure numbers (count), given_weights the weight of each place of a vector (dim). Whatever the nine slices held, they are
+ * written whole, and so are the index's words. The guard is off.
  * Alpha says how full pruning leaves the rows: going from near to far, it drops a candidate whose (squared) distance to the row's slot is more than alpha
  * times that to a reference taken before, so a larger alpha keeps more references. 1.0 keeps the fewest; 1.2 is usual, and what was measured.
- * Refusals, in order: 1, 2, 3 (one of the eight slices, bytes, rows or given_numbers), 4, 5, 15.
+ * Refusals, in order: 1, 2, 3 (one of the nine slices, bytes, rows, given_numbers or given_weights), 16, 4, 5, 15.
  */
 FINDER_CALL uint32_t finder_create(uint32_t dim, uint32_t capacity, uint32_t degree, float alpha, uint32_t entry, uint32_t count,
     const uint8_t *bytes, size_t bytes_len, const uint32_t *rows, size_t rows_len, const uint32_t *given_numbers, size_t given_numbers_len,
-    FINDER_LENT_CREATE, uint32_t words[FINDER_INDEX_WORDS]);
+    const uint8_t *given_weights, size_t given_weights_len, FINDER_LENT_CREATE, uint32_t words[FINDER_INDEX_WORDS]);
 
 /*
  * Readings. Each writes what it read to *value.
- * Refusals, in order: 1, 2, 3, 6.
+ * Refusals, in order: 1, 2, 3, 16, 6.
  */
 
 /* The dim. */
@@ -386,18 +401,18 @@ FINDER_CALL uint32_t finder_target(const uint32_t words[FINDER_INDEX_WORDS], FIN
 
 /*
  * How many bytes the vector of a slot has: dim where the slot is live, and they begin at vectors + (size_t)slot * dim; 0 where it is dead or outside, and
- * where the call is refused, with 1, 2, 3 or 6, which is not told.
+ * where the call is refused, with 1, 2, 3, 16 or 6, which is not told.
  */
 FINDER_CALL size_t finder_vector(const uint32_t words[FINDER_INDEX_WORDS], FINDER_LENT_READ, uint32_t slot);
 
 /*
  * Walks the graph from the entry with a list of at most beam slots and gives the k nearest to the query that it finds, nearest first, of equals the lower slot
  * first. How many they are is written to *found: at most k, at most beam, and 0 where the entry is dead. The slots, the distances (sums of squared differences,
- * whole numbers; no root is taken) and the figure numbers are written to the first *found places of the outputs; the places after them stay. The scratch is
- * overwritten.
+ * each times its place's weight: whole numbers below 2^24; no root is taken) and the figure numbers are written to the first *found places of the outputs; the
+ * places after them stay. The scratch is overwritten.
  * A larger beam finds more and takes longer; 0 and 1 give the entry alone. Take at least k. With 15,000 vectors 16, 64 and 256 found 95.9, 99.6 and 99.9 of 100
  * true neighbours (docs/YEAR.md).
- * Refusals, in order: 1, 2, 3 (one of the eight slices, or a query that is not dim long), 6, 7 (a beam over its limit, or k over one of the three outputs), 8.
+ * Refusals, in order: 1, 2, 3 (one of the nine slices, or a query that is not dim long), 16, 6, 7 (a beam over its limit, or k over one of the three outputs), 8.
  */
 FINDER_CALL uint32_t finder_search(const uint32_t words[FINDER_INDEX_WORDS], FINDER_LENT_READ,
     const uint8_t *query, size_t query_len, uint32_t k, uint32_t beam,
@@ -409,11 +424,11 @@ FINDER_CALL uint32_t finder_search(const uint32_t words[FINDER_INDEX_WORDS], FIN
  * slots, the first vector into the lowest. For each a walk from the entry, with a list of at most beam or degree slots, whichever is more, finds neighbours, of
  * which pruning selects its row; the rows of those selected are pruned anew with the new slot among their references. How many vectors they are is written to
  * *found and the slots that they got to the first *found places of slots, lowest first; the places after them stay. The words get the new live count, and numbers
- * and summary take the new slots up; versions and pool are only read. The rows of 256 vectors at a time are worked out on the index as it stands before any of them
+ * and summary take the new slots up; versions, pool and weights are only read. The rows of 256 vectors at a time are worked out on the index as it stands before any of them
  * is written, so vectors of one call do not find each other: new titles are better inserted one vector to a call (docs/YEAR.md). While the entry is dead, walks
  * find nothing, and new slots get empty rows: an index of which all was deleted is better made anew. The scratch is overwritten.
- * Refusals, in order: 1, 2, 3 (one of the eight slices, fewer places in slots than vectors, or not one number for each; bytes after the last whole vector do not
- * count), 6, 7, 8, 9, 10, 15.
+ * Refusals, in order: 1, 2, 3 (one of the nine slices, fewer places in slots than vectors, or not one number for each; bytes after the last whole vector do not
+ * count), 16, 6, 7, 8, 9, 10, 15.
  */
 FINDER_CALL uint32_t finder_insert(uint32_t words[FINDER_INDEX_WORDS], FINDER_LENT_INSERT,
     const uint8_t *bytes, size_t bytes_len, const uint32_t *new_numbers, size_t new_numbers_len, uint32_t beam,
@@ -426,9 +441,9 @@ FINDER_CALL uint32_t finder_insert(uint32_t words[FINDER_INDEX_WORDS], FINDER_LE
  * slots, and with at most repair_degree links for each), their rows are emptied and their versions step on by 1 (after 65,535 comes 0), which outdates
  * what still refers to them. Their figure numbers become 0, the summary leaves them out, and the numbers that they had may be given again. Where the entry is
  * deleted, the lowest live slot becomes the entry; if none is left it stays. The guard is not asked. How many slots they are is written to *found and their counts
- * to the first *found places of stats, in the order of the slots; the places after them stay. The words get the new live count and entry; vectors and pool are only
- * read. The scratch is overwritten.
- * Refusals, in order: 1, 2, 3 (one of the eight slices, or fewer places in stats than ids), 6, 7, 8.
+ * to the first *found places of stats, in the order of the slots; the places after them stay. The words get the new live count and entry; vectors, pool and
+ * weights are only read. The scratch is overwritten.
+ * Refusals, in order: 1, 2, 3 (one of the nine slices, or fewer places in stats than ids), 16, 6, 7, 8.
  */
 FINDER_CALL uint32_t finder_delete(uint32_t words[FINDER_INDEX_WORDS], FINDER_LENT_DELETE,
     const uint32_t *ids, size_t ids_len, uint32_t repair_beam, uint32_t repair_degree,
@@ -438,7 +453,7 @@ FINDER_CALL uint32_t finder_delete(uint32_t words[FINDER_INDEX_WORDS], FINDER_LE
 /*
  * Deletes as finder_delete does the live slots whose figure numbers stand in named_numbers; a number that no live slot carries, 0 too, or that stood there before,
  * is skipped. The counts are in the order of the slots, not of the numbers.
- * Refusals, in order: 1, 2, 3 (one of the eight slices, or fewer places in stats than numbers), 6, 7, 8. For 3 and 7 all numbers in the list count.
+ * Refusals, in order: 1, 2, 3 (one of the nine slices, or fewer places in stats than numbers), 16, 6, 7, 8. For 3 and 7 all numbers in the list count.
  */
 FINDER_CALL uint32_t finder_delete_numbers(uint32_t words[FINDER_INDEX_WORDS], FINDER_LENT_DELETE,
     const uint32_t *named_numbers, size_t named_numbers_len, uint32_t repair_beam, uint32_t repair_degree,
@@ -453,7 +468,7 @@ FINDER_CALL uint32_t finder_delete_numbers(uint32_t words[FINDER_INDEX_WORDS], F
  * Enables the guard, which may be on already. Chooses landmark_count * multiplier landmarks at most, writes them to the front of pool (the places after them
  * stay), and writes the index's words and *status. They are chosen out of the live ones of every n-th slot, n being capacity / sample, at least 1; if these are
  * fewer than wanted, out of all live slots. In each of the four settings 0 acts as 1, and is stored so. The scratch is overwritten.
- * Refusals, in order: 1, 2, 3, 6, 7, 8, 12, 13.
+ * Refusals, in order: 1, 2, 3, 16, 6, 7, 8, 12, 13.
  */
 FINDER_CALL uint32_t finder_guard_enable(uint32_t words[FINDER_INDEX_WORDS], FINDER_LENT_ENABLE,
     uint32_t landmark_count, uint32_t multiplier, uint32_t sample, uint32_t beam, uint32_t *scratch, size_t scratch_len,
@@ -461,7 +476,7 @@ FINDER_CALL uint32_t finder_guard_enable(uint32_t words[FINDER_INDEX_WORDS], FIN
 
 /*
  * Writes the guard's status to *status.
- * Refusals, in order: 1, 2, 3, 6.
+ * Refusals, in order: 1, 2, 3, 16, 6.
  */
 FINDER_CALL uint32_t finder_guard_status(const uint32_t words[FINDER_INDEX_WORDS], FINDER_LENT_READ, struct finder_status *status);
 
@@ -470,7 +485,7 @@ FINDER_CALL uint32_t finder_guard_status(const uint32_t words[FINDER_INDEX_WORDS
  * landmarks looked at are written to the front of checked, those lost to the front of lost, and the numbers to *report; the places after them stay. Both
  * lists have FINDER_MAX_LANDMARKS places at least. A delete is admitted where a walk finds some landmark now and none is lost, or where no live slot is
  * named. The scratch is overwritten.
- * Refusals, in order: 1, 2, 3 (one of the eight slices, or a list that is too short), 6, 7, 8, 11.
+ * Refusals, in order: 1, 2, 3 (one of the nine slices, or a list that is too short), 16, 6, 7, 8, 11.
  */
 FINDER_CALL uint32_t finder_assess(const uint32_t words[FINDER_INDEX_WORDS], FINDER_LENT_READ, const uint32_t *ids, size_t ids_len,
     uint32_t *checked, size_t checked_len, uint32_t *lost, size_t lost_len, uint32_t *scratch, size_t scratch_len, struct finder_report *report);
@@ -479,7 +494,7 @@ FINDER_CALL uint32_t finder_assess(const uint32_t words[FINDER_INDEX_WORDS], FIN
  * Deletes as finder_delete does, if the guard admits it, which report->admitted says: 0 where the delete is deferred, and then words, slices and stats stay
  * and *found is 0. The report is that of finder_assess, in both cases: the landmarks looked at are written to the front of checked, those lost to the front
  * of lost, and the numbers to *report. Where no live slot is named the delete is admitted, and empties none. The scratch is overwritten.
- * Refusals, in order: 1, 2, 3 (one of the eight slices, fewer places in stats than ids, or a list that is too short), 6, 7, 8, 11.
+ * Refusals, in order: 1, 2, 3 (one of the nine slices, fewer places in stats than ids, or a list that is too short), 16, 6, 7, 8, 11.
  */
 FINDER_CALL uint32_t finder_guarded_delete(uint32_t words[FINDER_INDEX_WORDS], FINDER_LENT_DELETE,
     const uint32_t *ids, size_t ids_len, uint32_t repair_beam, uint32_t repair_degree,
@@ -488,7 +503,7 @@ FINDER_CALL uint32_t finder_guarded_delete(uint32_t words[FINDER_INDEX_WORDS], F
 
 /*
  * Deletes as finder_guarded_delete does, by figure numbers as finder_delete_numbers does. The landmarks of the report are slots.
- * Refusals, in order: 1, 2, 3 (one of the eight slices, fewer places in stats than numbers, or a list that is too short), 6, 7, 8, 11.
+ * Refusals, in order: 1, 2, 3 (one of the nine slices, fewer places in stats than numbers, or a list that is too short), 16, 6, 7, 8, 11.
  */
 FINDER_CALL uint32_t finder_guarded_delete_numbers(uint32_t words[FINDER_INDEX_WORDS], FINDER_LENT_DELETE,
     const uint32_t *named_numbers, size_t named_numbers_len, uint32_t repair_beam, uint32_t repair_degree,
@@ -521,15 +536,16 @@ static inline uint32_t finder_lengths(uint32_t dim, uint32_t capacity, uint32_t 
     lengths->pool = FINDER_POOL;
     lengths->numbers = capacity;
     lengths->summary = capacity;
+    lengths->weights = dim;
     lengths->block_bytes = (lengths->targets + lengths->pool + lengths->numbers + lengths->summary) * sizeof(uint32_t)
-        + (lengths->edges + lengths->versions) * sizeof(uint16_t) + lengths->vectors + lengths->marks;
+        + (lengths->edges + lengths->versions) * sizeof(uint16_t) + lengths->vectors + lengths->marks + lengths->weights;
     lengths->scratch_bytes = scratch * sizeof(uint32_t);
     return FINDER_OK;
 }
 
 static inline struct finder_layout finder_lengths_in(const struct finder *f)
 {
-    struct finder_layout lengths = { 0, 0, 0, 0, 0, 0, 0, 0, 0, 0 };
+    struct finder_layout lengths = { 0, 0, 0, 0, 0, 0, 0, 0, 0, 0, 0 };
     uint32_t refusal = finder_lengths(f->words[FINDER_WORD_DIM], f->words[FINDER_WORD_CAPACITY], f->words[FINDER_WORD_DEGREE], &lengths);
     (void)refusal; /* which has left the zeros */
     return lengths;
@@ -558,6 +574,7 @@ static inline uint32_t finder_place(struct finder *f, void *block, size_t block_
     f->versions = f->edges + n.edges;
     f->vectors = (uint8_t *)(f->versions + n.versions);
     f->marks = f->vectors + n.vectors;
+    f->weights = f->marks + n.marks;
     return FINDER_OK;
 }
 
@@ -590,11 +607,11 @@ static inline uint32_t finder_place_scratch(struct finder_scratch *scratch, void
 /* A list as two arguments; a null one is passed as an empty list at the address of `none`. */
 #define FINDER_LIST(type, list, len) (list) ? (list) : (type *)&none, (list) ? (len) : 0
 
-/* The eight slices of f as arguments, n being its lengths. */
+/* The nine slices of f as arguments, n being its lengths. */
 #define FINDER_SLICES \
     FINDER_LIST(uint8_t, f->vectors, n.vectors), FINDER_LIST(uint32_t, f->targets, n.targets), FINDER_LIST(uint16_t, f->edges, n.edges), \
     FINDER_LIST(uint16_t, f->versions, n.versions), FINDER_LIST(uint8_t, f->marks, n.marks), FINDER_LIST(uint32_t, f->pool, n.pool), \
-    FINDER_LIST(uint32_t, f->numbers, n.numbers), FINDER_LIST(uint32_t, f->summary, n.summary)
+    FINDER_LIST(uint32_t, f->numbers, n.numbers), FINDER_LIST(uint32_t, f->summary, n.summary), FINDER_LIST(uint8_t, f->weights, n.weights)
 
 /* What these two name. */
 #define FINDER_PARTS \
@@ -602,12 +619,14 @@ static inline uint32_t finder_place_scratch(struct finder_scratch *scratch, void
     uint32_t none = 0
 
 static inline uint32_t finder_create_in(struct finder *f, float alpha, uint32_t entry, uint32_t count,
-    const uint8_t *bytes, size_t bytes_len, const uint32_t *rows, size_t rows_len, const uint32_t *given_numbers, size_t given_numbers_len)
+    const uint8_t *bytes, size_t bytes_len, const uint32_t *rows, size_t rows_len, const uint32_t *given_numbers, size_t given_numbers_len,
+    const uint8_t *given_weights, size_t given_weights_len)
 {
     FINDER_PARTS;
     return finder_create(f->words[FINDER_WORD_DIM], f->words[FINDER_WORD_CAPACITY], f->words[FINDER_WORD_DEGREE], alpha, entry, count,
         FINDER_LIST(const uint8_t, bytes, bytes_len), FINDER_LIST(const uint32_t, rows, rows_len),
-        FINDER_LIST(const uint32_t, given_numbers, given_numbers_len), FINDER_SLICES, f->words);
+        FINDER_LIST(const uint32_t, given_numbers, given_numbers_len), FINDER_LIST(const uint8_t, given_weights, given_weights_len), FINDER_SLICES,
+        f->words);
 }
 
 static inline uint32_t finder_dim_in(const struct finder *f, uint32_t *value)

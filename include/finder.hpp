@@ -4,7 +4,7 @@
  *     picture_finder::Index index(256, 1000, 32);                                dim, capacity, degree
  *     picture_finder::Scratch scratch(index);
  *     if (!index || !scratch) ..                                                 sizes outside their ranges, or no memory
- *     if (index.create(1.2f)) ..                                                 alpha 1.2, no vector yet; a refusal, else 0
+ *     if (index.create(1.2f)) ..                                                 alpha 1.2, no vector yet, all weights 1; a refusal, else 0
  *     auto inserted = index.insert(grey, { &number, 1 }, 64, slots, scratch);    one vector and its figure number, beam 64
  *     auto near = index.search(query, 10, 64, slots, dists, numbers, scratch);
  *     if (near) ..                                                               near.value slots were found
@@ -20,6 +20,7 @@
 #include <cstddef>
 #include <cstdint>
 #include <cstdlib>
+#include <cstring>
 #include <memory>
 #include <type_traits>
 #include <utility>
@@ -154,14 +155,25 @@ public:
         return finder_load(&f_, words, block_.get(), bytes_);
     }
 
+    /* Without vectors, all weights 1. */
+    FINDER_CHECKED uint32_t create(float alpha) noexcept
+    {
+        uint8_t ones[FINDER_MAX_DIM];
+        std::memset(ones, 1, sizeof ones);
+        return create(alpha, List<const uint8_t>(ones, finder_lengths_in(&f_).weights));
+    }
+
     /* Without vectors. */
-    FINDER_CHECKED uint32_t create(float alpha) noexcept { return create(alpha, 0, 0, nullptr, nullptr, nullptr); }
+    FINDER_CHECKED uint32_t create(float alpha, List<const uint8_t> given_weights) noexcept
+    {
+        return create(alpha, 0, 0, nullptr, nullptr, nullptr, given_weights);
+    }
 
     FINDER_CHECKED uint32_t create(float alpha, uint32_t entry, uint32_t count, List<const uint8_t> bytes, List<const uint32_t> rows,
-        List<const uint32_t> given_numbers) noexcept
+        List<const uint32_t> given_numbers, List<const uint8_t> given_weights) noexcept
     {
         return finder_create_in(&f_, alpha, entry, count, bytes.first(), bytes.length(), rows.first(), rows.length(), given_numbers.first(),
-            given_numbers.length());
+            given_numbers.length(), given_weights.first(), given_weights.length());
     }
 
     FINDER_CHECKED Answer<uint32_t> dim() const noexcept { return read(finder_dim_in); }

@@ -1,18 +1,19 @@
 #!/bin/sh
-# pair/run.sh [COUNT] [SEED]: the main job on a sample set. Builds `pair`, runs its tests, draws COUNT originals and COUNT placeholders (400 and seed 1 where not given),
-# pairs them, and counts against the truth; then writes the report, and runs a small set under valgrind. Exit code 1 where a target is missed: the right
-# original for 99 of 100 of the placeholders that have one, no pairing called sure that is wrong, at most 1.2 times the time that reading the pictures takes.
-# Needs the Rattle kit, cargo, valgrind and Debian's librust-image-dev and librust-indicatif-dev;
+# pair/run.sh [COUNT] [SEED] [--line-ends]: the main job on a sample set. Builds `pair`, runs its tests, draws COUNT originals and COUNT placeholders (400 and seed 1
+# where not given), pairs them, with --line-ends where that is given, and counts against the truth; then writes the report, and runs a small set under valgrind.
+# Exit code 1 where a target is missed: the right original for 99 of 100 of the placeholders that have one, no pairing called sure that is wrong, at most 1.2 times
+# the time that reading the pictures takes. Needs the Rattle kit, cargo, valgrind and Debian's librust-image-dev and librust-indicatif-dev;
 # everything is written below target/, but for the folders crates/*/out, of which crates/finder/out has the archive.
 set -eu
 cd "$(dirname "$0")/.."
 count=${1:-400}
 seed=${2:-1}
+flag=${3:-}
 out=$PWD/target/pair
 bin=$out/release
 mkdir -p "$out"
 
-(cd crates/finder && rt lib) >"$out/archive.log" 2>&1 || { cat "$out/archive.log"; exit 1; }
+(cd crates/finder && rt lib --cpu=x86-64) >"$out/archive.log" 2>&1 || { cat "$out/archive.log"; exit 1; }
 (cd pair && cargo build --release --offline --quiet)
 (cd pair && cargo test --release --offline) >"$out/tests.log" 2>&1 || { cat "$out/tests.log"; exit 1; }
 awk '/^test result: ok/ { passed += $4 } END { print "tests: " passed " passed" }' "$out/tests.log"
@@ -37,7 +38,7 @@ match() {
 sample=$out/sample-$count-$seed
 draw "$sample" "$count"
 status=0
-"$bin/pair" "$sample/originals" "$sample/placeholders" >"$out/pairs.tsv" 2>"$out/pairs.txt" || status=$?
+"$bin/pair" $flag "$sample/originals" "$sample/placeholders" >"$out/pairs.tsv" 2>"$out/pairs.txt" || status=$?
 cat "$out/pairs.txt"
 [ "$status" -le 1 ] || exit 1
 
@@ -64,12 +65,12 @@ awk -F '\t' -v status="$status" '
         exit failed
     }' "$sample/truth.tsv" "$out/pairs.txt" "$out/pairs.tsv"
 
-match report "$sample" "$bin/pair"
+match report "$sample" "$bin/pair" $flag
 cmp "$out/pairs.tsv" "$out/report.tsv"
 echo "report: target/pair/report.html ($(sed -n 's/^time: .*ratio \([0-9.]*\).*/\1/p' "$out/report.txt") times reading with it)"
 
 draw "$out/sample-20-$seed" 20
 match valgrind "$out/sample-20-$seed" \
-    valgrind --error-exitcode=9 --leak-check=full --show-leak-kinds=definite --errors-for-leak-kinds=definite -q "$bin/pair"
+    valgrind --error-exitcode=9 --leak-check=full --show-leak-kinds=definite --errors-for-leak-kinds=definite -q "$bin/pair" $flag
 grep '==' "$out/valgrind.txt" && exit 1
 echo "20 originals and 20 placeholders under valgrind: no finding"

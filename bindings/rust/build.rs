@@ -1,4 +1,4 @@
-// Links libfinder.a, the archive that `rt lib` writes in crates/finder, or says how to make it.
+// Links libfinder.a, the archive that `rt lib --cpu=x86-64` writes in crates/finder, or says how to make it.
 use std::path::PathBuf;
 
 fn main() {
@@ -12,7 +12,7 @@ fn main() {
     if !archive.is_file() {
         eprintln!("{} is not there. It is made with the Rattle kit, in the top folder of the picture finder:", archive.display());
         eprintln!();
-        eprintln!("    (cd crates/finder && rt lib)        # writes crates/finder/out/libfinder.a");
+        eprintln!("    (cd crates/finder && rt lib --cpu=x86-64)        # writes crates/finder/out/libfinder.a");
         eprintln!();
         eprintln!("Where the archive lies elsewhere, name its folder in FINDER_LIB_DIR.");
         std::process::exit(1);

@@ -5,6 +5,7 @@
 
 #include <stdio.h>
 #include <stdlib.h>
+#include <string.h>
 
 /* The figures have the numbers FIRST to FIRST + FIGURES - 1; no figure has the number NOBODY. */
 enum { DIM = 64, CAPACITY = 200, DEGREE = 16, FIGURES = 150, FIRST = 1001, K = 3, BEAM = 64, NOBODY = 0 };
@@ -95,6 +96,7 @@ int main(void)
 {
     struct finder_layout n;
     void *block, *work;
+    uint8_t weights[DIM];
     FILE *file = tmpfile();
     int found = 0;
 
@@ -103,7 +105,9 @@ int main(void)
     work = malloc(n.scratch_bytes);
     must(finder_place(&f, block, n.block_bytes, DIM, CAPACITY, DEGREE), "place");
     must(finder_place_scratch(&scratch, work, n.scratch_bytes), "scratch");
-    must(finder_create_in(&f, 1.2f, 0, 0, NULL, 0, NULL, 0, NULL, 0), "create");
+    /* all places of a vector count alike */
+    memset(weights, 1, sizeof weights);
+    must(finder_create_in(&f, 1.2f, 0, 0, NULL, 0, NULL, 0, NULL, 0, weights, DIM), "create");
 
     insert_all();
     for (uint32_t number = FIRST; number < FIRST + FIGURES; number++)

@@ -19,7 +19,7 @@ uint32_t use(struct finder *f, const struct finder *lent, const uint8_t *query, 
     refusal = finder_live_in(f->words, found);
 #elif MISUSE == 7 /* two slices are exchanged, of different types */
     refusal = finder_live(f->words, f->vectors, 4, f->edges, 4, f->targets, 4, f->versions, 4, f->marks, 4, f->pool, FINDER_POOL,
-        f->numbers, 4, f->summary, 4, found);
+        f->numbers, 4, f->summary, 4, f->weights, 4, found);
 #elif MISUSE == 8 /* memory is placed as an index without its size */
     refusal = finder_place(f, slots, 4, 10, 2);
 #elif MISUSE == 9 /* a refusal of a function of the archive is not looked at */
@@ -28,11 +28,16 @@ uint32_t use(struct finder *f, const struct finder *lent, const uint8_t *query, 
     *finder_vector_in(lent, 0) = 0;
 #elif MISUSE == 11 /* a slice that is null */
     refusal = finder_live(f->words, NULL, 0, f->targets, 4, f->edges, 4, f->versions, 4, f->marks, 4, f->pool, FINDER_POOL,
-        f->numbers, 4, f->summary, 4, found);
+        f->numbers, 4, f->summary, 4, f->weights, 4, found);
 #elif MISUSE == 12 /* a vector without its number */
     refusal = finder_insert_in(f, query, 4, 64, slots, 1, scratch, found);
 #elif MISUSE == 13 /* a search without a list for the numbers */
     refusal = finder_search_in(lent, query, 4, 1, 64, slots, dists, scratch, found);
+#elif MISUSE == 14 /* an index in eight slices, as it was before the weights */
+    refusal = finder_live(f->words, f->vectors, 4, f->targets, 4, f->edges, 4, f->versions, 4, f->marks, 4, f->pool, FINDER_POOL,
+        f->numbers, 4, f->summary, 4, found);
+#elif MISUSE == 15 /* making without the weights */
+    refusal = finder_create_in(f, 1.2f, 0, 0, NULL, 0, NULL, 0, NULL, 0);
 #elif MISUSE != 0
 #error "no such mistake"
 #endif

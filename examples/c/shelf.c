@@ -1,6 +1,6 @@
 /*
- * Every call of the header, on a small index: dim 1, capacity 4, degree 2, the values 0, 3, 10 in slots 0 to 2 with the figure numbers 30, 10, 20. Every value is
- * checked; a wrong one ends the program with 1. first.c is the example to begin with.
+ * Every call of the header, on a small index: dim 1, capacity 4, degree 2, the values 0, 3, 10 in slots 0 to 2 with the figure numbers 30, 10, 20, weight 1; and
+ * on one of dim 3 with the weights 1, 4, 2. Every value is checked; a wrong one ends the program with 1. first.c is the example to begin with.
  */
 #include "finder.h"
 
@@ -38,7 +38,7 @@ static struct finder_scratch scratch;
 /* The index in parts, as the functions of the archive take it. */
 #define SLICES \
     f.vectors, CAPACITY * DIM, f.targets, CAPACITY * DEGREE, f.edges, CAPACITY * DEGREE, f.versions, CAPACITY, f.marks, CAPACITY, f.pool, FINDER_POOL, \
-    f.numbers, CAPACITY, f.summary, CAPACITY
+    f.numbers, CAPACITY, f.summary, CAPACITY, f.weights, DIM
 #define SCRATCH scratch.words, scratch.length
 
 /* All memory is allocated for exactly what it is for, and not written before, so that valgrind sees a read or a write that is out of place. */
@@ -90,17 +90,27 @@ static int lend_slices(void)
     f.pool = block(FINDER_POOL * sizeof *f.pool);
     f.numbers = block(CAPACITY * sizeof *f.numbers);
     f.summary = block(CAPACITY * sizeof *f.summary);
+    f.weights = block(DIM);
     return 0;
 }
 
 static const uint8_t given_bytes[COUNT * DIM] = { 0, 3, 10 };
 static const uint32_t given_rows[COUNT * DEGREE] = { 1, FINDER_BLANK, 0, 2, 1, FINDER_BLANK };
 static const uint32_t given_numbers[COUNT] = { 30, 10, 20 };
+static const uint8_t given_weights[DIM] = { 1 };
 
 /* Making with all that is given; alpha, entry and numbers vary. */
 static uint32_t make_with(float alpha, uint32_t entry, const uint32_t *numbers, size_t numbers_len)
 {
-    return finder_create_in(&f, alpha, entry, COUNT, given_bytes, COUNT, given_rows, COUNT * DEGREE, numbers, numbers_len);
+    return finder_create_in(&f, alpha, entry, COUNT, given_bytes, COUNT, given_rows, COUNT * DEGREE, numbers, numbers_len, given_weights, DIM);
+}
+
+/* Making with so many slots given, of which only the first COUNT have anything; the weights vary. */
+static uint32_t make_weighted(uint32_t count, const uint8_t *weights, size_t weights_len)
+{
+    static const uint8_t bytes[CAPACITY + 1];
+    static const uint32_t rows[(CAPACITY + 1) * DEGREE], numbers[CAPACITY + 1];
+    return finder_create_in(&f, 1.0f, 0, count, bytes, count * DIM, rows, count * DEGREE, numbers, count, weights, weights_len);
 }
 
 /* Whether the slots carry these numbers, and the summary has these words. */
@@ -119,16 +129,22 @@ static int make(void)
 {
     static const uint32_t with_zero[COUNT] = { 30, 0, 20 };
     static const uint32_t repeated[COUNT] = { 30, 10, 30 };
+    static const uint8_t zero[2] = { 0, 1 }, five[1] = { 5 };
     uint32_t n = 77;
     CHECK(finder_live_in(&f, &n) == FINDER_BAD_ALPHA && n == 77);
     CHECK(make_with(3.0f, 1, given_numbers, COUNT) == FINDER_BAD_ALPHA);
-    CHECK(finder_create_in(&f, 1.0f, 1, COUNT, given_bytes, COUNT - 1, given_rows, COUNT * DEGREE, given_numbers, COUNT) == FINDER_BAD_LENGTH);
-    CHECK(finder_create_in(&f, 1.0f, 1, COUNT, given_bytes, COUNT, NULL, COUNT * DEGREE, given_numbers, COUNT) == FINDER_BAD_LENGTH);
+    CHECK(finder_create_in(&f, 1.0f, 1, COUNT, given_bytes, COUNT - 1, given_rows, COUNT * DEGREE, given_numbers, COUNT, given_weights, DIM)
+        == FINDER_BAD_LENGTH);
+    CHECK(finder_create_in(&f, 1.0f, 1, COUNT, given_bytes, COUNT, NULL, COUNT * DEGREE, given_numbers, COUNT, given_weights, DIM) == FINDER_BAD_LENGTH);
     CHECK(make_with(1.0f, 1, given_numbers, COUNT - 1) == FINDER_BAD_LENGTH && make_with(1.0f, 1, NULL, COUNT) == FINDER_BAD_LENGTH);
+    CHECK(make_weighted(COUNT, given_weights, DIM - 1) == FINDER_BAD_LENGTH && make_weighted(COUNT, NULL, DIM) == FINDER_BAD_LENGTH);
+    CHECK(make_weighted(COUNT, zero, DIM + 1) == FINDER_BAD_LENGTH && make_weighted(COUNT, zero, DIM) == FINDER_BAD_WEIGHTS);
+    CHECK(make_weighted(COUNT, five, DIM) == FINDER_BAD_WEIGHTS && make_weighted(CAPACITY + 1, five, DIM) == FINDER_BAD_WEIGHTS);
+    CHECK(make_weighted(CAPACITY + 1, given_weights, DIM) == FINDER_TOO_MANY);
     CHECK(make_with(1.0f, 3, with_zero, COUNT) == FINDER_BAD_GIVEN);
     CHECK(make_with(1.0f, 1, with_zero, COUNT) == FINDER_BAD_NUMBER && make_with(1.0f, 1, repeated, COUNT) == FINDER_BAD_NUMBER);
     CHECK(f.words[FINDER_WORD_ALPHA] == 0);
-    CHECK(make_with(1.0f, 1, given_numbers, COUNT) == 0);
+    CHECK(make_with(1.0f, 1, given_numbers, COUNT) == 0 && f.weights[0] == 1);
     return 0;
 }
 
@@ -203,12 +219,12 @@ static int nulls(void)
     CHECK(finder_assess_in(&f, NULL, 1, scratch, &a) == FINDER_GUARD_OFF);
     CHECK(finder_lengths_in(&none).vectors == 0 && finder_lengths_in(&none).block_bytes == 0);
     CHECK(finder_live_in(&none, &found) == FINDER_BAD_SIZES && finder_vector_in(&none, 0) == NULL);
-    CHECK(finder_create_in(&none, 1.0f, 0, 0, NULL, 0, NULL, 0, NULL, 0) == FINDER_BAD_SIZES);
+    CHECK(finder_create_in(&none, 1.0f, 0, 0, NULL, 0, NULL, 0, NULL, 0, NULL, 0) == FINDER_BAD_SIZES);
     CHECK(finder_search_in(&none, &query, DIM, 2, 2, slots, dists, numbers, no_scratch, &found) == FINDER_BAD_SIZES);
     none.words[FINDER_WORD_DIM] = DIM;
     none.words[FINDER_WORD_CAPACITY] = CAPACITY;
     none.words[FINDER_WORD_DEGREE] = DEGREE;
-    CHECK(finder_create_in(&none, 1.0f, 0, 0, NULL, 0, NULL, 0, NULL, 0) == FINDER_BAD_LENGTH);
+    CHECK(finder_create_in(&none, 1.0f, 0, 0, NULL, 0, NULL, 0, NULL, 0, given_weights, DIM) == FINDER_BAD_LENGTH);
     return 0;
 }
 
@@ -433,11 +449,13 @@ static int parts(void)
     CHECK(finder_target(f.words, SLICES, 3, 0, &n) == 0 && n == 0);
     CHECK(finder_vector(f.words, SLICES, 3) == DIM && finder_vector(f.words, SLICES, 2) == 0);
     CHECK(finder_dim(f.words, f.vectors, CAPACITY * DIM - 1, f.targets, CAPACITY * DEGREE, f.edges, CAPACITY * DEGREE, f.versions, CAPACITY, f.marks, CAPACITY,
-        f.pool, FINDER_POOL, f.numbers, CAPACITY, f.summary, CAPACITY, &n) == FINDER_BAD_LENGTH);
+        f.pool, FINDER_POOL, f.numbers, CAPACITY, f.summary, CAPACITY, f.weights, DIM, &n) == FINDER_BAD_LENGTH);
     CHECK(finder_dim(f.words, f.vectors, CAPACITY * DIM, f.targets, CAPACITY * DEGREE, f.edges, CAPACITY * DEGREE, f.versions, CAPACITY, f.marks, CAPACITY,
-        f.pool, FINDER_POOL, f.numbers, CAPACITY - 1, f.summary, CAPACITY, &n) == FINDER_BAD_LENGTH);
+        f.pool, FINDER_POOL, f.numbers, CAPACITY - 1, f.summary, CAPACITY, f.weights, DIM, &n) == FINDER_BAD_LENGTH);
     CHECK(finder_dim(f.words, f.vectors, CAPACITY * DIM, f.targets, CAPACITY * DEGREE, f.edges, CAPACITY * DEGREE, f.versions, CAPACITY, f.marks, CAPACITY,
-        f.pool, FINDER_POOL, f.numbers, CAPACITY, f.summary, CAPACITY - 1, &n) == FINDER_BAD_LENGTH);
+        f.pool, FINDER_POOL, f.numbers, CAPACITY, f.summary, CAPACITY - 1, f.weights, DIM, &n) == FINDER_BAD_LENGTH);
+    CHECK(finder_dim(f.words, f.vectors, CAPACITY * DIM, f.targets, CAPACITY * DEGREE, f.edges, CAPACITY * DEGREE, f.versions, CAPACITY, f.marks, CAPACITY,
+        f.pool, FINDER_POOL, f.numbers, CAPACITY, f.summary, CAPACITY, f.weights, DIM - 1, &n) == FINDER_BAD_LENGTH);
     return 0;
 }
 
@@ -450,7 +468,7 @@ static int store_and_load(void)
     uint8_t *copy = block(n.block_bytes);
     uint8_t *unaligned = block(n.block_bytes + 1);
     uint32_t live = 77;
-    CHECK(n.block_bytes == (size_t)((uint8_t *)f.marks + n.marks - (uint8_t *)f.targets));
+    CHECK(n.block_bytes == (size_t)(f.weights + n.weights - (uint8_t *)f.targets));
     memcpy(words, f.words, sizeof words);
     memcpy(copy, f.targets, n.block_bytes);
     again.words[0] = 77;
@@ -463,6 +481,12 @@ static int store_and_load(void)
     words[FINDER_WORD_DIM] = 0;
     CHECK(finder_load(&again, words, copy, n.block_bytes) == FINDER_BAD_SIZES && again.words[0] == 77);
     words[FINDER_WORD_DIM] = DIM;
+    /* 16 before 6; the weights are the block's last bytes */
+    words[FINDER_WORD_LIVE]++;
+    copy[n.block_bytes - 1] = 0;
+    CHECK(finder_load(&again, words, copy, n.block_bytes) == FINDER_BAD_WEIGHTS && again.words[0] == 77);
+    copy[n.block_bytes - 1] = 1;
+    words[FINDER_WORD_LIVE]--;
     CHECK(finder_load(&again, words, copy, n.block_bytes) == 0);
     CHECK(memcmp(again.words, f.words, sizeof words) == 0 && memcmp(again.targets, f.targets, n.block_bytes) == 0);
     CHECK(finder_live_in(&again, &live) == 0 && live == f.words[FINDER_WORD_LIVE]);
@@ -473,7 +497,7 @@ static int store_and_load(void)
 /* Lengths and layout, at the limits too. */
 static int lengths(void)
 {
-    struct finder_layout n = { 77, 0, 0, 0, 0, 0, 0, 0, 0, 0 };
+    struct finder_layout n = { 77, 0, 0, 0, 0, 0, 0, 0, 0, 0, 0 };
     struct finder g;
     struct finder_scratch s;
     uint32_t size = 77;
@@ -482,15 +506,15 @@ static int lengths(void)
     CHECK(finder_lengths(257, CAPACITY, DEGREE, &n) == FINDER_BAD_SIZES && n.vectors == 77);
     CHECK(finder_lengths(FINDER_MAX_DIM, FINDER_MAX_CAPACITY, FINDER_MAX_DEGREE, &n) == 0);
     CHECK(n.vectors == 65536 * 256 && n.targets == 65536 * 64 && n.edges == n.targets && n.versions == 65536 && n.marks == 65536 && n.pool == FINDER_POOL);
-    CHECK(n.numbers == 65536 && n.summary == 65536);
-    CHECK(n.block_bytes == n.vectors + 6 * n.targets + 3 * n.versions + 4 * FINDER_POOL + 4 * n.numbers + 4 * n.summary);
+    CHECK(n.numbers == 65536 && n.summary == 65536 && n.weights == 256);
+    CHECK(n.block_bytes == n.vectors + 6 * n.targets + 3 * n.versions + 4 * FINDER_POOL + 4 * n.numbers + 4 * n.summary + n.weights);
     CHECK(finder_scratch_words(FINDER_MAX_DIM, FINDER_MAX_CAPACITY, FINDER_MAX_DEGREE, &size) == 0 && n.scratch_bytes == 4 * (size_t)size);
     most = block(n.block_bytes);
     CHECK(finder_place(&g, most, n.block_bytes, FINDER_MAX_DIM, FINDER_MAX_CAPACITY, FINDER_MAX_DEGREE) == 0);
     CHECK((uint8_t *)g.targets == most && g.pool == g.targets + n.targets && g.numbers == g.pool + n.pool && g.summary == g.numbers + n.numbers);
     CHECK((void *)g.edges == (void *)(g.summary + n.summary));
     CHECK(g.versions == g.edges + n.edges && (void *)g.vectors == (void *)(g.versions + n.versions) && g.marks == g.vectors + n.vectors);
-    CHECK(g.marks + n.marks == most + n.block_bytes);
+    CHECK(g.weights == g.marks + n.marks && g.weights + n.weights == most + n.block_bytes);
     CHECK(finder_place(&g, most, n.block_bytes - 1, FINDER_MAX_DIM, FINDER_MAX_CAPACITY, FINDER_MAX_DEGREE) == FINDER_BAD_LENGTH);
     CHECK(finder_place(&g, most + 2, n.block_bytes, DIM, CAPACITY, DEGREE) == FINDER_BAD_LENGTH);
     CHECK(finder_place(&g, NULL, n.block_bytes, DIM, CAPACITY, DEGREE) == FINDER_BAD_LENGTH);
@@ -531,12 +555,50 @@ static int wrong_numbers(void)
     return 0;
 }
 
+/* Weights of another length or outside their range, in every call: 3 before 16, 16 before the rest. The index has two marks, and here a live count of 3. */
+static int wrong_weights(void)
+{
+    static const uint8_t wrong[3] = { 0, 5, 255 };
+    struct finder_status status;
+    struct finder_assessment report;
+    struct finder_stats counts;
+    const uint8_t query = 2;
+    const uint32_t one = 1;
+    uint32_t n = 77, slot = 77, number = 77;
+    float dist = 77, alpha = 77;
+    uint8_t weight = f.weights[0];
+    f.words[FINDER_WORD_LIVE] = 3;
+    for (int i = 0; i < 3; i++) {
+        f.weights[0] = wrong[i];
+        CHECK(finder_dim_in(&f, &n) == FINDER_BAD_WEIGHTS && finder_capacity_in(&f, &n) == FINDER_BAD_WEIGHTS);
+        CHECK(finder_degree_in(&f, &n) == FINDER_BAD_WEIGHTS && finder_alpha_in(&f, &alpha) == FINDER_BAD_WEIGHTS);
+        CHECK(finder_entry_in(&f, &n) == FINDER_BAD_WEIGHTS && finder_live_in(&f, &n) == FINDER_BAD_WEIGHTS);
+        CHECK(finder_mark_in(&f, 0, &n) == FINDER_BAD_WEIGHTS && finder_slot_version_in(&f, 0, &n) == FINDER_BAD_WEIGHTS);
+        CHECK(finder_number_in(&f, 0, &n) == FINDER_BAD_WEIGHTS && finder_target_in(&f, 0, 0, &n) == FINDER_BAD_WEIGHTS);
+        CHECK(finder_vector_in(&f, 0) == NULL && finder_guard_status_in(&f, &status) == FINDER_BAD_WEIGHTS);
+        CHECK(finder_search_in(&f, &query, DIM, 1, FINDER_MAX_BEAM + 1, &slot, &dist, &number, scratch, &n) == FINDER_BAD_WEIGHTS);
+        CHECK(finder_insert_in(&f, &query, DIM, &one, 1, FINDER_MAX_BEAM + 1, &slot, 1, scratch, &n) == FINDER_BAD_WEIGHTS);
+        CHECK(finder_delete_in(&f, &one, 1, 0, 99, &counts, scratch, &n) == FINDER_BAD_WEIGHTS);
+        CHECK(finder_delete_numbers_in(&f, &one, 1, 0, 99, &counts, scratch, &n) == FINDER_BAD_WEIGHTS);
+        CHECK(finder_guard_enable_in(&f, 65, 1, 1, 1, scratch, &status) == FINDER_BAD_WEIGHTS);
+        CHECK(finder_assess_in(&f, &one, 1, scratch, &report) == FINDER_BAD_WEIGHTS);
+        CHECK(finder_guarded_delete_in(&f, &one, 1, 0, 99, &counts, scratch, &n, &report) == FINDER_BAD_WEIGHTS);
+        CHECK(finder_guarded_delete_numbers_in(&f, &one, 1, 0, 99, &counts, scratch, &n, &report) == FINDER_BAD_WEIGHTS);
+        CHECK(finder_search_in(&f, &query, 0, 1, 1, &slot, &dist, &number, scratch, &n) == FINDER_BAD_LENGTH);
+        CHECK(n == 77 && slot == 77 && number == 77 && dist == 77 && alpha == 77);
+    }
+    f.weights[0] = weight;
+    CHECK(finder_dim_in(&f, &n) == FINDER_BAD_INDEX);
+    f.words[FINDER_WORD_LIVE] = 2;
+    return 0;
+}
+
 static int refuse(void)
 {
     uint32_t n = 77;
     CHECK(finder_scratch_words(257, CAPACITY, DEGREE, &n) == FINDER_BAD_SIZES && n == 77);
     CHECK(make_with(0.5f, 1, given_numbers, COUNT) == FINDER_BAD_ALPHA && f.words[FINDER_WORD_DIM] == DIM);
-    if (wrong_numbers())
+    if (wrong_numbers() || wrong_weights())
         return 1;
     f.words[FINDER_WORD_LIVE] = 3;
     CHECK(finder_dim_in(&f, &n) == FINDER_BAD_INDEX && n == 77);
@@ -553,11 +615,11 @@ static int refuse(void)
 static int texts(void)
 {
     CHECK(FINDER_OK == 0 && FINDER_BAD_SIZES == 1 && FINDER_BAD_INDEX == 6 && FINDER_FULL == 10 && FINDER_NO_LANDMARK == 13);
-    CHECK(FINDER_BAD_NUMBER == 15);
-    for (uint32_t i = 0; i <= 15; i++)
+    CHECK(FINDER_BAD_NUMBER == 15 && FINDER_BAD_WEIGHTS == 16);
+    for (uint32_t i = 0; i <= 16; i++)
         for (uint32_t j = 0; j < i; j++)
             CHECK(strcmp(finder_refusal_text(i), finder_refusal_text(j)) != 0);
-    CHECK(strcmp(finder_refusal_text(14), finder_refusal_text(0xffffffffu)) == 0 && strcmp(finder_refusal_text(14), finder_refusal_text(16)) == 0);
+    CHECK(strcmp(finder_refusal_text(14), finder_refusal_text(0xffffffffu)) == 0 && strcmp(finder_refusal_text(14), finder_refusal_text(17)) == 0);
     CHECK(strcmp(finder_refusal_text(FINDER_GUARD_OFF), "the guard is off") == 0);
     return 0;
 }
@@ -566,6 +628,76 @@ static int version(void)
 {
     CHECK(FINDER_VERSION == 10000 * FINDER_VERSION_MAJOR + 100 * FINDER_VERSION_MINOR + FINDER_VERSION_PATCH);
     CHECK(finder_version() == FINDER_VERSION);
+    return 0;
+}
+
+/* What becomes of the weights, and of distances by them: two figures of three values each, and a query that is nearer to one or the other as they count. */
+static int weighted(void)
+{
+    static const uint8_t ones[3] = { 1, 1, 1 }, middle[3] = { 1, 4, 2 };
+    static const uint8_t bytes[6] = { 10, 20, 36, 10, 25, 30 }, query[3] = { 10, 20, 30 };
+    static const uint32_t numbers[2] = { 7, 8 }, rows[4] = { 1, FINDER_BLANK, 0, FINDER_BLANK };
+    uint32_t slots[2], found_numbers[2];
+    float dists[2];
+    struct finder_layout n;
+    uint32_t count = 77;
+    uint8_t *memory;
+    CHECK(finder_lengths(3, 2, DEGREE, &n) == 0 && n.weights == 3);
+    memory = block(n.block_bytes);
+    CHECK(finder_place(&f, memory, n.block_bytes, 3, 2, DEGREE) == 0);
+    CHECK(finder_place_scratch(&scratch, block(n.scratch_bytes), n.scratch_bytes) == 0);
+
+    /* 6 * 6 in the last place, and 5 * 5 in the middle one */
+    CHECK(finder_create_in(&f, 1.0f, 0, 2, bytes, 6, rows, 4, numbers, 2, ones, 3) == 0 && memcmp(f.weights, ones, 3) == 0);
+    CHECK(finder_search_in(&f, query, 3, 2, 2, slots, dists, found_numbers, scratch, &count) == 0 && count == 2);
+    CHECK(found_numbers[0] == 8 && dists[0] == 25.0f && found_numbers[1] == 7 && dists[1] == 36.0f);
+
+    /* 2 * 6 * 6, and 4 * 5 * 5 */
+    CHECK(finder_create_in(&f, 1.0f, 0, 2, bytes, 6, rows, 4, numbers, 2, middle, 3) == 0 && memcmp(f.weights, middle, 3) == 0);
+    CHECK(finder_search_in(&f, query, 3, 2, 2, slots, dists, found_numbers, scratch, &count) == 0 && count == 2);
+    CHECK(found_numbers[0] == 7 && dists[0] == 72.0f && found_numbers[1] == 8 && dists[1] == 100.0f);
+    TELL("nearest to 10, 20, 30: figure 8 at 25; with the weights 1, 4, 2 figure %u at %g\n", (unsigned)found_numbers[0], (double)dists[0]);
+
+    /* nothing but making writes them */
+    CHECK(finder_delete_numbers_in(&f, numbers, 1, 2, 1, &(struct finder_stats){ 0, 0, 0, 0 }, scratch, &count) == 0 && count == 1);
+    CHECK(finder_insert_in(&f, bytes, 3, numbers, 1, 2, slots, 1, scratch, &count) == 0 && count == 1 && slots[0] == 0);
+    CHECK(memory + n.block_bytes == f.weights + 3 && memcmp(f.weights, middle, 3) == 0);
+    return 0;
+}
+
+/* The limits: at dim 256 only weights of 1 fit, at 255 one may be 2, at 64 all are 4; a refused making writes no weights. */
+static int weight_limits(void)
+{
+    static const uint32_t dims[3] = { FINDER_MAX_DIM, FINDER_MAX_DIM - 1, 64 };
+    static const uint32_t number = 1;
+    uint8_t weights[FINDER_MAX_DIM + 1], zeros[FINDER_MAX_DIM] = { 0 }, most[FINDER_MAX_DIM];
+    memset(most, 255, sizeof most);
+    for (int i = 0; i < 3; i++) {
+        uint32_t dim = dims[i], slot = 77, found_number = 77, count = 77;
+        float dist = 0;
+        struct finder_layout n;
+        CHECK(finder_lengths(dim, 2, 1, &n) == 0);
+        CHECK(finder_place(&f, block(n.block_bytes), n.block_bytes, dim, 2, 1) == 0);
+        CHECK(finder_place_scratch(&scratch, block(n.scratch_bytes), n.scratch_bytes) == 0);
+        memset(weights, dim == 64 ? FINDER_MAX_WEIGHT : 1, sizeof weights);
+        memset(f.weights, 77, dim);
+        if (dim == 64)
+            weights[dim - 1]++;
+        else
+            weights[dim - 1] = (uint8_t)(2 + FINDER_MAX_DIM - dim);
+        CHECK(finder_create_in(&f, 1.0f, 0, 0, NULL, 0, NULL, 0, NULL, 0, weights, dim) == FINDER_BAD_WEIGHTS);
+        CHECK(finder_create_in(&f, 1.0f, 0, 0, NULL, 0, NULL, 0, NULL, 0, weights, dim + 1) == FINDER_BAD_LENGTH && f.weights[dim - 1] == 77);
+        weights[dim - 1]--;
+        CHECK(finder_create_in(&f, 1.0f, 0, 0, NULL, 0, NULL, 0, NULL, 0, weights, dim) == 0 && memcmp(f.weights, weights, dim) == 0);
+
+        /* the largest distance: white from black, 255 * 255 * FINDER_MAX_WEIGHT_SUM */
+        CHECK(finder_insert_in(&f, zeros, dim, &number, 1, 1, &slot, 1, scratch, &count) == 0 && count == 1);
+        CHECK(finder_search_in(&f, most, dim, 1, 1, &slot, &dist, &found_number, scratch, &count) == 0 && count == 1);
+        CHECK(dist == 16646400.0f && slot == 0 && found_number == 1);
+        weights[0] = 0;
+        memcpy(f.weights, weights, dim);
+        CHECK(finder_live_in(&f, &count) == FINDER_BAD_WEIGHTS && count == 1);
+    }
     return 0;
 }
 
@@ -579,6 +711,8 @@ int main(void)
     int wrong = texts() || version() || lengths() || lend_block() || all_calls() || store_and_load() || refuse();
     take_back();
     wrong = wrong || lend_slices() || by_numbers();
+    take_back();
+    wrong = wrong || weighted() || weight_limits();
     take_back();
     telling = 0;
     wrong = wrong || lend_slices() || all_calls() || refuse();

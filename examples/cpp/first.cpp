@@ -36,7 +36,9 @@ int main()
 {
     picture_finder::Index index(dim, capacity, degree);
     picture_finder::Scratch scratch(index);
-    if (!index || !scratch || index.create(1.2f) != FINDER_OK)
+    std::array<uint8_t, dim> weights;
+    weights.fill(1); /* all places of a vector count alike, as in create(1.2f) */
+    if (!index || !scratch || index.create(1.2f, weights) != FINDER_OK)
         return 1;
 
     /* one vector to a call, since vectors of one call do not find each other */

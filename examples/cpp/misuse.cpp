@@ -36,6 +36,10 @@ uint32_t use(Index &index, const Index &lent, Scratch &scratch, const Scratch &s
     a = index.insert({ query, 4 }, 64, slots, scratch);
 #elif MISUSE == 12 // a number that is no list
     a = index.insert({ query, 4 }, numbers[0], 64, slots, scratch);
+#elif MISUSE == 13 // making of vectors without the weights
+    a.refusal = index.create(1.0f, 0, 0, nullptr, nullptr, nullptr);
+#elif MISUSE == 14 // weights without their length
+    a.refusal = index.create(1.0f, query);
 #elif MISUSE != 0
 #error "no such mistake"
 #endif

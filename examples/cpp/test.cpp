@@ -34,11 +34,12 @@ namespace {
 const uint8_t bytes[] = { 0, 3, 10 };
 const uint32_t rows[] = { 1, FINDER_BLANK, 0, 2, 1, FINDER_BLANK };
 const uint32_t numbers[] = { 30, 10, 20 };
+const uint8_t weights[] = { 1 };
 
 Index shelf()
 {
     Index index(1, 4, 2);
-    if (index.create(1.0f, 1, 3, bytes, rows, numbers) != FINDER_OK)
+    if (index.create(1.0f, 1, 3, bytes, rows, numbers, weights) != FINDER_OK)
         return Index();
     return index;
 }
@@ -104,6 +105,41 @@ int changes()
     CHECK(index.delete_numbers(named, 2, 1, { stats.data(), 2 }, scratch).refusal == FINDER_BAD_LENGTH);
     CHECK(is(index.delete_numbers(named, 2, 1, stats, scratch), 1u) && is(index.number(3), 0u) && is(index.live(), 2u));
     CHECK(is(index.delete_numbers(nullptr, 2, 1, nullptr, scratch), 0u));
+    return 0;
+}
+
+/* Two figures of three values, of which the weights say which is the nearer. */
+int weighted()
+{
+    const uint8_t query[] = { 10, 20, 30 }, first[] = { 10, 20, 36 }, second[] = { 10, 25, 30 };
+    const uint8_t middle[] = { 1, 4, 2 }, zero[] = { 1, 0, 1 }, five[] = { 1, 1, 5 };
+    const uint32_t seven[] = { 7 }, eight[] = { 8 };
+    uint32_t slots[2], found_numbers[2];
+    float dists[2];
+    Index index(3, 2, 2);
+    Scratch scratch(index);
+    CHECK(index.create(1.0f, { middle, 2 }) == FINDER_BAD_LENGTH && index.create(1.0f, nullptr) == FINDER_BAD_LENGTH);
+    CHECK(index.create(1.0f, zero) == FINDER_BAD_WEIGHTS && index.create(1.0f, five) == FINDER_BAD_WEIGHTS && index.create(0.5f, zero) == FINDER_BAD_ALPHA);
+    CHECK(index.create(1.0f, 0, 3, bytes, rows, numbers, zero) == FINDER_BAD_LENGTH);
+    for (int i = 0; i < 2; i++) {
+        CHECK((i == 0 ? index.create(1.0f) : index.create(1.0f, middle)) == FINDER_OK && index.get().weights[1] == (i == 0 ? 1 : 4));
+        CHECK(is(index.insert(first, seven, 2, slots, scratch), 1u) && is(index.insert(second, eight, 2, slots, scratch), 1u));
+        CHECK(is(index.search(query, 2, 2, slots, dists, found_numbers, scratch), 2u));
+        /* 5 * 5 in the middle and 6 * 6 in the last place; weighted 4 * 5 * 5 and 2 * 6 * 6 */
+        CHECK(found_numbers[0] == (i == 0 ? 8 : 7) && dists[0] == (i == 0 ? 25.0f : 72.0f) && dists[1] == (i == 0 ? 36.0f : 100.0f));
+    }
+    Index again(3, 2, 2);
+    uint32_t words[FINDER_INDEX_WORDS];
+    std::memcpy(words, index.words().first(), sizeof words);
+    std::memcpy(again.block(), index.block(), index.block_bytes());
+    static_cast<uint8_t *>(again.block())[again.block_bytes() - 2] = 0;
+    CHECK(again.load(words) == FINDER_BAD_WEIGHTS);
+    static_cast<uint8_t *>(again.block())[again.block_bytes() - 2] = 4;
+    CHECK(again.load(words) == FINDER_OK && is(again.search(query, 2, 2, slots, dists, found_numbers, scratch), 2u) && dists[0] == 72.0f);
+    /* the largest dim, at which only weights of 1 fit */
+    Index largest(256, 2, 2);
+    std::vector<uint8_t> many(256, 1);
+    CHECK(largest.create(1.0f) == FINDER_OK && largest.create(1.0f, many) == FINDER_OK && (many[255] = 2, largest.create(1.0f, many)) == FINDER_BAD_WEIGHTS);
     return 0;
 }
 
@@ -232,7 +268,7 @@ int stored()
 
 int main()
 {
-    int wrong = lists() || readings() || changes() || guard() || moves() || threads() || nothing() || stored();
+    int wrong = lists() || readings() || changes() || weighted() || guard() || moves() || threads() || nothing() || stored();
     if (!wrong)
         std::printf("all of finder.hpp is as it must be\n");
     return wrong;

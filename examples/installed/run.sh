@@ -31,9 +31,9 @@ cmake --build build
 ./build/first-cpp
 
 # another major version is not taken for this one
-sed 's/finder 2\.0/finder 1.0/' CMakeLists.txt >other && mv other CMakeLists.txt
+sed 's/finder 3\.0/finder 2.0/' CMakeLists.txt >other && mv other CMakeLists.txt
 if cmake -S . -B build-1 -DCMAKE_PREFIX_PATH="$work/prefix" >other.log 2>&1; then
-    echo "CMake takes version 2 for version 1" >&2
+    echo "CMake takes version 3 for version 2" >&2
     exit 1
 fi
-grep -q 'version: 2\.' other.log
+grep -q 'version: 3\.' other.log

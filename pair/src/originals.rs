@@ -1,6 +1,6 @@
 //! The originals in an index, and what it says of a placeholder.
 
-use crate::reduce::{contrast_256, Grey, DIM};
+use crate::reduce::{Grey, Grid};
 use finder::{Error, Finder, Hit, Scratch, MAX_CAPACITY};
 use std::collections::HashMap;
 
@@ -23,6 +23,7 @@ pub struct Originals {
     index: Finder,
     scratch: Scratch,
     settings: Settings,
+    grid: Grid,
     slots: HashMap<Grey, u32>,
     alike: Vec<Vec<usize>>,
     /// The slots that a search for their own grey values does not find, once that was tried (`missed`): they are compared with every placeholder.
@@ -60,11 +61,11 @@ pub enum Verdict {
 impl Verdict {
     /// Sure where the original is the only one that explains the placeholder: its distance is less than half that of the second original, and less than half
     /// that of a blank sheet (as lengths; the distances here are squares, so a quarter).
-    pub fn of(placeholder: &Grey, found: &Found, originals: usize) -> Verdict {
+    pub fn of(grid: Grid, placeholder: &[u8], found: &Found, originals: usize) -> Verdict {
         let four_times = 4 * u64::from(found.distance);
         match found.second {
             _ if found.alike > 1 => Verdict::Alike(found.alike),
-            _ if 256 * four_times >= contrast_256(placeholder) => Verdict::Unlike,
+            _ if grid.sum_of_weights() * four_times >= grid.contrast(placeholder) => Verdict::Unlike,
             Some((_, second)) if four_times >= u64::from(second) => Verdict::SecondNear,
             None if originals > 1 => Verdict::SecondMissing,
             _ => Verdict::Sure,
@@ -95,29 +96,24 @@ pub struct Missed {
     pub reached: bool,
 }
 
-/// The sum of squared differences.
-pub fn distance(a: &[u8], b: &[u8]) -> u32 {
-    a.iter().zip(b).map(|(&a, &b)| u32::from(a.abs_diff(b)).pow(2)).sum()
-}
-
 impl Originals {
     /// Room for so many.
-    pub fn new(room: usize, settings: Settings) -> Result<Originals, Error> {
+    pub fn new(room: usize, settings: Settings, grid: Grid) -> Result<Originals, Error> {
         let capacity = u32::try_from(room.max(1)).map_err(|_| Error::BadSizes)?;
-        let index = Finder::new(DIM as u32, capacity, settings.degree, settings.alpha)?;
+        let index = Finder::with_weights(grid.dim() as u32, capacity, settings.degree, settings.alpha, &grid.weights())?;
         let scratch = index.scratch()?;
-        Ok(Originals { index, scratch, settings, slots: HashMap::new(), alike: vec![], missed: vec![] })
+        Ok(Originals { index, scratch, settings, grid, slots: HashMap::new(), alike: vec![], missed: vec![] })
     }
 
     /// Adds an original with its figure number. One vector to a call: vectors of one call would not find each other.
-    pub fn add(&mut self, original: usize, number: u32, grey: &Grey) -> Result<(), Error> {
+    pub fn add(&mut self, original: usize, number: u32, grey: &[u8]) -> Result<(), Error> {
         if let Some(&slot) = self.slots.get(grey) {
             self.alike[slot as usize].push(original);
             return Ok(());
         }
         // Nothing is ever deleted, so the slots are 0, 1, 2 and so on.
         let slot = self.index.insert_one(grey, number, self.settings.insert_beam, &mut self.scratch)?;
-        self.slots.insert(*grey, slot);
+        self.slots.insert(grey.to_vec(), slot);
         self.alike.push(vec![original]);
         Ok(())
     }
@@ -128,14 +124,14 @@ impl Originals {
     }
 
     /// The nearest original to a placeholder; none where there are none.
-    pub fn find(&mut self, grey: &Grey) -> Result<Option<Found>, Error> {
+    pub fn find(&mut self, grey: &[u8]) -> Result<Option<Found>, Error> {
         let mut hits = self.index.search(grey, 2, self.settings.search_beam, &mut self.scratch)?;
         for &slot in &self.missed {
             if hits.iter().any(|hit| hit.slot == slot) {
                 continue;
             }
             if let (Some(vector), Some(number)) = (self.index.vector(slot), self.index.number(slot)?) {
-                hits.push(Hit { slot, number, distance: distance(grey, vector) as f32 });
+                hits.push(Hit { slot, number, distance: self.grid.distance(grey, vector) as f32 });
             }
         }
         // Of equals the lower slot first, as a search gives them.
@@ -192,40 +188,41 @@ impl Originals {
 #[cfg(test)]
 mod tests {
     use super::*;
+    use crate::reduce::{LINE_ENDS, PLAIN};
 
     fn grey(seed: u32) -> Grey {
-        std::array::from_fn(|i| ((seed.wrapping_mul(7919).wrapping_add(i as u32)).wrapping_mul(2_654_435_761) >> 24) as u8)
+        (0..256).map(|i: u32| (seed.wrapping_mul(7919).wrapping_add(i).wrapping_mul(2_654_435_761) >> 24) as u8).collect()
     }
 
     #[test]
     fn finds_and_judges() {
-        let mut originals = Originals::new(4, SETTINGS).unwrap();
+        let mut originals = Originals::new(4, SETTINGS, PLAIN).unwrap();
         assert_eq!(originals.find(&grey(1)), Ok(None));
         originals.add(10, 110, &grey(1)).unwrap();
         let mut near = grey(1);
         near[0] ^= 1;
         let found = originals.find(&near).unwrap().unwrap();
         assert_eq!(found, Found { original: 10, number: 110, distance: 1, alike: 1, second: None });
-        assert_eq!(Verdict::of(&near, &found, 1), Verdict::Sure);
-        assert_eq!(Verdict::of(&near, &found, 2), Verdict::SecondMissing);
-        assert_eq!(Verdict::of(&[128; DIM], &originals.find(&[128; DIM]).unwrap().unwrap(), 1), Verdict::Unlike);
+        assert_eq!(Verdict::of(PLAIN, &near, &found, 1), Verdict::Sure);
+        assert_eq!(Verdict::of(PLAIN, &near, &found, 2), Verdict::SecondMissing);
+        assert_eq!(Verdict::of(PLAIN, &[128; 256], &originals.find(&[128; 256]).unwrap().unwrap(), 1), Verdict::Unlike);
 
         originals.add(11, 111, &grey(2)).unwrap();
         let found = originals.find(&near).unwrap().unwrap();
         assert_eq!((found.original, found.second.unwrap().0), (10, 11));
-        assert_eq!(Verdict::of(&near, &found, 2), Verdict::Sure);
+        assert_eq!(Verdict::of(PLAIN, &near, &found, 2), Verdict::Sure);
 
         let mut twin = grey(1);
         twin[0] ^= 3;
         originals.add(12, 112, &twin).unwrap();
         let found = originals.find(&near).unwrap().unwrap();
         assert_eq!((found.original, found.second), (10, Some((12, 4))));
-        assert_eq!(Verdict::of(&near, &found, 3), Verdict::SecondNear);
+        assert_eq!(Verdict::of(PLAIN, &near, &found, 3), Verdict::SecondNear);
 
         originals.add(13, 113, &grey(1)).unwrap();
         let found = originals.find(&grey(1)).unwrap().unwrap();
         assert_eq!(found, Found { original: 10, number: 110, distance: 0, alike: 2, second: Some((13, 0)) });
-        assert_eq!(Verdict::of(&grey(1), &found, 3), Verdict::Alike(2));
+        assert_eq!(Verdict::of(PLAIN, &grey(1), &found, 3), Verdict::Alike(2));
         assert_eq!((originals.different(), originals.missed()), (3, Ok(vec![])));
         assert_eq!(originals.add(14, 110, &grey(5)), Err(Error::BadNumber));
         originals.add(14, 114, &grey(5)).unwrap();
@@ -235,18 +232,18 @@ mod tests {
     /// A blank placeholder is never sure, not even of a blank original.
     #[test]
     fn blank_sheets() {
-        let mut originals = Originals::new(2, SETTINGS).unwrap();
-        originals.add(0, 100, &[255; DIM]).unwrap();
+        let mut originals = Originals::new(2, SETTINGS, PLAIN).unwrap();
+        originals.add(0, 100, &[255; 256]).unwrap();
         originals.add(1, 101, &grey(1)).unwrap();
-        let found = originals.find(&[255; DIM]).unwrap().unwrap();
+        let found = originals.find(&[255; 256]).unwrap().unwrap();
         assert_eq!((found.original, found.distance), (0, 0));
-        assert_eq!(Verdict::of(&[255; DIM], &found, 2), Verdict::Unlike);
+        assert_eq!(Verdict::of(PLAIN, &[255; 256], &found, 2), Verdict::Unlike);
     }
 
     /// A graph in which a slot is reached by no reference: it is named, with all that look the same.
     #[test]
     fn names_what_is_missed() {
-        let mut originals = Originals::new(3, SETTINGS).unwrap();
+        let mut originals = Originals::new(3, SETTINGS, PLAIN).unwrap();
         for (original, seed) in [(0, 1), (1, 2), (2, 3), (7, 3)] {
             originals.add(original, 100 + original as u32, &grey(seed)).unwrap();
         }
@@ -262,11 +259,33 @@ mod tests {
         // From now on they are compared directly.
         assert_eq!(originals.find(&grey(3)), Ok(Some(Found { original: 2, number: 102, distance: 0, alike: 2, second: Some((7, 0)) })));
         let second = originals.find(&grey(2)).unwrap().unwrap().second.unwrap();
-        assert_eq!(second.1, distance(&grey(2), &grey(1)).min(distance(&grey(2), &grey(3))));
+        assert_eq!(second.1, PLAIN.distance(&grey(2), &grey(1)).min(PLAIN.distance(&grey(2), &grey(3))));
+    }
+
+    /// The line ends say which of two originals it is, and whether there is anything to be seen.
+    #[test]
+    fn line_ends_count_more() {
+        let mut originals = Originals::new(2, SETTINGS, LINE_ENDS).unwrap();
+        let mut placeholder = vec![100; 196];
+        // Nine values of 10 on the left, or four at the ends of two lines: 900 and 4 * 3 * 100.
+        let (mut left, mut ends) = (placeholder.clone(), placeholder.clone());
+        left[28..37].fill(110);
+        for cell in [12, 13, 26, 27] {
+            ends[cell] = 110;
+        }
+        originals.add(0, 100, &ends).unwrap();
+        originals.add(1, 101, &left).unwrap();
+        let found = originals.find(&placeholder).unwrap().unwrap();
+        assert_eq!((found.number, found.distance, found.second), (101, 900, Some((0, 1200))));
+        assert_eq!(Verdict::of(LINE_ENDS, &placeholder, &found, 2), Verdict::Unlike);
+        placeholder[13] = 110;
+        placeholder[12] = 110;
+        let found = originals.find(&placeholder).unwrap().unwrap();
+        assert_eq!((found.number, found.distance, found.second), (100, 600, Some((1, 1500))));
     }
 
     #[test]
     fn too_many() {
-        assert!(Originals::new(MOST + 1, SETTINGS).is_err());
+        assert!(Originals::new(MOST + 1, SETTINGS, PLAIN).is_err());
     }
 }

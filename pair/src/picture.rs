@@ -1,6 +1,6 @@
 //! Reading one picture.
 
-use crate::reduce::{flat, reduce, Grey};
+use crate::reduce::{flat, reduce, Grey, Grid};
 use image::codecs::jpeg::JpegEncoder;
 use image::io::{Limits, Reader};
 use image::{ColorType, DynamicImage, ImageFormat};
@@ -94,12 +94,12 @@ fn thumb(picture: &DynamicImage) -> Result<Vec<u8>, String> {
 }
 
 /// Reads a picture, and adds the time that reading and decoding the file took to `reading`.
-pub fn read(path: &Path, with_thumb: bool, reading: &mut Duration) -> Result<Picture, String> {
+pub fn read(path: &Path, grid: Grid, with_thumb: bool, reading: &mut Duration) -> Result<Picture, String> {
     let start = Instant::now();
     let decoded = decode(path);
     *reading += start.elapsed();
     let decoded = decoded?;
-    let grey = reduce(&decoded).ok_or("a picture without pixels")?;
+    let grey = reduce(&decoded, grid).ok_or("a picture without pixels")?;
     let thumb = if with_thumb { thumb(&decoded)? } else { vec![] };
     Ok(Picture { grey, thumb })
 }

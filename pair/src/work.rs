@@ -4,6 +4,7 @@ use crate::folder::{self, Entry};
 use crate::names::{figure_numbers, shown};
 use crate::originals::{Found, Originals, Verdict, MOST, SETTINGS};
 use crate::picture::{self, Picture};
+use crate::reduce::Grid;
 use crate::report::{self, Row, Shown};
 use indicatif::{ProgressBar, ProgressStyle};
 use std::fs::File;
@@ -11,10 +12,11 @@ use std::io::{self, BufWriter, Write};
 use std::path::{Path, PathBuf};
 use std::time::{Duration, Instant};
 
-/// Two folders, and where the report goes.
+/// Two folders, how pictures are reduced, and where the report goes.
 pub struct Job {
     pub originals: PathBuf,
     pub placeholders: PathBuf,
+    pub grid: Grid,
     pub report: Option<PathBuf>,
 }
 
@@ -62,6 +64,7 @@ struct Work {
     originals: Originals,
     named: Vec<Named>,
     pairings: Vec<Pairing>,
+    grid: Grid,
     thumbs: bool,
     times: Times,
     /// What was said besides the pairs: on standard error at once, and at the head of the report.
@@ -103,7 +106,7 @@ impl Work {
     fn read(&mut self, folder: &Path, entry: &Entry) -> Result<Picture, String> {
         match entry.skipped {
             Some(reason) => Err(reason.into()),
-            None => picture::read(&folder.join(&entry.name), self.thumbs, &mut self.times.reading),
+            None => picture::read(&folder.join(&entry.name), self.grid, self.thumbs, &mut self.times.reading),
         }
     }
 
@@ -151,7 +154,7 @@ impl Work {
         let start = Instant::now();
         let found = self.originals.find(&picture.grey).map_err(refused)?;
         self.times.searching += start.elapsed();
-        let verdict = found.map(|found| Verdict::of(&picture.grey, &found, self.originals.different()));
+        let verdict = found.map(|found| Verdict::of(self.grid, &picture.grey, &found, self.originals.different()));
         let pairing = Pairing { placeholder: Named { name, thumb: picture.thumb }, found, verdict };
         let (original, distance, number) = match found {
             Some(found) => (self.named[found.original].name.as_str(), found.distance.to_string(), found.number.to_string()),
@@ -240,9 +243,10 @@ pub fn pair(job: &Job) -> Result<bool, String> {
     // Opened first, so that a wrong name does not cost the work.
     let report = job.report.as_ref().map(|path| File::create(path).map_err(|error| at(path, error))).transpose()?;
     let mut work = Work {
-        originals: Originals::new(files, SETTINGS).map_err(refused)?,
+        originals: Originals::new(files, SETTINGS, job.grid).map_err(refused)?,
         named: vec![],
         pairings: vec![],
+        grid: job.grid,
         thumbs: report.is_some(),
         times: Times::default(),
         said: vec![],

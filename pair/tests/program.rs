@@ -1,6 +1,6 @@
 //! The program as it is run: bad files, odd names, twins, the report, the exit status.
 
-use image::{DynamicImage, ImageFormat, Rgb, RgbImage};
+use image::{DynamicImage, GrayImage, ImageFormat, Luma, Rgb, RgbImage};
 use std::ffi::OsStr;
 use std::os::unix::ffi::OsStrExt;
 use std::path::{Path, PathBuf};
@@ -145,6 +145,38 @@ fn twins_and_strangers_are_not_sure() {
     assert!(lines[2].starts_with("of-none\t") && lines[2].contains("not sure: "));
 }
 
+/// A grey sheet, and two originals with a band on it: a wider one at the left, a narrower one at the line ends, which is the nearer unless these count more.
+#[test]
+fn line_ends_decide() {
+    let both = folders("line-ends");
+    let band = |columns: std::ops::Range<u32>| {
+        DynamicImage::ImageLuma8(GrayImage::from_fn(112, 112, |x, y| Luma([if columns.contains(&x) && y < 56 { 110 } else { 100 }])))
+    };
+    save(&both.0, "left-1", &band(0..24), ImageFormat::Png);
+    save(&both.0, "ends-2", &band(96..112), ImageFormat::Png);
+    save(&both.1, "sheet", &band(0..0), ImageFormat::Png);
+    // 16 cells of 7 pixels: 8 lines of 2 cells that differ by 10 and one by 3, or of 3 by 10 and one by 4.
+    let plain = "sheet\tends-2\t1672\t2528\tnot sure: too unlike\t2";
+    // 14 cells of 8 pixels: 7 lines of 3 cells by 10, or of 2 whose weight is 3.
+    let weighted = "sheet\tleft-1\t2100\t4200\tnot sure: too unlike\t1";
+    assert_eq!(told(run(&both, &[])).1, [plain]);
+    assert_eq!(told(run(&both, &["--line-ends".as_ref()])).1, [weighted]);
+
+    // Whatever else is asked for, and where all is sure.
+    let file = both.0.parent().unwrap().join("report.html");
+    let (status, lines, said) = told(run(&both, &["--report".as_ref(), file.as_ref(), "--line-ends".as_ref()]));
+    assert_eq!((status, lines), (1, vec![weighted.to_string()]));
+    assert!(said.contains("self-check: 2 of 2 originals find themselves") && std::fs::read_to_string(file).unwrap().contains("distance 4200"));
+    let both = folders("line-ends-sure");
+    for number in 0..4 {
+        save(&both.0, format!("o{number}"), &picture(number, 300, 200), ImageFormat::Png);
+        save(&both.1, format!("p{number}"), &picture(number, 60, 40), ImageFormat::Png);
+    }
+    let (status, lines, said) = told(run(&both, &["--line-ends".as_ref()]));
+    assert_eq!((status, lines.len()), (0, 4), "{said}");
+    assert!(lines.iter().enumerate().all(|(number, line)| line.starts_with(&format!("p{number}\to{number}\t"))), "{lines:?}");
+}
+
 #[test]
 fn report_is_escaped_and_has_the_unsure_first() {
     let both = folders("report");
@@ -186,7 +218,9 @@ fn work_that_cannot_be_done() {
     assert_eq!(told(run(&both, &["--wrong".as_ref()])).0, 2);
     assert_eq!(told(run(&both, &["--report".as_ref()])).0, 2);
     assert_eq!(told(run(&both, &["--report".as_ref(), both.0.as_ref()])).0, 2);
-    assert_eq!(told(run(&both, &["--help".as_ref()])).0, 0);
+    assert_eq!(told(run(&both, &["--line-end".as_ref()])).0, 2);
+    let (status, help, _) = told(run(&both, &["--help".as_ref()]));
+    assert!(status == 0 && help.iter().any(|line| line.starts_with("  --line-ends")) && help.iter().any(|line| line.starts_with("  --report FILE")));
 }
 
 /// More originals than an index holds: a message, at once.

@@ -2,10 +2,10 @@
 
 use crate::{raw, Error, BLANK};
 
-/// What an index is made of: its sizes, and the vectors, rows and figure numbers of its first `count` slots.
+/// What an index is made of: its sizes and weights, and the vectors, rows and figure numbers of its first `count` slots.
 ///
 /// `bytes` has the vectors, one after the other, `rows` the references, `degree` for each given slot, each [`BLANK`] or a given slot, and `numbers` the figure
-/// numbers, one for each given slot.
+/// numbers, one for each given slot. `weights` has the weight of each place of a vector; where all are 1, a distance is a plain sum of squared differences.
 #[derive(Clone, Copy, Debug)]
 pub struct Making<'a> {
     /// How many bytes a vector has: 1 to 256.
@@ -26,6 +26,8 @@ pub struct Making<'a> {
     pub rows: &'a [u32],
     /// Their figure numbers: 1 to 4,294,967,295, no two equal.
     pub numbers: &'a [u32],
+    /// What each of the `dim` places counts in a distance: 1 to 4, and 256 at most together, so that at dim 256 all are 1.
+    pub weights: &'a [u8],
 }
 
 impl Making<'_> {
@@ -40,6 +42,7 @@ impl Making<'_> {
             bytes: self.bytes,
             rows: self.rows,
             numbers: self.numbers,
+            weights: self.weights,
         }
     }
 }
@@ -94,7 +97,7 @@ pub struct Hit {
     pub slot: u32,
     /// Its figure number.
     pub number: u32,
-    /// The sum of squared differences, a whole number below 2^24.
+    /// The sum of squared differences, each times its place's weight: a whole number below 2^24.
     pub distance: f32,
 }
 

@@ -3,7 +3,7 @@
 use crate::{raw, DeleteStats, Error, GuardSettings, GuardStatus, Guarded, Making, Report, Scratch, Slices, View, Words, MAX_LANDMARKS};
 use std::fmt;
 
-/// The eight slices of an index, to be changed. include/finder.h says what each holds.
+/// The nine slices of an index, to be changed; after making no call writes the weights. include/finder.h says what each holds.
 pub struct SlicesMut<'a> {
     /// The bytes of each slot's vector: capacity * dim.
     pub vectors: &'a mut [u8],
@@ -21,6 +21,8 @@ pub struct SlicesMut<'a> {
     pub numbers: &'a mut [u32],
     /// The live slots by rising number, then [`BLANK`](crate::BLANK): capacity.
     pub summary: &'a mut [u32],
+    /// What each place of a vector counts in a distance: dim.
+    pub weights: &'a mut [u8],
 }
 
 impl SlicesMut<'_> {
@@ -35,6 +37,7 @@ impl SlicesMut<'_> {
             pool: self.pool,
             numbers: self.numbers,
             summary: self.summary,
+            weights: self.weights,
         }
     }
 }
@@ -56,7 +59,7 @@ impl fmt::Debug for SlicesMut<'_> {
 /// // Dim 1, four slots, rows of two, in memory of our own.
 /// let mut words = [0; INDEX_WORDS];
 /// let (mut vectors, mut targets, mut edges, mut versions, mut marks, mut pool) = ([0; 4], [0; 8], [0; 8], [0; 4], [0; 4], [0; POOL]);
-/// let (mut numbers, mut summary) = ([0; 4], [0; 4]);
+/// let (mut numbers, mut summary, mut weights) = ([0; 4], [0; 4], [0; 1]);
 /// let slices = SlicesMut {
 ///     vectors: &mut vectors,
 ///     targets: &mut targets,
@@ -66,15 +69,17 @@ impl fmt::Debug for SlicesMut<'_> {
 ///     pool: &mut pool,
 ///     numbers: &mut numbers,
 ///     summary: &mut summary,
+///     weights: &mut weights,
 /// };
 /// let rows = [1, BLANK, 0, 2, 1, BLANK];
-/// let given =
-///     Making { dim: 1, capacity: 4, degree: 2, alpha: 1.0, entry: 1, count: 3, bytes: &[0, 3, 10], rows: &rows, numbers: &[30, 10, 20] };
+/// let given = Making {
+///     dim: 1, capacity: 4, degree: 2, alpha: 1.0, entry: 1, count: 3, bytes: &[0, 3, 10], rows: &rows, numbers: &[30, 10, 20], weights: &[2],
+/// };
 /// let mut index = ViewMut::create(&mut words, slices, &given)?;
 /// let mut scratch = Scratch::new(1, 4, 2)?;
 /// assert_eq!(index.insert(&[6], &[40], 2, &mut scratch)?, [3]);
 /// assert_eq!(index.as_view().neighbours(3)?.collect::<Vec<_>>(), [1, 2]);
-/// assert_eq!((marks, numbers, summary), ([1, 1, 1, 1], [30, 10, 20, 40], [1, 2, 0, 3]));
+/// assert_eq!((marks, numbers, summary, weights), ([1, 1, 1, 1], [30, 10, 20, 40], [1, 2, 0, 3], [2]));
 /// # Ok(())
 /// # }
 /// ```

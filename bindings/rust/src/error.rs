@@ -2,7 +2,7 @@ use std::fmt;
 
 /// Why a call was refused. Each number of the library has its variant; a refused call has changed nothing.
 ///
-/// Those that apply are tested in the order of their numbers, and the first that holds is given.
+/// Those that apply are tested in the order of their numbers, but 16 right after 3, and the first that holds is given.
 ///
 /// ```
 /// use finder::{Error, Finder};
@@ -44,6 +44,8 @@ pub enum Error {
     NoLandmark,
     /// 15: a number to be given is 0, carried by a live slot already, or twice in the list.
     BadNumber,
+    /// 16: a weight is outside 1 to 4, or their sum is over 256.
+    BadWeights,
     /// Any other number, which this crate does not know: the archive is newer than the crate.
     Unknown(u32),
 }
@@ -67,6 +69,7 @@ impl Error {
             12 => Error::NoLive,
             13 => Error::NoLandmark,
             15 => Error::BadNumber,
+            16 => Error::BadWeights,
             other => Error::Unknown(other),
         })
     }
@@ -88,6 +91,7 @@ impl Error {
             Error::NoLive => 12,
             Error::NoLandmark => 13,
             Error::BadNumber => 15,
+            Error::BadWeights => 16,
             Error::Unknown(other) => other,
         }
     }
@@ -108,6 +112,7 @@ impl Error {
             Error::NoLive => "no slot is live",
             Error::NoLandmark => "one slot alone is live",
             Error::BadNumber => "a number to be given is 0, carried by a live slot already, or twice in the list",
+            Error::BadWeights => "a weight is outside 1 to 4, or their sum is over 256",
             Error::Unknown(_) => "for a reason that this crate does not know",
         }
     }

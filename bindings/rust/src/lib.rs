@@ -1,4 +1,4 @@
-//! The picture finder for Rust: a dynamic graph index over byte vectors with squared distance, proved in Rattle, over its C archive.
+//! The picture finder for Rust: a dynamic graph index over byte vectors with weighted squared distance, proved in Rattle, over its C archive.
 //!
 //! A [`Finder`] owns an index and its memory. A [`View`] reads an index that lies in memory of somebody else, and a [`ViewMut`] changes one; a `Finder`
 //! lends itself as either. Calls that walk the graph take a [`Scratch`], so that several threads search one index at a time, each with its own. What a call
@@ -29,11 +29,14 @@
 //! Each live slot carries a figure number, 1 to 4,294,967,295, that no other has. After a delete, a slot may be given to another vector; a number stays with its
 //! vector as long as that is in the index.
 //!
+//! Each place of a vector has a weight, 1 to 4, by which its squared difference counts in a distance: 1 for all with [`Finder::new`], any that make 256 at most
+//! with [`Finder::with_weights`]. At dim 256 only weights of 1 fit.
+//!
 //! New vectors are better inserted one to a call ([`Finder::insert_one`]): those of one call do not find each other.
 //!
 //! # The archive
 //!
-//! The crate links `libfinder.a`, which `rt lib` in `crates/finder` writes to `crates/finder/out`; where it lies elsewhere, the environment variable
+//! The crate links `libfinder.a`, which `rt lib --cpu=x86-64` in `crates/finder` writes to `crates/finder/out`; where it lies elsewhere, the environment variable
 //! `FINDER_LIB_DIR` names its folder. What is proved is the archive's code, not this crate.
 
 #![deny(missing_docs)]
@@ -61,7 +64,7 @@ pub type Words = [u32; INDEX_WORDS];
 /// The version of the archive that is linked: 10,000 for each major version, 100 for each minor one and 1 for each patch.
 ///
 /// ```
-/// assert_eq!(finder::version() / 10_000, 2);
+/// assert_eq!(finder::version() / 10_000, 3);
 /// ```
 pub fn version() -> u32 {
     raw::version()
@@ -79,6 +82,10 @@ pub const MAX_DIM: u32 = 256;
 pub const MAX_CAPACITY: u32 = 65_536;
 /// The largest degree.
 pub const MAX_DEGREE: u32 = 64;
+/// The largest weight of a place; the least is 1.
+pub const MAX_WEIGHT: u8 = 4;
+/// The largest sum of an index's weights.
+pub const MAX_WEIGHT_SUM: u32 = 256;
 /// The largest beam, and the most that a search finds.
 pub const MAX_BEAM: u32 = 1024;
 /// The largest landmark count of the guard.

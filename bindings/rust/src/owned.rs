@@ -2,11 +2,11 @@
 
 use crate::{
     DeleteStats, Error, GuardSettings, GuardStatus, Guarded, Hit, LiveSlots, Making, Neighbours, Report, Scratch, Slices, SlicesMut, View, ViewMut, Words,
-    INDEX_WORDS, POOL,
+    INDEX_WORDS, MAX_DIM, POOL,
 };
 use std::fmt;
 
-/// The raw memory of an index: its words and eight slices, as include/finder.h describes them.
+/// The raw memory of an index: its words and nine slices, as include/finder.h describes them.
 #[derive(Clone, PartialEq, Eq)]
 pub struct Memory {
     /// The words.
@@ -27,6 +27,8 @@ pub struct Memory {
     pub numbers: Vec<u32>,
     /// The live slots by rising number, then [`BLANK`](crate::BLANK): capacity.
     pub summary: Vec<u32>,
+    /// What each place of a vector counts in a distance: dim.
+    pub weights: Vec<u8>,
 }
 
 impl Memory {
@@ -43,6 +45,7 @@ impl Memory {
             pool: vec![0; POOL],
             numbers: vec![0; capacity],
             summary: vec![0; capacity],
+            weights: vec![0; dim],
         }
     }
 
@@ -56,6 +59,7 @@ impl Memory {
             pool: &mut self.pool,
             numbers: &mut self.numbers,
             summary: &mut self.summary,
+            weights: &mut self.weights,
         };
         (&mut self.words, slices)
     }
@@ -71,6 +75,7 @@ impl Memory {
             pool: &self.pool,
             numbers: &self.numbers,
             summary: &self.summary,
+            weights: &self.weights,
         };
         View::new(&self.words, slices)
     }
@@ -97,7 +102,8 @@ pub struct Finder {
 }
 
 impl Finder {
-    /// An index without vectors, of `capacity` slots for vectors of `dim` bytes with rows of `degree` references. Its entry is slot 0, the first to be filled.
+    /// An index without vectors, of `capacity` slots for vectors of `dim` bytes with rows of `degree` references, in which all places of a vector count alike.
+    /// Its entry is slot 0, the first to be filled.
     ///
     /// ```
     /// # fn main() -> Result<(), finder::Error> {
@@ -107,10 +113,32 @@ impl Finder {
     /// # }
     /// ```
     pub fn new(dim: u32, capacity: u32, degree: u32, alpha: f32) -> Result<Finder, Error> {
-        Finder::create(&Making { dim, capacity, degree, alpha, entry: 0, count: 0, bytes: &[], rows: &[], numbers: &[] })
+        Finder::with_weights(dim, capacity, degree, alpha, &vec![1; dim.min(MAX_DIM) as usize])
     }
 
-    /// An index of the vectors and rows that another program built, with a figure number for each vector.
+    /// The same with a weight for each of the `dim` places of a vector, by which its squared difference counts: 1 to 4, and 256 at most together. Weights stay
+    /// as they are made.
+    ///
+    /// ```
+    /// use finder::{Error, Finder};
+    ///
+    /// # fn main() -> Result<(), Error> {
+    /// let mut index = Finder::with_weights(3, 100, 8, 1.2, &[1, 1, 4])?;
+    /// let mut scratch = index.scratch()?;
+    /// index.insert_one(&[10, 20, 30], 1007, 64, &mut scratch)?;
+    /// // 1 * 3² + 1 * 0² + 4 * 2²
+    /// assert_eq!(index.search(&[13, 20, 28], 1, 64, &mut scratch)?[0].distance, 25.0);
+    ///
+    /// assert_eq!(Finder::with_weights(3, 100, 8, 1.2, &[1, 1, 5]).err(), Some(Error::BadWeights));
+    /// assert_eq!(Finder::with_weights(3, 100, 8, 1.2, &[1, 1]).err(), Some(Error::BadLength));
+    /// # Ok(())
+    /// # }
+    /// ```
+    pub fn with_weights(dim: u32, capacity: u32, degree: u32, alpha: f32, weights: &[u8]) -> Result<Finder, Error> {
+        Finder::create(&Making { dim, capacity, degree, alpha, entry: 0, count: 0, bytes: &[], rows: &[], numbers: &[], weights })
+    }
+
+    /// An index of the vectors and rows that another program built, with a figure number for each vector and a weight for each place.
     ///
     /// ```
     /// use finder::{Finder, Hit, Making, BLANK};
@@ -118,7 +146,9 @@ impl Finder {
     /// # fn main() -> Result<(), finder::Error> {
     /// let rows = [1, BLANK, 0, 2, 1, BLANK];
     /// let numbers = [30, 10, 20];
-    /// let given = Making { dim: 1, capacity: 4, degree: 2, alpha: 1.0, entry: 1, count: 3, bytes: &[0, 3, 10], rows: &rows, numbers: &numbers };
+    /// let given = Making {
+    ///     dim: 1, capacity: 4, degree: 2, alpha: 1.0, entry: 1, count: 3, bytes: &[0, 3, 10], rows: &rows, numbers: &numbers, weights: &[1],
+    /// };
     /// let index = Finder::create(&given)?;
     /// let hits = index.search(&[2], 2, 2, &mut index.scratch()?)?;
     /// assert_eq!(hits, [Hit { slot: 1, number: 10, distance: 1.0 }, Hit { slot: 0, number: 30, distance: 4.0 }]);
@@ -336,7 +366,9 @@ impl Finder {
     /// // A chain 0 - 1 - 2 in which only slot 1 leads to slot 2.
     /// let rows = [1, BLANK, 0, 2, 1, BLANK];
     /// let numbers = [30, 10, 20];
-    /// let given = Making { dim: 1, capacity: 4, degree: 2, alpha: 1.0, entry: 1, count: 3, bytes: &[0, 3, 10], rows: &rows, numbers: &numbers };
+    /// let given = Making {
+    ///     dim: 1, capacity: 4, degree: 2, alpha: 1.0, entry: 1, count: 3, bytes: &[0, 3, 10], rows: &rows, numbers: &numbers, weights: &[1],
+    /// };
     /// let mut index = Finder::create(&given)?;
     /// let mut scratch = index.scratch()?;
     /// index.enable_guard(GuardSettings { landmark_count: 2, multiplier: 1, sample: 4, beam: 4 }, &mut scratch)?;

@@ -45,6 +45,7 @@ pub struct CreateArguments<'a> {
     pub bytes: &'a [u8],
     pub rows: &'a [u32],
     pub numbers: &'a [u32],
+    pub weights: &'a [u8],
 }
 
 extern "C" {
@@ -65,6 +66,8 @@ extern "C" {
         rows_len: usize,
         given_numbers: *const u32,
         given_numbers_len: usize,
+        given_weights: *const u8,
+        given_weights_len: usize,
         vectors: *mut u8,
         vectors_len: usize,
         targets: *mut u32,
@@ -81,6 +84,8 @@ extern "C" {
         numbers_len: usize,
         summary: *mut u32,
         summary_len: usize,
+        weights: *mut u8,
+        weights_len: usize,
         words: *mut Words,
     ) -> u32;
 
@@ -102,6 +107,8 @@ extern "C" {
         numbers_len: usize,
         summary: *mut u32,
         summary_len: usize,
+        weights: *const u8,
+        weights_len: usize,
         bytes: *const u8,
         bytes_len: usize,
         new_numbers: *const u32,
@@ -132,6 +139,8 @@ extern "C" {
         numbers_len: usize,
         summary: *const u32,
         summary_len: usize,
+        weights: *const u8,
+        weights_len: usize,
         landmark_count: u32,
         multiplier: u32,
         sample: u32,
@@ -142,7 +151,7 @@ extern "C" {
     ) -> u32;
 }
 
-// Declares functions that only read the words and the eight slices, which they take first, and then what is named.
+// Declares functions that only read the words and the nine slices, which they take first, and then what is named.
 macro_rules! reading {
     ($(fn $function:ident($($name:ident: $type:ty),*) -> $answer:ty;)*) => {
         extern "C" {
@@ -164,6 +173,8 @@ macro_rules! reading {
                 numbers_len: usize,
                 summary: *const u32,
                 summary_len: usize,
+                weights: *const u8,
+                weights_len: usize,
                 $($name: $type),*
             ) -> $answer;)*
         }
@@ -211,7 +222,7 @@ reading! {
     ) -> u32;
 }
 
-// Calls a function that only reads the words and the eight slices.
+// Calls a function that only reads the words and the nine slices.
 macro_rules! read {
     ($function:ident, $words:ident, $slices:ident, $($rest:expr),+) => {
         $function(
@@ -232,6 +243,8 @@ macro_rules! read {
             $slices.numbers.len(),
             $slices.summary.as_ptr(),
             $slices.summary.len(),
+            $slices.weights.as_ptr(),
+            $slices.weights.len(),
             $($rest),+
         )
     };
@@ -248,7 +261,7 @@ pub fn scratch_words(dim: u32, capacity: u32, degree: u32, size: &mut u32) -> u3
 }
 
 pub fn create(words: &mut Words, slices: &mut SlicesMut<'_>, given: &CreateArguments<'_>) -> u32 {
-    // SAFETY: every pointer is that of a whole slice with its length; the eight slices and the words are borrowed by this call alone, `given` is only read.
+    // SAFETY: every pointer is that of a whole slice with its length; the nine slices and the words are borrowed by this call alone, `given` is only read.
     unsafe {
         finder_create(
             given.dim,
@@ -263,6 +276,8 @@ pub fn create(words: &mut Words, slices: &mut SlicesMut<'_>, given: &CreateArgum
             given.rows.len(),
             given.numbers.as_ptr(),
             given.numbers.len(),
+            given.weights.as_ptr(),
+            given.weights.len(),
             slices.vectors.as_mut_ptr(),
             slices.vectors.len(),
             slices.targets.as_mut_ptr(),
@@ -279,6 +294,8 @@ pub fn create(words: &mut Words, slices: &mut SlicesMut<'_>, given: &CreateArgum
             slices.numbers.len(),
             slices.summary.as_mut_ptr(),
             slices.summary.len(),
+            slices.weights.as_mut_ptr(),
+            slices.weights.len(),
             words,
         )
     }
@@ -379,6 +396,8 @@ pub fn insert(
             slices.numbers.len(),
             slices.summary.as_mut_ptr(),
             slices.summary.len(),
+            slices.weights.as_ptr(),
+            slices.weights.len(),
             bytes.as_ptr(),
             bytes.len(),
             numbers.as_ptr(),
@@ -416,6 +435,8 @@ pub fn guard_enable(words: &mut Words, slices: &mut SlicesMut<'_>, settings: [u3
             slices.numbers.len(),
             slices.summary.as_ptr(),
             slices.summary.len(),
+            slices.weights.as_ptr(),
+            slices.weights.len(),
             landmark_count,
             multiplier,
             sample,
@@ -482,6 +503,8 @@ macro_rules! delete {
                 numbers_len: usize,
                 summary: *mut u32,
                 summary_len: usize,
+                weights: *const u8,
+                weights_len: usize,
                 named: *const u32,
                 named_len: usize,
                 repair_beam: u32,
@@ -525,6 +548,8 @@ macro_rules! delete {
                     slices.numbers.len(),
                     slices.summary.as_mut_ptr(),
                     slices.summary.len(),
+                    slices.weights.as_ptr(),
+                    slices.weights.len(),
                     named.as_ptr(),
                     named.len(),
                     repair_beam,
@@ -567,6 +592,8 @@ macro_rules! guarded_delete {
                 numbers_len: usize,
                 summary: *mut u32,
                 summary_len: usize,
+                weights: *const u8,
+                weights_len: usize,
                 named: *const u32,
                 named_len: usize,
                 repair_beam: u32,
@@ -618,6 +645,8 @@ macro_rules! guarded_delete {
                     slices.numbers.len(),
                     slices.summary.as_mut_ptr(),
                     slices.summary.len(),
+                    slices.weights.as_ptr(),
+                    slices.weights.len(),
                     named.as_ptr(),
                     named.len(),
                     repair_beam,

@@ -3,7 +3,7 @@
 use crate::{raw, Error, GuardStatus, Hit, Report, Scratch, Words, BLANK, MAX_BEAM, MAX_LANDMARKS};
 use std::fmt;
 
-/// The eight slices of an index, to be read. include/finder.h says what each holds.
+/// The nine slices of an index, to be read. include/finder.h says what each holds.
 #[derive(Clone, Copy)]
 pub struct Slices<'a> {
     /// The bytes of each slot's vector: capacity * dim.
@@ -22,6 +22,8 @@ pub struct Slices<'a> {
     pub numbers: &'a [u32],
     /// The live slots by rising number, then [`BLANK`]: capacity.
     pub summary: &'a [u32],
+    /// What each place of a vector counts in a distance: dim.
+    pub weights: &'a [u8],
 }
 
 impl fmt::Debug for Slices<'_> {

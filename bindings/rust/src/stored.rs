@@ -81,8 +81,9 @@ numbers!(write_u16, read_u16, u16);
 numbers!(write_u32, read_u32, u32);
 
 impl Finder {
-    /// Writes the raw memory: the twelve words, then the eight slices in the order of `struct finder` of include/finder.h (which is not that of the
+    /// Writes the raw memory: the twelve words, then the nine slices in the order of `struct finder` of include/finder.h (which is not that of the
     /// block that a program in C stores), each number with its lowest byte first, and nothing between them. There is no checksum; who needs one puts it around.
+    /// What version 2 of this crate stored lacks the weights at its end: dim bytes, all 1.
     ///
     /// ```
     /// use finder::Finder;
@@ -113,7 +114,8 @@ impl Finder {
         out.write_all(&memory.marks)?;
         write_u32(out, &memory.pool)?;
         write_u32(out, &memory.numbers)?;
-        write_u32(out, &memory.summary)
+        write_u32(out, &memory.summary)?;
+        out.write_all(&memory.weights)
     }
 
     /// Reads what [`Finder::store`] wrote, and no byte more. Any other bytes are refused or make an index that can be called without harm; that the vectors
@@ -134,6 +136,7 @@ impl Finder {
         read_u32(from, &mut memory.pool)?;
         read_u32(from, &mut memory.numbers)?;
         read_u32(from, &mut memory.summary)?;
+        from.read_exact(&mut memory.weights)?;
         Ok(Finder::from_memory(memory)?)
     }
 }

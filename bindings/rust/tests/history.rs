@@ -61,7 +61,9 @@ impl History {
         let degree = 1 + random.below(5);
         let alpha = random.pick(&[1.0, 1.2, 2.0]);
         let values = random.pick(&[3, 8, 256]);
-        let mut model = Model::new(dim as usize, capacity as usize, degree as usize, alpha, slip);
+        let most = random.pick(&[1, 2, u32::from(MAX_WEIGHT)]);
+        let weights: Vec<u8> = (0..dim).map(|_| 1 + random.below(most) as u8).collect();
+        let mut model = Model::new(weights.clone(), capacity as usize, degree as usize, alpha, slip);
 
         // Given slots with any rows: blanks, repeats and references to themselves.
         let count = random.below(capacity + 1);
@@ -77,7 +79,7 @@ impl History {
             model.slots[slot].row = row.iter().copied().filter(|&target| target != BLANK).collect();
         }
         model.entry = entry;
-        let making = Making { dim, capacity, degree, alpha, entry, count, bytes: &bytes, rows: &rows, numbers: &numbers };
+        let making = Making { dim, capacity, degree, alpha, entry, count, bytes: &bytes, rows: &rows, numbers: &numbers, weights: &weights };
         let index = Finder::create(&making).map_err(|error| error.to_string())?;
         let scratch = index.scratch().map_err(|error| error.to_string())?;
         let mut history = History { random, values, index, model, scratch, refused: 0, carried_out: 0 };
@@ -373,7 +375,7 @@ fn a_wrong_model_is_reported() {
 /// One byte of the index changed behind its back: the comparison names it.
 #[test]
 fn a_changed_byte_is_reported() {
-    for what in ["vector", "version", "entry", "number", "row"] {
+    for what in ["vector", "version", "entry", "number", "weight", "row"] {
         let history = (0..50).map(|seed| History::new(seed, Slip::None).unwrap()).find(|history| history.model.live_slots().len() > 2).unwrap();
         let mut model = history.model.clone();
         let mut memory = history.index.into_memory();
@@ -386,6 +388,7 @@ fn a_changed_byte_is_reported() {
                 let last = &mut memory.numbers[memory.summary[memory.words[5] as usize - 1] as usize];
                 *last = if *last == u32::MAX { u32::MAX - 1 } else { u32::MAX };
             }
+            "weight" => memory.weights[0] = if memory.weights[0] == 1 { 2 } else { 1 },
             _ => memory.targets[0] = if memory.targets[0] == BLANK { 0 } else { BLANK },
         }
         let index = Finder::from_memory(memory).unwrap();

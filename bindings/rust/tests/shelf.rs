@@ -3,7 +3,8 @@
 use finder::*;
 
 const ROWS: [u32; 6] = [1, BLANK, 0, 2, 1, BLANK];
-const SHELF: Making = Making { dim: 1, capacity: 4, degree: 2, alpha: 1.0, entry: 1, count: 3, bytes: &[0, 3, 10], rows: &ROWS, numbers: &[30, 10, 20] };
+const SHELF: Making =
+    Making { dim: 1, capacity: 4, degree: 2, alpha: 1.0, entry: 1, count: 3, bytes: &[0, 3, 10], rows: &ROWS, numbers: &[30, 10, 20], weights: &[1] };
 
 fn shelf() -> (Finder, Scratch) {
     let index = Finder::create(&SHELF).unwrap();
@@ -198,6 +199,7 @@ fn refusals() {
     assert_eq!(Finder::create(&Making { entry: 3, numbers: &[0; 3], ..SHELF }).err(), Some(Error::BadGiven));
     assert_eq!(Finder::create(&Making { numbers: &[30, 0, 20], ..SHELF }).err(), Some(Error::BadNumber));
     assert_eq!(Finder::create(&Making { numbers: &[30, 10, 30], ..SHELF }).err(), Some(Error::BadNumber));
+    assert_eq!(Finder::create(&Making { weights: &[5], ..SHELF }).err(), Some(Error::BadWeights));
     assert_eq!(f.search(&[2, 2], 2, 2, &mut scratch), Err(Error::BadLength));
     assert_eq!(f.search(&[2], 2, 1025, &mut scratch), Err(Error::OverLimit));
     assert_eq!(f.search(&[2], 2, 2, &mut Scratch::of_words(0)), Err(Error::ShortScratch));
@@ -205,7 +207,7 @@ fn refusals() {
     let mut two = Finder::new(2, 4, 2, 1.0).unwrap();
     assert_eq!(two.insert(&[1, 2, 3], &[0], 4, &mut scratch), Err(Error::BadBatch));
     assert_eq!(two.insert(&[1, 2, 3], &[1, 2], 4, &mut scratch), Err(Error::BadLength));
-    for number in (1..=13).chain([15]) {
+    for number in (1..=13).chain([15, 16]) {
         let error = Error::of_number(number).unwrap();
         assert_eq!(error.number(), number);
         assert!(!matches!(error, Error::Unknown(_)));
@@ -249,6 +251,16 @@ fn damaged_memory() {
     few_numbers.numbers.pop();
     let mut long_summary = whole.clone();
     long_summary.summary.push(BLANK);
+    let mut no_weights = whole.clone();
+    no_weights.weights.clear();
+    let mut more_weights = whole.clone();
+    more_weights.weights.push(1);
+    let mut weight_0 = whole.clone();
+    weight_0.weights[0] = 0;
+    // 16 comes before 6.
+    let mut weight_255 = whole.clone();
+    weight_255.weights[0] = 255;
+    weight_255.words[5] = 2;
     for (mut memory, error) in [
         (count, Error::BadIndex),
         (entry, Error::BadIndex),
@@ -265,6 +277,10 @@ fn damaged_memory() {
         (outside, Error::BadIndex),
         (few_numbers, Error::BadLength),
         (long_summary, Error::BadLength),
+        (no_weights, Error::BadLength),
+        (more_weights, Error::BadLength),
+        (weight_0, Error::BadWeights),
+        (weight_255, Error::BadWeights),
     ] {
         let before = memory.clone();
         let view = memory.view();
@@ -284,6 +300,46 @@ fn damaged_memory() {
     }
 }
 
+/// Two vectors that change places as the nearest by the weights, and the largest distance there is.
+#[test]
+fn weights() {
+    // 1 * 6² + 1 * 0² and 1 * 0² + 1 * 5²; with weights 1 and 4 the second is 4 * 5².
+    for (weights, nearest) in [([1, 1], vec![(1, 25.0), (0, 36.0)]), ([1, 4], vec![(0, 36.0), (1, 100.0)]), ([4, 4], vec![(1, 100.0), (0, 144.0)])] {
+        let mut f = Finder::with_weights(2, 4, 2, 1.0, &weights).unwrap();
+        let mut scratch = f.scratch().unwrap();
+        f.insert_one(&[16, 20], 30, 4, &mut scratch).unwrap();
+        f.insert_one(&[10, 25], 10, 4, &mut scratch).unwrap();
+        assert_eq!(pairs(f.search(&[10, 20], 2, 4, &mut scratch)), Ok(nearest));
+        f.delete(&[0], 4, 2, &mut scratch).unwrap();
+        assert_eq!(f.memory().weights, weights);
+        let mut bytes = Vec::new();
+        f.store(&mut bytes).unwrap();
+        assert_eq!((&bytes[bytes.len() - 2..], Finder::load(&mut bytes.as_slice()).unwrap()), (&weights[..], f));
+    }
+    // The largest sum is 256: at dim 256 only ones fit, at 255 one may be 2, at 64 all are 4.
+    let made = |weights: &[u8]| Finder::with_weights(weights.len() as u32, 2, 1, 1.0, weights);
+    let with = |many: usize, weight: u8, last: u8| [vec![weight; many], vec![last]].concat();
+    for weights in [vec![1; 256], with(254, 1, 2), with(85, 3, 1), vec![4; 64]] {
+        let dim = weights.len();
+        let mut f = made(&weights).unwrap();
+        let mut scratch = f.scratch().unwrap();
+        f.insert_one(&vec![0; dim], 1, 1, &mut scratch).unwrap();
+        // 255² * 256
+        assert_eq!(pairs(f.search(&vec![255; dim], 1, 1, &mut scratch)), Ok(vec![(0, 16_646_400.0)]));
+    }
+    for weights in [with(255, 1, 2), with(254, 1, 3), with(85, 3, 2), with(64, 4, 1), with(10, 1, 0), with(10, 1, 5), vec![255; 256]] {
+        assert_eq!(made(&weights).err(), Some(Error::BadWeights));
+    }
+    // 3 comes before 16, and 16 before 4.
+    let many = Making { count: 5, bytes: &[0; 5], rows: &[BLANK; 10], numbers: &[0; 5], ..SHELF };
+    assert_eq!(Finder::create(&Making { weights: &[5, 1], ..SHELF }).err(), Some(Error::BadLength));
+    assert_eq!(Finder::create(&Making { weights: &[], ..SHELF }).err(), Some(Error::BadLength));
+    assert_eq!(Finder::create(&Making { weights: &[5], ..many }).err(), Some(Error::BadWeights));
+    assert_eq!(Finder::create(&Making { weights: &[4], ..many }).err(), Some(Error::TooMany));
+    assert_eq!(Finder::with_weights(257, 4, 2, 1.0, &[1; 257]).err(), Some(Error::BadSizes));
+    assert_eq!(Finder::with_weights(2, 4, 2, 0.5, &[5; 2]).err(), Some(Error::BadAlpha));
+}
+
 #[test]
 fn stored_and_loaded() {
     let (mut f, mut scratch) = shelf();
@@ -291,7 +347,7 @@ fn stored_and_loaded() {
     f.delete(&[2], 2, 1, &mut scratch).unwrap();
     let mut bytes = Vec::new();
     f.store(&mut bytes).unwrap();
-    assert_eq!(bytes.len(), 12 * 4 + 4 + 8 * 4 + 8 * 2 + 4 * 2 + 4 + POOL * 4 + 4 * 4 + 4 * 4);
+    assert_eq!(bytes.len(), 12 * 4 + 4 + 8 * 4 + 8 * 2 + 4 * 2 + 4 + POOL * 4 + 4 * 4 + 4 * 4 + 1);
     bytes.push(77);
     let mut rest = bytes.as_slice();
     let loaded = Finder::load(&mut rest).unwrap();

@@ -1,13 +1,13 @@
-//! settings ORIGINALS PLACEHOLDERS: what degree, alpha and beam cost and give on these pictures.
+//! settings ORIGINALS PLACEHOLDERS [--line-ends]: what degree, alpha and beam cost and give on these pictures.
 //!
 //! For each setting, the originals are inserted one to a call; printed are the time of one insert and of one search, how many originals do not find themselves,
 //! of these how many no reference leads to, and for how many placeholders the search gives the nearest original, and the second nearest, that comparing
 //! with all of them gives.
 
 use pair::folder;
-use pair::originals::{distance, Originals, Settings};
+use pair::originals::{Originals, Settings};
 use pair::picture;
-use pair::reduce::Grey;
+use pair::reduce::{Grey, Grid, LINE_ENDS, PLAIN};
 use std::path::Path;
 use std::time::{Duration, Instant};
 
@@ -24,18 +24,18 @@ const TRIED: [(u32, f32, u32); 9] = [
     (64, 1.4, 128),
 ];
 
-fn read(folder: &Path) -> Result<Vec<Grey>, String> {
+fn read(folder: &Path, grid: Grid) -> Result<Vec<Grey>, String> {
     let entries = folder::list(folder).map_err(|error| error.to_string())?;
     let plain = entries.iter().filter(|entry| entry.skipped.is_none());
     let mut reading = Duration::ZERO;
-    Ok(plain.filter_map(|entry| picture::read(&folder.join(&entry.name), false, &mut reading).ok()).map(|picture| picture.grey).collect())
+    Ok(plain.filter_map(|entry| picture::read(&folder.join(&entry.name), grid, false, &mut reading).ok()).map(|picture| picture.grey).collect())
 }
 
 /// The least two distances, by comparing with all originals that differ.
-fn nearest(originals: &[Grey], placeholder: &Grey) -> [u32; 2] {
+fn nearest(originals: &[Grey], placeholder: &[u8], grid: Grid) -> [u32; 2] {
     let mut least = [u32::MAX; 2];
     for original in originals {
-        let distance = distance(original, placeholder);
+        let distance = grid.distance(original, placeholder);
         if distance < least[0] {
             least = [distance, least[0]];
         } else if distance < least[1] {
@@ -45,8 +45,8 @@ fn nearest(originals: &[Grey], placeholder: &Grey) -> [u32; 2] {
     least
 }
 
-fn measure(originals: &[Grey], placeholders: &[Grey], right: &[[u32; 2]], settings: Settings) -> Result<(), finder::Error> {
-    let mut index = Originals::new(originals.len(), settings)?;
+fn measure(originals: &[Grey], placeholders: &[Grey], right: &[[u32; 2]], settings: Settings, grid: Grid) -> Result<(), finder::Error> {
+    let mut index = Originals::new(originals.len(), settings, grid)?;
     let start = Instant::now();
     for (original, grey) in originals.iter().enumerate() {
         index.add(original, original as u32 + 1, grey)?;
@@ -78,22 +78,24 @@ fn measure(originals: &[Grey], placeholders: &[Grey], right: &[[u32; 2]], settin
 
 fn main() -> Result<(), Box<dyn std::error::Error>> {
     let arguments: Vec<_> = std::env::args_os().skip(1).collect();
-    let [originals, placeholders] = &arguments[..] else {
-        return Err("settings ORIGINALS PLACEHOLDERS".into());
+    let (originals, placeholders, grid) = match &arguments[..] {
+        [originals, placeholders] => (originals, placeholders, PLAIN),
+        [originals, placeholders, flag] if flag == "--line-ends" => (originals, placeholders, LINE_ENDS),
+        _ => return Err("settings ORIGINALS PLACEHOLDERS [--line-ends]".into()),
     };
-    let mut originals = read(Path::new(originals))?;
-    let placeholders = read(Path::new(placeholders))?;
+    let mut originals = read(Path::new(originals), grid)?;
+    let placeholders = read(Path::new(placeholders), grid)?;
     // Originals with the same grey values share a slot.
     originals.sort_unstable();
     originals.dedup();
     // In the order of their bytes they would be inserted from dark to light.
     originals.sort_by_key(|grey| grey.iter().fold(1u64, |number, &value| (number ^ u64::from(value)).wrapping_mul(0x0100_0000_01b3)));
-    let right: Vec<[u32; 2]> = placeholders.iter().map(|grey| nearest(&originals, grey)).collect();
+    let right: Vec<[u32; 2]> = placeholders.iter().map(|grey| nearest(&originals, grey, grid)).collect();
     println!("| degree | alpha | insert beam | search beam | insert, µs | search, µs | originals missed | unreached | nearest | second |");
     println!("|-:|-:|-:|-:|-:|-:|-:|-:|-:|-:|");
     for (degree, alpha, insert_beam) in TRIED {
         for search_beam in [16, 64] {
-            measure(&originals, &placeholders, &right, Settings { degree, alpha, insert_beam, search_beam })?;
+            measure(&originals, &placeholders, &right, Settings { degree, alpha, insert_beam, search_beam }, grid)?;
         }
     }
     Ok(())

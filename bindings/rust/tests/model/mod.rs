@@ -1,7 +1,7 @@
 //! A plain model of an index: what every call must answer, written simply.
 //!
-//! It works out by itself, and `compare` holds against the index: sizes, alpha, entry, live count, and of each slot mark, version, figure number and vector; the
-//! summary; the slots that an insert gets; which slots a delete empties, how many stats it gives, and of these the first and last count; every answer of a
+//! It works out by itself, and `compare` holds against the index: sizes, alpha, entry, live count, weights, and of each slot mark, version, figure number and
+//! vector; the summary; the slots that an insert gets; which slots a delete empties, how many stats it gives, and of these the first and last count; every answer of a
 //! search, by a walk over a sorted list; the landmark pool, the guard's status and every report; the number of each refusal.
 //!
 //! Rows it takes over from the index (`take_rows`), since pruning and repair are most of the library: it only tests that they are sound, and that an insert or
@@ -19,6 +19,9 @@ pub enum Slip {
     TiesByHigherSlot,
     ExpandsLast,
     PlainDifference,
+    WeightsLeftOut,
+    NextWeight,
+    WeightSquared,
     RepeatsCount,
     FirstOfEquals,
     AdmitsAll,
@@ -32,13 +35,16 @@ pub enum Slip {
     NumberBeforeFull,
 }
 
-pub const SLIPS: [Slip; 17] = [
+pub const SLIPS: [Slip; 20] = [
     Slip::HighestFree,
     Slip::VersionKept,
     Slip::EntryKept,
     Slip::TiesByHigherSlot,
     Slip::ExpandsLast,
     Slip::PlainDifference,
+    Slip::WeightsLeftOut,
+    Slip::NextWeight,
+    Slip::WeightSquared,
     Slip::RepeatsCount,
     Slip::FirstOfEquals,
     Slip::AdmitsAll,
@@ -67,6 +73,7 @@ pub struct Model {
     pub degree: usize,
     pub alpha: f32,
     pub entry: u32,
+    pub weights: Vec<u8>,
     pub slots: Vec<Slot>,
     pub guard: Option<(GuardSettings, Vec<u32>)>,
     pub slip: Slip,
@@ -81,9 +88,10 @@ pub fn same<T: PartialEq + std::fmt::Debug>(what: &str, index: T, model: T) -> R
 }
 
 impl Model {
-    pub fn new(dim: usize, capacity: usize, degree: usize, alpha: f32, slip: Slip) -> Model {
+    pub fn new(weights: Vec<u8>, capacity: usize, degree: usize, alpha: f32, slip: Slip) -> Model {
+        let dim = weights.len();
         let blank = Slot { live: false, version: 0, number: 0, vector: vec![0; dim], row: vec![] };
-        Model { dim, degree, alpha, entry: 0, slots: vec![blank; capacity], guard: None, slip }
+        Model { dim, degree, alpha, entry: 0, weights, slots: vec![blank; capacity], guard: None, slip }
     }
 
     pub fn is_live(&self, slot: u32) -> bool {
@@ -125,7 +133,13 @@ impl Model {
 
     fn distance(&self, a: &[u8], b: &[u8]) -> u32 {
         let power = if self.slip == Slip::PlainDifference { 1 } else { 2 };
-        a.iter().zip(b).map(|(&a, &b)| u32::from(a.abs_diff(b)).pow(power)).sum()
+        let weight = |place: usize| match self.slip {
+            Slip::WeightsLeftOut => 1,
+            Slip::NextWeight => u32::from(self.weights[(place + 1) % self.dim]),
+            Slip::WeightSquared => u32::from(self.weights[place]).pow(2),
+            _ => u32::from(self.weights[place]),
+        };
+        a.iter().zip(b).enumerate().map(|(place, (&a, &b))| weight(place) * u32::from(a.abs_diff(b)).pow(power)).sum()
     }
 
     // ---- changes
@@ -340,6 +354,7 @@ impl Model {
         let by_number: Vec<u32> = self.summary().into_iter().filter(|&slot| slot != BLANK).collect();
         same("summary", &index.memory().summary, &self.summary())?;
         same("slots by number", index.slots_by_number(), Ok(&by_number[..]))?;
+        same("weights", &index.memory().weights, &self.weights)?;
         same("guard", index.guard_status(), Ok(self.status()))?;
         if let Some((_, pool)) = &self.guard {
             same("pool", &index.memory().pool[..pool.len()], &pool[..])?;
