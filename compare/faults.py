@@ -1,10 +1,10 @@
 #!/usr/bin/env python3
 """compare/faults.py [calls] [words]
 
-Puts one fault at a time into a copy of the comparing program, below target/, and says in which call compare/histories.sh finds it, as a table; 20,000 calls at
+Puts one fault at a time into a copy of the comparing program, below target/, and says in which call compare/histories.sh finds it, as a table; 40,000 calls at
 most where not given, seed 1. So it shows what that comparison can see. A fault is put into the Rust, or, since the archive is built of proved code only,
 into what the library's call has left by the time that it is compared. With words only the faults whose name has them. The exit code is 1 if one is not
-found. Run compare/histories.sh first: it builds the library. The whole takes about nine minutes of CPU time.
+found. Run compare/histories.sh first: it builds the library. The whole takes about 20 minutes of CPU time.
 """
 import os
 import re
@@ -284,6 +284,88 @@ broken_labels = [
 FAULTS += after("making", CALLS, MADE, made_numbers) + after("insert", UPDATES, INSERTED, inserted_numbers) + after("search", CALLS, SEARCHED, searched_numbers)
 FAULTS += after("delete", UPDATES, DELETED, deleted_numbers + counted_numbers) + after("guarded delete", GUARD, GUARDED, deleted_numbers)
 FAULTS += after("row 6", CALLS, READ, broken_labels)
+# weights
+
+
+def plain(a, b):
+    """The distance of two vectors of the Rust without weights."""
+    bytes = "(&[u8], &[u8]) = (bytemuck::cast_slice(%s), bytemuck::cast_slice(%s))" % (a, b)
+    return "{ let (l, r): %s; l.iter().zip(r).map(|(&x, &y)| (x as i32 - y as i32).pow(2) as u32).sum::<u32>() as f32 }" % bytes
+
+
+WALKED = "            |id| self.dist.eval(query, self.vector(id)),\n"
+UNWEIGHED = WALKED.replace("self.dist.eval(query, self.vector(id))", plain("query", "self.vector(id)"))
+NEAREST = """                    let distance_a = references
+                        .iter()
+                        .map(|reference| self.dist.eval(self.vector(*a), self.vector(*reference)))
+                        .min_by(f32::total_cmp)
+                        .unwrap();
+                    let distance_b = references
+                        .iter()
+                        .map(|reference| self.dist.eval(self.vector(*b), self.vector(*reference)))
+"""
+LINKED = """self.dist.eval(
+                    self.vector(candidates[left]),
+                    self.vector(candidates[right]),
+                )"""
+STARTED = """                self.dist
+                    .eval(self.vector(*a.1), entry)
+                    .total_cmp(&self.dist.eval(self.vector(*b.1), entry))
+"""
+weights_in_rust = [
+    ("weights: all left out", DRIVER, "weights.iter().any(|&w| w != 1).then(", "weights.is_empty().then("),
+    ("weights: that of the first place left out", DRIVER, "                    .zip(w)\n", "                    .zip(std::iter::once(&1).chain(&w[1..]))\n"),
+    ("weights: that of the last place left out", DRIVER, "                    .zip(w)\n", "                    .zip(w[..w.len() - 1].iter().chain([&1]))\n"),
+    ("weights: those of the places from the end", DRIVER, "                    .zip(w)\n", "                    .zip(w.iter().rev())\n"),
+    ("weights: that of the next place", DRIVER, "                    .zip(w)\n", "                    .zip(w.iter().cycle().skip(1))\n"),
+    ("weights: multiplied before squaring", DRIVER, "(d * d) as u32 * w as u32", "(d * d) as u32 * w as u32 * w as u32"),
+    ("weights: added, not multiplied", DRIVER, "(d * d) as u32 * w as u32", "(d * d) as u32 + w as u32 - 1"),
+    ("weights: left out of walks", ROWS, "            self.meta.medoid_id,\n            beam,\n" + WALKED, "            self.meta.medoid_id,\n            beam,\n" + UNWEIGHED),
+    ("weights: left out of an insert's target rows", ROWS, "self.dist.eval(source_vector, self.vector(id))", plain("source_vector", "self.vector(id)")),
+    ("weights: left out of an insert's pruning", ROWS, "self.dist.eval(self.vector(c[j].0), self.vector(sid))", plain("self.vector(c[j].0)", "self.vector(sid)")),
+    ("weights: left out of a delete's pruning", ROWS, "cache.distance(c[j].0, sid)", plain("self.vector(c[j].0)", "self.vector(sid)")),
+    ("weights: left out of a repaired row's candidates", ROWS, "cache.distance(source, id)", plain("self.vector(source)", "self.vector(id)")),
+    ("weights: left out of a repair's links", ROWS, LINKED, plain("self.vector(candidates[left])", "self.vector(candidates[right])")),
+    ("weights: left out of where a repair starts", ROWS, STARTED, "                let (a, b) = (%s, %s);\n                a.total_cmp(&b)\n" % (plain("self.vector(*a.1)", "entry"), plain("self.vector(*b.1)", "entry"))),
+    ("weights: left out of choosing landmarks", ROWS, NEAREST, NEAREST.replace("self.dist.eval(self.vector(*a), self.vector(*reference))", plain("self.vector(*a)", "self.vector(*reference)")).replace("self.dist.eval(self.vector(*b), self.vector(*reference))", plain("self.vector(*b)", "self.vector(*reference)"))),
+    ("weights: left out of the guard's trial walks", ROWS, "            entry,\n            beam,\n" + WALKED, "            entry,\n            beam,\n" + UNWEIGHED),
+]
+GIVEN_SUM = "let sum = weights.iter().map(|&w| w as u32).sum::<u32>(); "
+FITS = "weights.iter().all(|w| (1..=4).contains(w))"
+made_weights = [
+    ("the first weight is another", "if got == 0 { unsafe { *slices.weights.mut_ptr() ^= 1 } }"),
+    ("the last weight stays", "if got == 0 { unsafe { *slices.weights.mut_ptr().add(lent[8] - 1) = 0 } }"),
+    ("all weights are 1", "if got == 0 { unsafe { slices.weights.mut_ptr().write_bytes(1, lent[8]) } }"),
+    ("a weight past the last is written", "if got == 0 { unsafe { *slices.weights.mut_ptr().add(lent[8]) ^= 1 } }"),
+    ("the weights given are written", "if got == 0 { unsafe { *lent_weights.mut_ptr() ^= 1 } }"),
+    ("weights are written though refused", "if got == 16 { unsafe { *slices.weights.mut_ptr() ^= 1 } }"),
+    ("weights are written before 5 is decided", "if got == 5 { unsafe { *slices.weights.mut_ptr() ^= 1 } }"),
+    ("16 forgets the sum of the weights", "let got = if got == 16 && " + FITS + " { 0 } else { got };"),
+    ("16 forgets a weight of 0", GIVEN_SUM + "let got = if got == 16 && sum <= 256 && weights.iter().all(|&w| w <= 4) { 0 } else { got };"),
+    ("16 forgets a weight of 5", GIVEN_SUM + "let got = if got == 16 && sum <= 256 && weights.iter().all(|&w| 0 < w && w <= 5) { 0 } else { got };"),
+    ("a sum of weights of 257 passes", GIVEN_SUM + "let got = if got == 16 && sum == 257 && " + FITS + " { 0 } else { got };"),
+    ("a sum of weights of 256 is refused", GIVEN_SUM + "let got = if got == 0 && sum == 256 { 16 } else { got };"),
+    ("a weight of 4 is refused", "let got = if got == 0 && weights.contains(&4) { 16 } else { got };"),
+    ("4 where it is 16", "let got = if got == 16 && count > s[1] { 4 } else { got };"),
+    ("15 where it is 16", "let got = if got == 16 && numbers.contains(&0) { 15 } else { got };"),
+    ("16 where it is 3", "let got = if got == 3 && table::overweight(&weights) { 16 } else { got };"),
+    ("weights given that are too many are taken", "let got = if got == 3 && lent.map(|n| n as u64) == table::exact(s[0], s[1], s[2]) && bytes.len() == (count * s[0]) as usize && rows.len() == (count * s[2]) as usize && numbers.len() == count as usize && weights.len() > s[0] as usize { 0 } else { got };"),
+]
+written = [("a weight is written", "if got == 0 { unsafe { *h.both.slices.weights.mut_ptr() ^= 1 } }")]
+overweight = [
+    ("16 is not looked at", "let got = if got == 16 { 0 } else { got };"),
+    ("the sum of the weights is not looked at", "let got = if got == 16 && h.both.slices.weights.items().iter().all(|w| (1..=4).contains(w)) { 0 } else { got };"),
+    ("weights of any number are taken", "let n = h.both.slices.lengths(); let got = if got == 3 && a.lent[..8] == n[..8] && a.lent[8] != n[8] { 0 } else { got };"),
+]
+exchanged = [
+    ("6 where it is 16", "let got = if got == 16 && table::mislabelled(&h.both.slices.labels()) { 6 } else { got };"),
+    ("16 where it is 3", "let got = if got == 3 && table::overweight(h.both.slices.weights.items()) { 16 } else { got };"),
+    ("16 where it is 2", "let got = if got == 2 && table::overweight(h.both.slices.weights.items()) { 16 } else { got };"),
+]
+FAULTS += weights_in_rust + after("making", CALLS, MADE, made_weights)
+FAULTS += after("vector", CALLS, VECTOR, written + [("given though 16 is due", "let got = if number == 16 && h.both.rust.is_live(a.slot) { a.own[0] as usize } else { got };")])
+for call, file, place in (("reading", CALLS, READ), ("search", CALLS, SEARCHED), ("insert", UPDATES, INSERTED), ("delete", UPDATES, DELETED), ("guard enable", GUARD, ENABLED), ("guard status", GUARD, STATUS), ("assess", GUARD, ASSESSED), ("guarded delete", GUARD, GUARDED)):
+    FAULTS += after(call, file, place, written + overweight + (exchanged if call in ("reading", "search", "insert", "delete") else []))
 FAULTS += [("delete: numbers taken for slots", UPDATES, "table::named(names, labels.marks, labels.numbers) }", "names.to_vec() }")]
 FAULTS += delete_in_rust + after("delete", UPDATES, DELETED, delete_by_library) + guard_in_rust
 FAULTS += after("guard status", GUARD, STATUS, status_by_library)
@@ -307,7 +389,7 @@ def found(name, env, calls):
 
 
 def main():
-    calls = sys.argv[1] if len(sys.argv) > 1 else "20000"
+    calls = sys.argv[1] if len(sys.argv) > 1 else "40000"
     words = " ".join(sys.argv[2:])
     shutil.rmtree(os.path.join(COPY, "rust"), ignore_errors=True)
     shutil.copytree(os.path.join(ROOT, "compare", "rust"), os.path.join(COPY, "rust"), ignore=shutil.ignore_patterns("target"))

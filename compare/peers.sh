@@ -18,7 +18,7 @@ for part; do
 done
 out=target/peers
 mkdir -p "$out"
-(cd crates/finder && rt lib) > "$out/log" 2>&1 || { grep -E '^rt:|error|no proof' "$out/log"; exit 1; }
+(cd crates/finder && rt lib --cpu=x86-64) > "$out/log" 2>&1 || { grep -E '^rt:|error|no proof' "$out/log"; exit 1; }
 g++ -std=c++17 -O3 -Iinclude -o "$out/peers" compare/peers/main.cc crates/finder/out/libfinder.a
 for part; do
   status=0

@@ -5,7 +5,7 @@
 #
 # Two years are run, about five minutes of CPU time in all: each delivery inserted by one call, and one vector at a time. They are drawn in docs/year.svg.
 # --seed: 1 where not given. --batch: one year alone, with so many vectors to an insert at most; nothing is drawn. --spoil: changes one item of words, vectors,
-# targets, edges, versions, marks, pool, numbers or summary of the library's memory on day 40, which must end the run.
+# targets, edges, versions, marks, pool, numbers, summary or weights of the library's memory on day 40, which must end the run.
 # Needs what compare/histories.sh needs, and python3; writes below target/, compare/rust/ and the folders crates/*/out, and docs/year.svg only.
 set -e
 cd "$(dirname "$0")"

@@ -46,7 +46,7 @@ class Finder : public Side {
     static void *lines(size_t bytes) { return aligned_alloc(64, (bytes + 63) / 64 * 64); }
 
   public:
-    // An index of the given vectors and rows.
+    // An index of the given vectors and rows, all weights 1.
     Finder(size_t dim, size_t capacity, uint32_t entry, const std::vector<uint8_t> &bytes, const std::vector<uint32_t> &rows) : dim(dim) {
         struct finder_layout n;
         accepted(finder_lengths(dim, capacity, DEGREE, &n));
@@ -55,7 +55,9 @@ class Finder : public Side {
         accepted(finder_place(&index, block.get(), n.block_bytes, dim, capacity, DEGREE));
         accepted(finder_place_scratch(&scratch, work.get(), n.scratch_bytes));
         const auto given = next(bytes.size() / dim);
-        accepted(finder_create_in(&index, ALPHA, entry, given.size(), bytes.data(), bytes.size(), rows.data(), rows.size(), given.data(), given.size()));
+        const std::vector<uint8_t> weights(dim, 1);
+        accepted(finder_create_in(&index, ALPHA, entry, given.size(), bytes.data(), bytes.size(), rows.data(), rows.size(), given.data(), given.size(),
+            weights.data(), weights.size()));
     }
     // An index of one vector.
     Finder(size_t dim, size_t capacity, const uint8_t *vector)

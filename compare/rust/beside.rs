@@ -6,24 +6,26 @@ use std::hint::black_box;
 
 /// `search_pool` and `prune_scored` of the library, and two of its calls: the reading of the live count, and search.
 pub type Search = unsafe extern "C" fn(
-    usize, usize, *const u8, usize, *const u32, usize, *const u16, usize, *const u16, usize, *const u8, usize, *const u8, usize, u32, usize, *mut u32, usize,
+    usize, usize, *const u8, usize, *const u8, usize, *const u32, usize, *const u16, usize, *const u16, usize, *const u8, usize, *const u8, usize, u32, usize,
+    *mut u32, usize,
 ) -> usize;
-pub type Prune = unsafe extern "C" fn(f32, usize, *const u8, usize, *const u8, usize, u32, *mut u32, usize, *mut u32, usize) -> usize;
+pub type Prune = unsafe extern "C" fn(f32, usize, *const u8, usize, *const u8, usize, *const u8, usize, u32, *mut u32, usize, *mut u32, usize) -> usize;
 pub type Live = unsafe extern "C" fn(
     *const u32, *const u8, usize, *const u32, usize, *const u16, usize, *const u16, usize, *const u8, usize, *const u32, usize, *const u32, usize,
-    *const u32, usize, *mut u32,
+    *const u32, usize, *const u8, usize, *mut u32,
 ) -> u32;
 pub type Call = unsafe extern "C" fn(
     *const u32, *const u8, usize, *const u32, usize, *const u16, usize, *const u16, usize, *const u8, usize, *const u32, usize, *const u32, usize,
-    *const u32, usize, *const u8, usize, u32, u32, *mut u32, usize, *mut f32, usize, *mut u32, usize, *mut u32, usize, *mut u32,
+    *const u32, usize, *const u8, usize, *const u8, usize, u32, u32, *mut u32, usize, *mut f32, usize, *mut u32, usize, *mut u32, usize, *mut u32,
 ) -> u32;
 
-/// The words and the slices of an index of the Rust, all of whose slots are live. The figure number of each slot is the slot plus 1.
+/// The words and the slices of an index of the Rust, all of whose slots are live. The figure number of each slot is the slot plus 1, and all weights are 1.
 struct Slices {
     index: [u32; 12],
     pool: Vec<u32>,
     numbers: Vec<u32>,
     summary: Vec<u32>,
+    weights: Vec<u8>,
     dim: usize,
     degree: usize,
     vectors: Vec<u8>,
@@ -38,9 +40,9 @@ fn slices(b: &Book<Sq>) -> Slices {
     let index = [
         b.meta.dim as u32, capacity as u32, degree as u32, b.meta.alpha.to_bits(), b.meta.medoid_id, b.len() as u32, 0, 0, 0, 0, 0, 0,
     ];
-    let (numbers, summary) = ((1..=capacity as u32).collect(), (0..capacity as u32).collect());
+    let (numbers, summary, weights) = ((1..=capacity as u32).collect(), (0..capacity as u32).collect(), vec![1; b.meta.dim]);
     let (vectors, targets, edges, versions, marks) = (vec![], vec![], vec![], vec![], vec![]);
-    let mut s = Slices { index, pool: vec![0; 1024], numbers, summary, dim: b.meta.dim, degree, vectors, targets, edges, versions, marks };
+    let mut s = Slices { index, pool: vec![0; 1024], numbers, summary, weights, dim: b.meta.dim, degree, vectors, targets, edges, versions, marks };
     for id in 0..capacity as u32 {
         s.vectors.extend_from_slice(b.vector(id));
         s.versions.push(b.node_version(id));
@@ -59,9 +61,9 @@ impl Slices {
     fn search(&self, f: Search, query: &[u8], entry: u32, beam: usize, scratch: &mut [u32]) -> usize {
         unsafe {
             f(
-                self.dim, self.degree, self.vectors.as_ptr(), self.vectors.len(), self.targets.as_ptr(), self.targets.len(),
-                self.edges.as_ptr(), self.edges.len(), self.versions.as_ptr(), self.versions.len(), self.marks.as_ptr(), self.marks.len(),
-                query.as_ptr(), query.len(), entry, beam, scratch.as_mut_ptr(), scratch.len(),
+                self.dim, self.degree, self.vectors.as_ptr(), self.vectors.len(), self.weights.as_ptr(), self.weights.len(), self.targets.as_ptr(),
+                self.targets.len(), self.edges.as_ptr(), self.edges.len(), self.versions.as_ptr(), self.versions.len(), self.marks.as_ptr(),
+                self.marks.len(), query.as_ptr(), query.len(), entry, beam, scratch.as_mut_ptr(), scratch.len(),
             )
         }
     }
@@ -81,9 +83,9 @@ impl Slices {
             f(
                 self.index.as_ptr(), self.vectors.as_ptr(), self.vectors.len(), self.targets.as_ptr(), self.targets.len(), self.edges.as_ptr(),
                 self.edges.len(), self.versions.as_ptr(), self.versions.len(), self.marks.as_ptr(), self.marks.len(), self.pool.as_ptr(), self.pool.len(),
-                self.numbers.as_ptr(), self.numbers.len(), self.summary.as_ptr(), self.summary.len(), query.as_ptr(), query.len(), beam as u32, beam as u32,
-                out.slots.as_mut_ptr(), out.slots.len(), out.dists.as_mut_ptr(), out.dists.len(), out.numbers.as_mut_ptr(), out.numbers.len(),
-                scratch.as_mut_ptr(), scratch.len(), &mut out.found,
+                self.numbers.as_ptr(), self.numbers.len(), self.summary.as_ptr(), self.summary.len(), self.weights.as_ptr(), self.weights.len(), query.as_ptr(),
+                query.len(), beam as u32, beam as u32, out.slots.as_mut_ptr(), out.slots.len(), out.dists.as_mut_ptr(), out.dists.len(),
+                out.numbers.as_mut_ptr(), out.numbers.len(), scratch.as_mut_ptr(), scratch.len(), &mut out.found,
             )
         };
         assert_eq!(refused, 0);
@@ -95,7 +97,7 @@ impl Slices {
             f(
                 self.index.as_ptr(), self.vectors.as_ptr(), self.vectors.len(), self.targets.as_ptr(), self.targets.len(), self.edges.as_ptr(),
                 self.edges.len(), self.versions.as_ptr(), self.versions.len(), self.marks.as_ptr(), self.marks.len(), self.pool.as_ptr(), self.pool.len(),
-                self.numbers.as_ptr(), self.numbers.len(), self.summary.as_ptr(), self.summary.len(), &mut value,
+                self.numbers.as_ptr(), self.numbers.len(), self.summary.as_ptr(), self.summary.len(), self.weights.as_ptr(), self.weights.len(), &mut value,
             )
         };
         assert_eq!(refused, 0);
@@ -229,8 +231,8 @@ fn prunes(prune: Prune) {
                         let (given, out) = w.split_at_mut(2 * list.len());
                         counts.push(unsafe {
                             prune(
-                                1.2, dim, s.vectors.as_ptr(), s.vectors.len(), s.marks.as_ptr(), s.marks.len(), *source,
-                                given.as_mut_ptr(), given.len(), out.as_mut_ptr(), out.len(),
+                                1.2, dim, s.vectors.as_ptr(), s.vectors.len(), s.weights.as_ptr(), s.weights.len(), s.marks.as_ptr(), s.marks.len(),
+                                *source, given.as_mut_ptr(), given.len(), out.as_mut_ptr(), out.len(),
                             )
                         });
                     }

@@ -15,10 +15,17 @@ use std::sync::atomic::{AtomicU64, Ordering as AO};
 
 // ---------------------------------------------------------------- distance
 
-/// Sum of squared differences, optionally weighted (E3), exact in f32 below 2^24.
+/// Sum of squared differences, each times the weight of its place where there are weights (E3), exact in f32 below 2^24.
 #[derive(Clone, Copy, Default)]
 pub(crate) struct Sq {
     w: Option<&'static [u8]>,
+}
+
+impl Sq {
+    /// With these weights; where all are 1, as without.
+    pub(crate) fn weighted(weights: &[u8]) -> Sq {
+        Sq { w: weights.iter().any(|&w| w != 1).then(|| &*weights.to_vec().leak()) }
+    }
 }
 
 #[inline]
@@ -386,7 +393,7 @@ impl Driver {
             "weights" => {
                 let v = w.vector()?;
                 w.end()?;
-                self.weights = Some(Box::leak(v.into_boxed_slice()));
+                self.weights = Some(v.leak());
                 "ok".to_string()
             }
             "noweights" => {
@@ -558,6 +565,16 @@ impl Driver {
                 let id = self.slot(&mut w)?;
                 w.end()?;
                 self.book()?.meta.medoid_id = id;
+                "ok".to_string()
+            }
+            "setweights" => {
+                let v = w.vector()?;
+                w.end()?;
+                let b = self.book()?;
+                if v.len() != b.meta.dim {
+                    return Err("weights not dim long".into());
+                }
+                b.dist = Sq::weighted(&v);
                 "ok".to_string()
             }
             "setversion" => {

@@ -52,10 +52,13 @@ impl Rust {
     // ---- its calls; an error is document 01's number and the Rust's text
 
     /// `bytes` and `rows` hold a vector and a row of `degree` words for each given slot.
-    pub fn make(dim: usize, capacity: usize, degree: usize, alpha: f32, entry: u32, bytes: &[u8], rows: &[u32]) -> Result<Rust, String> {
+    #[allow(clippy::too_many_arguments)]
+    pub fn make(
+        dim: usize, capacity: usize, degree: usize, alpha: f32, entry: u32, bytes: &[u8], rows: &[u32], weights: &[u8],
+    ) -> Result<Rust, String> {
         let vectors: Vec<Vec<u8>> = bytes.chunks_exact(dim).map(|v| v.to_vec()).collect();
         let rows: Vec<Vec<u32>> = rows.chunks_exact(degree).map(|r| r.to_vec()).collect();
-        make(dim, capacity, degree, alpha, entry, &vectors, &rows, Sq::default()).map(Rust).map_err(|e| error(&e))
+        make(dim, capacity, degree, alpha, entry, &vectors, &rows, Sq::weighted(weights)).map(Rust).map_err(|e| error(&e))
     }
     pub fn search(&self, query: &[u8], k: usize, beam: usize) -> Vec<(u32, f32)> {
         self.0.search_with_dists(query, k, beam)
@@ -132,6 +135,9 @@ impl Rust {
 
     pub fn put_alpha(&mut self, alpha: f32) {
         self.0.meta.alpha = alpha;
+    }
+    pub fn put_weights(&mut self, weights: &[u8]) {
+        self.0.dist = Sq::weighted(weights);
     }
     pub fn put_entry(&mut self, slot: u32) {
         self.0.meta.medoid_id = slot;

@@ -15,10 +15,11 @@ pub struct Slices {
     pub pool: Lent<u32>,
     pub numbers: Lent<u32>,
     pub summary: Lent<u32>,
+    pub weights: Lent<u8>,
 }
 
 impl Slices {
-    pub fn junk(lengths: [u64; 8], rng: &mut Rng) -> Slices {
+    pub fn junk(lengths: [u64; 9], rng: &mut Rng) -> Slices {
         let n = lengths.map(|n| n as usize);
         Slices {
             vectors: Lent::junk(n[0], rng),
@@ -29,11 +30,12 @@ impl Slices {
             pool: Lent::junk(n[5], rng),
             numbers: Lent::junk(n[6], rng),
             summary: Lent::junk(n[7], rng),
+            weights: Lent::junk(n[8], rng),
         }
     }
     pub fn lengths(&self) -> Lengths {
         let graph = [self.vectors.len(), self.targets.len(), self.edges.len(), self.versions.len(), self.marks.len()];
-        [graph[0], graph[1], graph[2], graph[3], graph[4], self.pool.len(), self.numbers.len(), self.summary.len()]
+        [graph[0], graph[1], graph[2], graph[3], graph[4], self.pool.len(), self.numbers.len(), self.summary.len(), self.weights.len()]
     }
     pub fn pieces(&mut self) -> Vec<(&str, &mut dyn Piece)> {
         vec![
@@ -45,10 +47,11 @@ impl Slices {
             ("pool", &mut self.pool),
             ("numbers", &mut self.numbers),
             ("summary", &mut self.summary),
+            ("weights", &mut self.weights),
         ]
     }
     pub fn labels(&self) -> Labels<'_> {
-        Labels { marks: self.marks.items(), numbers: self.numbers.items(), summary: self.summary.items() }
+        Labels { marks: self.marks.items(), numbers: self.numbers.items(), summary: self.summary.items(), weights: self.weights.items() }
     }
     pub fn copied_labels(&self) -> (Vec<u8>, Vec<u32>, Vec<u32>) {
         let l = self.labels();
@@ -70,20 +73,24 @@ impl Slices {
         self.summary.expect(&table::summary(&stored.marks, &numbers).expect("numbers that break their rules"));
         self.numbers.expect(&numbers);
     }
-    /// The same after a making, which also clears the pool.
-    pub fn expect_made(&mut self, stored: &Stored, given: &[u32]) {
+    /// The same after a making, which also clears the pool and writes the weights.
+    pub fn expect_made(&mut self, stored: &Stored, given: &[u32], weights: &[u8]) {
         let filled: Vec<u32> = (0..given.len() as u32).collect();
         self.expect(stored, &filled, given);
+        self.weights.expect(weights);
         self.pool.expect(&[0; 1_024]);
     }
     /// The library's making.
-    pub fn create(&mut self, words: &mut Lent<u32>, n: Lengths, g: &Given, bytes: &Lent<u8>, rows: &Lent<u32>, numbers: &Lent<u32>) -> u32 {
+    #[allow(clippy::too_many_arguments)]
+    pub fn create(
+        &mut self, words: &mut Lent<u32>, n: Lengths, g: &Given, bytes: &Lent<u8>, rows: &Lent<u32>, numbers: &Lent<u32>, weights: &Lent<u8>,
+    ) -> u32 {
         unsafe {
             finder::finder_create(
                 g.sizes[0], g.sizes[1], g.sizes[2], f32::from_bits(g.alpha), g.entry, g.count, bytes.ptr(), bytes.len(), rows.ptr(), rows.len(),
-                numbers.ptr(), numbers.len(), self.vectors.mut_ptr(), n[0], self.targets.mut_ptr(), n[1], self.edges.mut_ptr(), n[2],
-                self.versions.mut_ptr(), n[3], self.marks.mut_ptr(), n[4], self.pool.mut_ptr(), n[5], self.numbers.mut_ptr(), n[6],
-                self.summary.mut_ptr(), n[7], words.mut_ptr(),
+                numbers.ptr(), numbers.len(), weights.ptr(), weights.len(), self.vectors.mut_ptr(), n[0], self.targets.mut_ptr(), n[1],
+                self.edges.mut_ptr(), n[2], self.versions.mut_ptr(), n[3], self.marks.mut_ptr(), n[4], self.pool.mut_ptr(), n[5],
+                self.numbers.mut_ptr(), n[6], self.summary.mut_ptr(), n[7], self.weights.mut_ptr(), n[8], words.mut_ptr(),
             )
         }
     }
@@ -100,18 +107,19 @@ pub struct Both {
 }
 
 impl Both {
-    /// An index made on both sides, of values 0 and 1. The number of each given slot is the slot plus 1.
+    /// An index made on both sides, of values 0 and 1. The number of each given slot is the slot plus 1, and all weights are 1.
     pub fn made(s: [u32; 3], alpha: f32, entry: u32, bytes: &[u8], rows: &[u32], rng: &mut Rng) -> Both {
         let (n, count) = (table::exact(s[0], s[1], s[2]), bytes.len() as u32 / s[0]);
         let (mut slices, mut words) = (Slices::junk(n, rng), Lent::junk(12, rng));
-        let numbers: Vec<u32> = (1..=count).collect();
-        let (given, given_rows, given_numbers) = (Lent::of(bytes, rng), Lent::of(rows, rng), Lent::of(&numbers, rng));
-        let g = Given { sizes: s, alpha: alpha.to_bits(), entry, count, bytes: bytes.len(), rows, numbers: &numbers };
-        assert_eq!(slices.create(&mut words, n.map(|n| n as usize), &g, &given, &given_rows, &given_numbers), 0);
-        slices.expect_made(&table::made(s, entry, count, bytes, rows), &numbers);
+        let (numbers, weights): (Vec<u32>, _) = ((1..=count).collect(), vec![1; s[0] as usize]);
+        let (given, given_rows) = (Lent::of(bytes, rng), Lent::of(rows, rng));
+        let (given_numbers, given_weights) = (Lent::of(&numbers, rng), Lent::of(&weights, rng));
+        let g = Given { sizes: s, alpha: alpha.to_bits(), entry, count, bytes: bytes.len(), rows, numbers: &numbers, weights: &weights };
+        assert_eq!(slices.create(&mut words, n.map(|n| n as usize), &g, &given, &given_rows, &given_numbers, &given_weights), 0);
+        slices.expect_made(&table::made(s, entry, count, bytes, rows), &numbers, &weights);
         words.expect(&[s[0], s[1], s[2], alpha.to_bits(), entry, count, 0, 0, 0, 0, 0, 0]);
         assert!(slices.pieces().into_iter().all(|(_, piece)| piece.difference().is_none()) && words.difference().is_none());
-        let rust = Rust::make(s[0] as usize, s[1] as usize, s[2] as usize, alpha, entry, bytes, rows).unwrap();
+        let rust = Rust::make(s[0] as usize, s[1] as usize, s[2] as usize, alpha, entry, bytes, rows, &weights).unwrap();
         Both { rust, words, slices, values: vec![0, 1], apart: false }
     }
     pub fn words(&self) -> Words {
@@ -119,6 +127,10 @@ impl Both {
     }
     pub fn capacity(&self) -> u32 {
         self.words()[1]
+    }
+    /// Whether a place counts other than once.
+    pub fn weighted(&self) -> bool {
+        self.slices.weights.items().iter().any(|&w| w != 1)
     }
     /// Gives the Rust the alpha and the guard of the words, which a caller may alter as they like.
     pub fn adopt(&mut self) {
@@ -132,7 +144,7 @@ impl Both {
         let [dim, capacity, degree, ..] = self.words();
         for _ in 0..1 + rng.below(2 * capacity.min(30)) {
             let slot = rng.below(capacity);
-            match rng.below(17) {
+            match rng.below(18) {
                 0..=8 => {
                     let inside = rng.below(capacity);
                     let target = rng.pick(&[inside, inside, inside, inside, slot, BLANK, BLANK, capacity, BLANK - 1, rng.0 as u32]);
@@ -150,6 +162,7 @@ impl Both {
                 12 => self.put_entry(slot),
                 13..=14 => self.put_vector(slot, &rng.vector(&self.values, dim as usize)),
                 15 => self.renumber(slot, rng.below(capacity), rng),
+                16 if rng.one_in(4) => self.put_weights(&draw::weights(dim as usize, rng)),
                 _ => {
                     let settings = [rng.pick(&[1, 2, 64]), rng.pick(&[1, 3, 16]), rng.pick(&[1, 5, 65_536]), rng.pick(&[1, 8, 1_024])];
                     let pool: Vec<u32> = (0..rng.pick(&[0, 1, 5, 1_024])).map(|_| rng.below(capacity + 2)).collect();
@@ -200,6 +213,10 @@ impl Both {
         for (i, &byte) in vector.iter().enumerate() {
             self.slices.vectors.put_at(slot as usize * vector.len() + i, byte);
         }
+    }
+    fn put_weights(&mut self, weights: &[u8]) {
+        self.rust.put_weights(weights);
+        self.slices.weights.put(weights);
     }
     fn put_guard(&mut self, settings: Option<[u32; 4]>, pool: &[u32]) {
         self.rust.put_guard(settings.map(|settings| (settings, pool.to_vec())));
@@ -273,7 +290,7 @@ impl Both {
             let (a, b) = (&self.slices, &self.slices.pool.items()[..16]);
             said += &format!("\n  vectors {}\n  targets {}\n  edges {}", a.vectors.text(), a.targets.text(), a.edges.text());
             said += &format!("\n  versions {}\n  marks {}\n  pool {b:?} ..", a.versions.text(), a.marks.text());
-            said += &format!("\n  numbers {}\n  summary {}", a.numbers.text(), a.summary.text());
+            said += &format!("\n  numbers {}\n  summary {}\n  weights {}", a.numbers.text(), a.summary.text(), a.weights.text());
         }
         said
     }

@@ -26,7 +26,7 @@ impl History {
 }
 
 /// Stands for the number of a call that is left out because of a tie.
-pub const TIED: u32 = 16;
+pub const TIED: u32 = 17;
 
 /// The number that document 01 gives, 0 where the call is carried out; and, where anything differs, the call and what differs.
 pub struct Outcome {
@@ -52,7 +52,7 @@ pub struct Kind {
 
 pub const KINDS: &[Kind] = &[
     Kind { name: "size answer", weight: 4, run: size_answer },
-    Kind { name: "making", weight: 6, run: making },
+    Kind { name: "making", weight: 8, run: making },
     Kind { name: "dim", weight: 5, run: reading!(finder_dim, |b, _| b.words()[0]) },
     Kind { name: "capacity", weight: 5, run: reading!(finder_capacity, |b, _| b.words()[1]) },
     Kind { name: "degree", weight: 5, run: reading!(finder_degree, |b, _| b.words()[2]) },
@@ -89,7 +89,7 @@ fn outcome(number: u32, differences: Vec<String>, call: impl FnOnce() -> String)
 
 /// A history begins with an index of one slot.
 pub fn begin(seed: u64, apart: bool) -> History {
-    assert_eq!(unsafe { finder::finder_version() }, 20_000);
+    assert_eq!(unsafe { finder::finder_version() }, 30_000);
     let mut rng = Rng(seed);
     let mut both = Both::made([1, 1, 1], 1.0, 0, &[], &[], &mut rng);
     both.apart = apart;
@@ -123,6 +123,7 @@ struct Making {
     bytes: Vec<u8>,
     rows: Vec<u32>,
     numbers: Vec<u32>,
+    weights: Vec<u8>,
     fresh: Option<(Slices, Lent<u32>)>,
     lent: Lengths,
 }
@@ -136,7 +137,7 @@ impl Making {
         let values = if same { b.values.clone() } else { draw::values(rng) };
         let (sizes, values) = if b.apart && !same { ([sizes[0].max(8), sizes[1], sizes[2]], (0..=255).collect()) } else { (sizes, values) };
         let (mut sizes, values) = if crowd { ([sizes[0].clamp(4, 16), 1_100, sizes[2].clamp(24, 64)], vec![128]) } else { (sizes, values) };
-        let faults: Vec<u32> = (0..draw::faults(rng)).map(|_| rng.below(15)).collect();
+        let faults: Vec<u32> = (0..draw::faults(rng)).map(|_| rng.below(18)).collect();
         let (room, some) = (sizes[1], rng.below(sizes[1] + 1));
         let mut count = rng.pick(&[room, some, some, some, room.div_ceil(2), room / 2, 0, 1]);
         if faults.contains(&0) && room <= 4_096 {
@@ -152,6 +153,7 @@ impl Making {
         }
         let mut rows: Vec<u32> = (0..count * sizes[2]).map(|_| if rng.one_in(5) { BLANK } else { rng.below(count) }).collect();
         let mut numbers = draw::numbers(count as usize, b.slices.labels(), true, rng);
+        let mut weights = draw::weights(sizes[0] as usize, rng);
         let mut entry = if count == 0 { 0 } else { rng.below(count) };
         let mut alpha = draw::alpha_bits(rng);
         if faults.contains(&1) {
@@ -167,7 +169,7 @@ impl Making {
             match fault {
                 2 => alpha = rng.pick(&draw::BAD_ALPHAS),
                 3 => {
-                    let which = rng.below(8) as usize;
+                    let which = rng.below(9) as usize;
                     lent[which] = draw::wrong_length(own[which], rng);
                 }
                 4 => bytes.resize(draw::wrong_length(bytes.len(), rng), 0),
@@ -180,29 +182,31 @@ impl Making {
                 }
                 9 => entry = rng.pick(&[count, count.saturating_add(1), room, u32::MAX]),
                 10..=14 => draw::spoil_numbers(&mut numbers, b.slices.labels(), rng),
+                15 => weights.resize(draw::wrong_length(weights.len(), rng), 1),
+                16..=17 if !weights.is_empty() => draw::spoil_weights(&mut weights, rng),
                 _ => {}
             }
         }
-        Making { sizes, alpha, entry, count, values, bytes, rows, numbers, fresh, lent }
+        Making { sizes, alpha, entry, count, values, bytes, rows, numbers, weights, fresh, lent }
     }
 }
 
 fn making(h: &mut History) -> Outcome {
-    let Making { sizes: s, alpha, entry, count, values, bytes, rows, numbers, mut fresh, lent } = Making::draw(&mut h.rng, &h.both);
+    let Making { sizes: s, alpha, entry, count, values, bytes, rows, numbers, weights, mut fresh, lent } = Making::draw(&mut h.rng, &h.both);
     let (slices, words) = match &mut fresh {
         Some((slices, words)) => (slices, words),
         None => (&mut h.both.slices, &mut h.both.words),
     };
-    let given = Given { sizes: s, alpha, entry, count, bytes: bytes.len(), rows: &rows, numbers: &numbers };
+    let given = Given { sizes: s, alpha, entry, count, bytes: bytes.len(), rows: &rows, numbers: &numbers, weights: &weights };
     let number = table::making(&given, &lent);
     let (mut rust, mut odd) = (None, None);
     if number == 0 || number == 4 {
         let [dim, capacity, degree] = s.map(|x| x as usize);
-        match (Rust::make(dim, capacity, degree, f32::from_bits(alpha), entry, &bytes, &rows), number) {
+        match (Rust::make(dim, capacity, degree, f32::from_bits(alpha), entry, &bytes, &rows, &weights), number) {
             (Ok(made), 0) => {
                 let stored = made.stored();
                 odd = (stored != table::made(s, entry, count, &bytes, &rows)).then(|| "the Rust's index is not document 01's".to_string());
-                slices.expect_made(&stored, &numbers);
+                slices.expect_made(&stored, &numbers, &weights);
                 words.expect(&[s[0], s[1], s[2], alpha, entry, count, 0, 0, 0, 0, 0, 0]);
                 rust = Some(made);
             }
@@ -210,19 +214,23 @@ fn making(h: &mut History) -> Outcome {
             (made, _) => odd = Some(format!("document 01 gives {number}, the Rust {}", made.map_or_else(|said| said, |_| "makes it".into()))),
         }
     }
-    let (mut bytes, mut lent_rows, mut lent_numbers) = (Lent::of(&bytes, &mut h.rng), Lent::of(&rows, &mut h.rng), Lent::of(&numbers, &mut h.rng));
-    let got = slices.create(words, lent, &given, &bytes, &lent_rows, &lent_numbers);
+    let (mut bytes, mut lent_rows) = (Lent::of(&bytes, &mut h.rng), Lent::of(&rows, &mut h.rng));
+    let (mut lent_numbers, mut lent_weights) = (Lent::of(&numbers, &mut h.rng), Lent::of(&weights, &mut h.rng));
+    let got = slices.create(words, lent, &given, &bytes, &lent_rows, &lent_numbers, &lent_weights);
     let mut pieces = slices.pieces();
-    pieces.extend([("index", words as &mut dyn Piece), ("bytes", &mut bytes), ("rows", &mut lent_rows), ("numbers given", &mut lent_numbers)]);
+    pieces.extend([("index", words as &mut dyn Piece), ("bytes", &mut bytes), ("rows", &mut lent_rows)]);
+    pieces.extend([("numbers given", &mut lent_numbers as &mut dyn Piece), ("weights given", &mut lent_weights)]);
     let mut differences = compare(number as u64, got as u64, pieces);
     differences.extend(odd);
     let outcome = outcome(number, differences, || {
         let small = bytes.len() + rows.len() + numbers.len() <= 1_024;
         let [b, r, n] = if small { [bytes.text(), lent_rows.text(), lent_numbers.text()] } else { Default::default() };
         let lengths = format!("lengths of the slices {lent:?}, of bytes {}, of rows {}, of numbers {}", bytes.len(), rows.len(), numbers.len());
-        format!("finder_create sizes {s:?} alpha bits {alpha:#x} entry {entry} count {count}, {lengths}\n  bytes {b}\n  rows {r}\n  numbers {n}")
+        let w = lent_weights.text();
+        format!("finder_create sizes {s:?} alpha bits {alpha:#x} entry {entry} count {count}, {lengths}\n  bytes {b}\n  rows {r}\n  numbers {n}\n  weights {w}")
     });
     if let Some(made) = rust {
+        meet_weights(h, &weights);
         (h.both.rust, h.both.values) = (made, values);
         if let Some((slices, words)) = fresh {
             (h.both.slices, h.both.words) = (slices, words);
@@ -230,6 +238,17 @@ fn making(h: &mut History) -> Outcome {
         }
     }
     outcome
+}
+
+/// Notes the weights of a making that is carried out.
+fn meet_weights(h: &mut History, weights: &[u8]) {
+    let plain = weights.iter().all(|&w| w == 1);
+    let met = [
+        plain.then_some("making, weights all 1"),
+        (!plain && weights.iter().map(|&w| w as u32).sum::<u32>() == 256).then_some("making, weights not all 1 whose sum is 256"),
+        weights.iter().all(|&w| w == 4).then_some("making, weights all 4"),
+    ];
+    met.into_iter().flatten().for_each(|what| h.meet(what));
 }
 
 // ---- calls on an index
@@ -240,11 +259,12 @@ fn same_index(w: &Words, own: &Words, lent: &Lengths, lengths: &Lengths) -> bool
 }
 
 /// A call on the index: the lengths lent and the index's own words, which are put back after it unless it changed them; its own marks, numbers and summary where
-/// they were made to break row 6; and what a reading asks for.
+/// they were made to break row 6, its own weights where they were made to break row 16; and what a reading asks for.
 pub struct Asked {
     pub lent: Lengths,
     pub own: Words,
     labels: Option<(Vec<u8>, Vec<u32>, Vec<u32>)>,
+    weights: Option<Vec<u8>>,
     pub changes: bool,
     slot: u32,
     place: u32,
@@ -258,9 +278,9 @@ impl Asked {
         let (capacity, degree) = (own[1], own[2]);
         let slot = if rng.one_in(5) { rng.pick(&[capacity, capacity + 1, u32::MAX, rng.0 as u32, (1 << 31) + 1]) } else { rng.below(capacity) };
         let place = if rng.one_in(8) { rng.pick(&[degree, u32::MAX, rng.0 as u32]) } else { rng.below(degree.min(6)) };
-        let (mut w, mut lent, mut labels) = (own, b.slices.lengths(), None);
+        let (mut w, mut lent, mut labels, mut weights) = (own, b.slices.lengths(), None, None);
         for _ in 0..faults {
-            match rng.below(19) {
+            match rng.below(22) {
                 0..=1 => {
                     draw::spoil_size(&mut w[..3], rng);
                     let exact = table::exact(w[0], w[1], w[2]).map(|n| n as usize);
@@ -270,7 +290,7 @@ impl Asked {
                 }
                 2..=3 => w[3] = rng.pick(&draw::BAD_ALPHAS),
                 4..=5 => {
-                    let which = rng.below(8) as usize;
+                    let which = rng.below(9) as usize;
                     lent[which] = draw::wrong_length(b.slices.lengths()[which], rng);
                 }
                 6 => w[rng.pick(&[0, 1, 2])] ^= 1, // the lengths are now other ones
@@ -286,6 +306,12 @@ impl Asked {
                     b.spoil_labels(&mut w, rng);
                     labels = Some(kept);
                 }
+                18..=20 => {
+                    let mut list = b.slices.weights.items().to_vec();
+                    weights.get_or_insert_with(|| list.clone());
+                    draw::spoil_weights(&mut list, rng);
+                    b.slices.weights.put(&list);
+                }
                 // no faults: a guard at its limits or at its least, words of a guard that is off, another alpha
                 _ if rng.one_in(3) => w[6..].copy_from_slice(&[rng.pick(&[1, 2, 1 << 31]), 64, 16, 65_536, 1_024, 1_024]),
                 _ if rng.one_in(3) => w[6..].copy_from_slice(&[1, 1, 1, 1, 1, 0]),
@@ -298,20 +324,26 @@ impl Asked {
             b.slices.put_labels(&kept);
             w[5] = own[5];
         }
+        if let Some(kept) = weights.take_if(|_| !table::overweight(b.slices.weights.items())) {
+            b.slices.weights.put(&kept);
+        }
         if table::reading(&w, &lent, &b.slices.labels()) == 0 && !same_index(&w, &own, &lent, &b.slices.lengths()) {
             (w, lent) = (own, b.slices.lengths());
         }
         b.words.put(&w);
-        Asked { lent, own, labels, changes: false, slot, place }
+        Asked { lent, own, labels, weights, changes: false, slot, place }
     }
-    /// Puts the index's own words back, and what of its slices was made to break row 6.
+    /// Puts the index's own words back, and what of its slices was made to break rows 6 and 16.
     fn put_back(&self, b: &mut Both) {
         b.words.put(&self.own);
         if let Some(labels) = &self.labels {
             b.slices.put_labels(labels);
         }
+        if let Some(weights) = &self.weights {
+            b.slices.weights.put(weights);
+        }
     }
-    /// Rows 1, 2, 3 and 6. What they let pass is the index that the Rust has.
+    /// Rows 1, 2, 3, 16 and 6. What they let pass is the index that the Rust has.
     pub fn number(&self, h: &History) -> u32 {
         let (w, b) = (h.both.words(), &h.both);
         let number = table::reading(&w, &self.lent, &b.slices.labels());

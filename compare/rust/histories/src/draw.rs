@@ -1,4 +1,4 @@
-//! What calls are drawn from: sizes, alphas, grey values, lengths, sound and damaged.
+//! What calls are drawn from: sizes, alphas, grey values, weights, lengths, sound and damaged.
 use crate::lent::{BORDER, Rng};
 use crate::table::{self, Labels, Words, scratch_words};
 use std::collections::BTreeSet;
@@ -10,7 +10,8 @@ pub fn faults(rng: &mut Rng) -> u32 {
 
 /// dim, capacity and degree, mostly small.
 pub fn sizes(rng: &mut Rng) -> [u32; 3] {
-    let dim = rng.pick(&[1, 2, 3, 4, 1 + rng.0 as u32 % 4, 5 + rng.0 as u32 % 28, 33 + rng.0 as u32 % 223, 256]);
+    let bound = rng.pick(&[64, 65, 86, 128, 129, 255]); // where weights of 4, of 3, of 2 begin to be too many
+    let dim = rng.pick(&[1, 2, 3, 4, 2 + rng.0 as u32 % 3, 5 + rng.0 as u32 % 28, 5 + rng.0 as u32 % 28, 33 + rng.0 as u32 % 223, bound, 256]);
     let degree = rng.pick(&[1, 2, 3, 4, 2 + rng.0 as u32 % 3, 5 + rng.0 as u32 % 12, 17 + rng.0 as u32 % 47, 64]);
     match rng.below(250) {
         0 => [dim, 65_536, degree.min(4)],
@@ -43,6 +44,56 @@ pub const BAD_ALPHAS: [u32; 12] = [
 pub fn values(rng: &mut Rng) -> Vec<u8> {
     let all: Vec<u8> = (0..=255).collect();
     rng.pick(&[&[0u8, 1][..], &[0, 1, 3], &[0, 255], &[7], &[0, 1, 2, 3, 4, 5], &[100, 101, 103, 120], &all, &all]).to_vec()
+}
+
+/// Weights of 1 to 4 whose sum is at most 256: all 1, any, the last places heavier than the others, one heavier, as many of 4 as fit, or any with the largest sum.
+pub fn weights(dim: usize, rng: &mut Rng) -> Vec<u8> {
+    let mut list = vec![1u8; dim];
+    let mut room = (256 - dim).min(3 * dim);
+    let style = rng.below(6);
+    let from = if style == 2 { dim - dim.div_ceil(8) } else { 0 };
+    let mut raise = |place: usize, by: usize| {
+        let by = by.min(room).min(4 - list[place] as usize);
+        list[place] += by as u8;
+        room -= by;
+        room == 0
+    };
+    match style {
+        0 => {}
+        1..=2 => (from..dim).rev().for_each(|place| {
+            raise(place, rng.below(4) as usize);
+        }),
+        3 => {
+            raise(rng.below(dim as u32) as usize, 1 + rng.below(3) as usize);
+        }
+        4 => (0..dim).for_each(|place| {
+            raise(place, 3);
+        }),
+        _ => while !raise(rng.below(dim as u32) as usize, 1) {},
+    }
+    list
+}
+
+/// Makes weights that row 16 refuses of such that it does not: one outside 1 to 4, a sum of 257 or more, or one of 0 whose weight another place has too.
+pub fn spoil_weights(list: &mut [u8], rng: &mut Rng) {
+    let dim = list.len();
+    let [one, other] = [0; 2].map(|_| rng.below(dim as u32) as usize);
+    match rng.below(10) {
+        0 => list[one] = 0,
+        1 => list[one] = 5,
+        2 => list[one] = rng.pick(&[5, 6, 8, 128, 254, 255, rng.0 as u8 | 8]),
+        3 if list[other] < 4 => (list[one], list[other]) = (0, list[other] + 1),
+        4..=6 if dim > 64 => {
+            // just over
+            while list.iter().map(|&w| w as u32).sum::<u32>() <= 256 {
+                let place = rng.below(dim as u32) as usize;
+                list[place] += (list[place] < 4) as u8;
+            }
+        }
+        7 if dim > 64 => list.fill(rng.pick(&[4, 4, 3, 2])),
+        8 => list.fill(rng.pick(&[0, 5, 255])),
+        _ => list[rng.pick(&[0, dim - 1])] = rng.pick(&[0, 5, 255]),
+    }
 }
 
 /// How many vectors an insert brings, of an index of these words: none, one, some, all that fit, or about as many as one or two chunks have. Fewer where

@@ -8,7 +8,7 @@ macro_rules! on_index {
             $(pub fn $name(
                 words: *mut u32, vectors: *mut u8, vectors_len: usize, targets: *mut u32, targets_len: usize, edges: *mut u16, edges_len: usize,
                 versions: *mut u16, versions_len: usize, marks: *mut u8, marks_len: usize, pool: *mut u32, pool_len: usize,
-                numbers: *mut u32, numbers_len: usize, summary: *mut u32, summary_len: usize, $(_: $more),*
+                numbers: *mut u32, numbers_len: usize, summary: *mut u32, summary_len: usize, weights: *mut u8, weights_len: usize, $(_: $more),*
             ) -> $answer;)*
         }
     };
@@ -46,9 +46,10 @@ unsafe extern "C" {
     pub fn finder_scratch_words(dim: u32, capacity: u32, degree: u32, words: *mut u32) -> u32;
     pub fn finder_create(
         dim: u32, capacity: u32, degree: u32, alpha: f32, entry: u32, count: u32, bytes: *const u8, bytes_len: usize, rows: *const u32,
-        rows_len: usize, given_numbers: *const u32, given_numbers_len: usize, vectors: *mut u8, vectors_len: usize, targets: *mut u32,
-        targets_len: usize, edges: *mut u16, edges_len: usize, versions: *mut u16, versions_len: usize, marks: *mut u8, marks_len: usize,
-        pool: *mut u32, pool_len: usize, numbers: *mut u32, numbers_len: usize, summary: *mut u32, summary_len: usize, index: *mut u32,
+        rows_len: usize, given_numbers: *const u32, given_numbers_len: usize, given_weights: *const u8, given_weights_len: usize,
+        vectors: *mut u8, vectors_len: usize, targets: *mut u32, targets_len: usize, edges: *mut u16, edges_len: usize, versions: *mut u16,
+        versions_len: usize, marks: *mut u8, marks_len: usize, pool: *mut u32, pool_len: usize, numbers: *mut u32, numbers_len: usize,
+        summary: *mut u32, summary_len: usize, weights: *mut u8, weights_len: usize, index: *mut u32,
     ) -> u32;
 }
 
@@ -60,7 +61,7 @@ macro_rules! call {
             $crate::finder::$name(
                 b.words.mut_ptr(), b.slices.vectors.mut_ptr(), n[0], b.slices.targets.mut_ptr(), n[1], b.slices.edges.mut_ptr(), n[2],
                 b.slices.versions.mut_ptr(), n[3], b.slices.marks.mut_ptr(), n[4], b.slices.pool.mut_ptr(), n[5], b.slices.numbers.mut_ptr(), n[6],
-                b.slices.summary.mut_ptr(), n[7], $($more),*
+                b.slices.summary.mut_ptr(), n[7], b.slices.weights.mut_ptr(), n[8], $($more),*
             )
         }
     };

@@ -16,6 +16,9 @@ mod year;
 
 use calls::{KINDS, TIED};
 
+/// A call is carried out, refused with one of 16 numbers, or left out.
+const NUMBERS: usize = TIED as usize + 1;
+
 /// Calls are counted by the capacity of their index: up to each of these.
 const CAPACITIES: [u32; 6] = [1, 24, 300, 4_000, 65_535, 65_536];
 
@@ -30,23 +33,25 @@ fn main() {
     let (calls, seed) = (number(0), number(1));
     let [first, apart] = ["first", "apart"].map(|word| args[2..].iter().any(|a| a == word));
     let mut h = calls::begin(seed, apart);
-    let weights: u32 = KINDS.iter().map(|k| k.weight).sum();
-    let mut counts = vec![[0u64; 17]; KINDS.len()]; // by the number given
+    let kinds: u32 = KINDS.iter().map(|k| k.weight).sum();
+    let mut counts = vec![[0u64; NUMBERS]; KINDS.len()]; // by the number given
     let mut differ = vec![0u64; KINDS.len()];
     let mut by_hand = 0u64; // how often state was written by hand
     let mut capacities = [0u64; CAPACITIES.len()]; // calls by the capacity of the index
     let mut large = vec![0u64; KINDS.len()]; // carried out on an index of more than 4,000 slots
+    let mut weighted = vec![0u64; KINDS.len()]; // carried out on an index with a weight other than 1
     for call in 1..=calls {
         if h.rng.one_in(20) {
             h.both.by_hand(&mut h.rng);
             by_hand += 1;
         }
-        let mut at = h.rng.below(weights);
+        let mut at = h.rng.below(kinds);
         let kind = KINDS.iter().position(|k| at < k.weight || { at -= k.weight; false }).unwrap();
         let outcome = (KINDS[kind].run)(&mut h);
         counts[kind][outcome.number as usize] += 1;
         capacities[CAPACITIES.iter().position(|&most| h.both.capacity() <= most).unwrap()] += 1;
         large[kind] += (outcome.number == 0 && h.both.capacity() > 4_000) as u64;
+        weighted[kind] += (outcome.number == 0 && h.both.weighted()) as u64;
         if let Some(said) = outcome.differs {
             if differ.iter().all(|&n| n == 0) {
                 println!("first difference, in call {call} (to repeat: compare/histories.sh {call} {seed}):\n{said}\n");
@@ -59,19 +64,20 @@ fn main() {
     }
     let on: Vec<String> = CAPACITIES.iter().zip(capacities).map(|(most, n)| format!("{n} up to {most}")).collect();
     println!("seed {seed}, {calls} calls, by the capacity of the index: {}", on.join(", "));
-    let on: Vec<String> = KINDS.iter().zip(large).map(|(kind, n)| format!("{} {n}", kind.name)).collect();
-    println!("carried out on more than 4,000 slots: {}", on.join(", "));
+    let by_kind = |n: &[u64]| KINDS.iter().zip(n).map(|(kind, n)| format!("{} {n}", kind.name)).collect::<Vec<String>>().join(", ");
+    println!("carried out on more than 4,000 slots: {}", by_kind(&large));
+    println!("carried out with a weight other than 1: {} calls: {}", weighted.iter().sum::<u64>(), by_kind(&weighted));
     println!("state written by hand on both sides between calls: {by_hand} times");
-    let numbers: Vec<usize> = (1..17).filter(|&n| counts.iter().any(|c| c[n] > 0)).collect();
+    let numbers: Vec<usize> = (1..NUMBERS).filter(|&n| counts.iter().any(|c| c[n] > 0)).collect();
     let line = |name: &str, cells: Vec<String>| println!("{name:16}{}", cells.iter().map(|c| format!("{c:>12}")).collect::<String>());
     let head = |n: &usize| if *n == TIED as usize { "left out".to_string() } else { format!("refused {n}") };
     let heads = ["carried out".to_string()].into_iter().chain(numbers.iter().map(head)).chain(["differ".into()]);
     line("", heads.collect());
-    let row = |c: &[u64; 17], d: u64| [c[0]].into_iter().chain(numbers.iter().map(|&n| c[n])).chain([d]).map(|n| n.to_string()).collect::<Vec<_>>();
+    let row = |c: &[u64; NUMBERS], d: u64| [c[0]].into_iter().chain(numbers.iter().map(|&n| c[n])).chain([d]).map(|n| n.to_string()).collect::<Vec<_>>();
     for (kind, (c, &d)) in KINDS.iter().zip(counts.iter().zip(&differ)) {
         line(kind.name, row(c, d));
     }
-    let sum: [u64; 17] = std::array::from_fn(|n| counts.iter().map(|c| c[n]).sum());
+    let sum: [u64; NUMBERS] = std::array::from_fn(|n| counts.iter().map(|c| c[n]).sum());
     let all: u64 = differ.iter().sum();
     line("all", row(&sum, all));
     for (what, n) in &h.met {

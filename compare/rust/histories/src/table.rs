@@ -1,4 +1,4 @@
-//! Document 01's table of turned-back calls with what document 02's E1 adds to it, and what they say of making and of figure numbers. Written from the documents
+//! Document 01's table of turned-back calls with what document 02's E1 and E3 add to it, and what they say of making and of figure numbers. Written from the documents
 //! alone, not from the library, but for the size answer, which is the library's own.
 //! Each function gives the number of the first row that holds, in the order of the table, else 0.
 use diskann_sorted::histories::Stored;
@@ -6,14 +6,15 @@ use std::collections::{BTreeMap, BTreeSet};
 
 /// dim, capacity, degree, bits of alpha, entry, live count, whether the guard is on, its four settings, length of its pool
 pub type Words = [u32; 12];
-/// Lengths lent: vectors, targets, edge versions, versions, marks, pool, numbers, summary.
-pub type Lengths = [usize; 8];
+/// Lengths lent: vectors, targets, edge versions, versions, marks, pool, numbers, summary, weights.
+pub type Lengths = [usize; 9];
 
-/// Of an index its marks, its figure numbers and its summary, which row 6 looks at.
+/// Of an index its marks, its figure numbers and its summary, which row 6 looks at, and its weights, which row 16 does.
 pub struct Labels<'a> {
     pub marks: &'a [u8],
     pub numbers: &'a [u32],
     pub summary: &'a [u32],
+    pub weights: &'a [u8],
 }
 
 pub const BLANK: u32 = u32::MAX;
@@ -34,13 +35,20 @@ fn alpha(bits: u32) -> bool {
     !(1.0..=2.0).contains(&f32::from_bits(bits))
 }
 
-pub fn exact(dim: u32, capacity: u32, degree: u32) -> [u64; 8] {
+pub fn exact(dim: u32, capacity: u32, degree: u32) -> [u64; 9] {
     let (dim, capacity, degree) = (dim as u64, capacity as u64, degree as u64);
-    [capacity * dim, capacity * degree, capacity * degree, capacity, capacity, 1_024, capacity, capacity]
+    [capacity * dim, capacity * degree, capacity * degree, capacity, capacity, 1_024, capacity, capacity, dim]
 }
 
 fn lengths(dim: u32, capacity: u32, degree: u32, lent: &Lengths) -> bool {
     exact(dim, capacity, degree) != lent.map(|n| n as u64)
+}
+
+// ---- weights
+
+/// Row 16: a weight is outside 1 to 4, or their sum exceeds 256.
+pub fn overweight(weights: &[u8]) -> bool {
+    weights.iter().any(|w| !(1..=4).contains(w)) || weights.iter().map(|&w| w as u32).sum::<u32>() > 256
 }
 
 // ---- figure numbers
@@ -99,7 +107,7 @@ pub fn size_answer(dim: u32, capacity: u32, degree: u32) -> u32 {
     first(&[(1, sizes(dim, capacity, degree))])
 }
 
-/// What a making is given: its sizes, alpha's bits, entry and count, how many bytes, its rows and its numbers.
+/// What a making is given: its sizes, alpha's bits, entry and count, how many bytes, its rows, its numbers and its weights.
 pub struct Given<'a> {
     pub sizes: [u32; 3],
     pub alpha: u32,
@@ -108,15 +116,18 @@ pub struct Given<'a> {
     pub bytes: usize,
     pub rows: &'a [u32],
     pub numbers: &'a [u32],
+    pub weights: &'a [u8],
 }
 
 pub fn making(g: &Given, lent: &Lengths) -> u32 {
     let ([dim, capacity, degree], count) = (g.sizes, g.count as u64);
     let given = g.bytes as u64 == count * dim as u64 && g.rows.len() as u64 == count * degree as u64 && g.numbers.len() as u64 == count;
+    let given = given && g.weights.len() == dim as usize;
     first(&[
         (1, sizes(dim, capacity, degree)),
         (2, alpha(g.alpha)),
         (3, lengths(dim, capacity, degree, lent) || !given),
+        (16, overweight(g.weights)),
         (4, g.count > capacity),
         (5, g.rows.iter().any(|&t| t != BLANK && t >= g.count) || if g.count == 0 { g.entry != 0 } else { g.entry >= g.count }),
         (15, unfit(g.numbers, &BTreeSet::new())),
@@ -124,21 +135,22 @@ pub fn making(g: &Given, lent: &Lengths) -> u32 {
 }
 
 /// The rows that every call on an index has; `wrong` is its own part of 3, `mislabelled` says whether numbers or summary break row 6.
-pub fn shared(i: &Words, lent: &Lengths, marks: &[u8], wrong: bool, mislabelled: impl FnOnce() -> bool) -> u32 {
-    let live = marks.iter().filter(|&&m| m != 0).count();
+pub fn shared(i: &Words, lent: &Lengths, l: &Labels, wrong: bool, mislabelled: impl FnOnce() -> bool) -> u32 {
+    let live = l.marks.iter().filter(|&&m| m != 0).count();
     let settings = [(i[7], 64), (i[8], 16), (i[9], 65_536), (i[10], 1_024)];
     let guard = i[6] != 0 && (settings.iter().any(|&(x, limit)| x == 0 || x > limit) || i[11] > 1_024);
     first(&[
         (1, sizes(i[0], i[1], i[2])),
         (2, alpha(i[3])),
         (3, lengths(i[0], i[1], i[2], lent) || wrong),
+        (16, overweight(l.weights)),
         (6, i[5] as usize != live || i[4] >= i[1] || guard || mislabelled()),
     ])
 }
 
 /// The same with a call's own rows after 6.
 fn on_index(i: &Words, lent: &Lengths, l: &Labels, wrong: bool, more: &[(u32, bool)]) -> u32 {
-    match shared(i, lent, l.marks, wrong, || mislabelled(l)) {
+    match shared(i, lent, l, wrong, || mislabelled(l)) {
         0 => first(more),
         n => n,
     }

@@ -7,8 +7,8 @@ use std::collections::HashSet;
 /// Vectors and queries are drawn anew so often until there is no tie.
 const DRAWS: usize = 20;
 
-pub fn distance(a: &[u8], b: &[u8]) -> u32 {
-    a.iter().zip(b).map(|(&x, &y)| (x as i32 - y as i32).pow(2) as u32).sum()
+pub fn distance(a: &[u8], b: &[u8], weights: &[u8]) -> u32 {
+    a.iter().zip(b).zip(weights).map(|((&x, &y), &w)| (x as i32 - y as i32).pow(2) as u32 * w as u32).sum()
 }
 
 /// The index's own, whatever its words say.
@@ -21,20 +21,20 @@ fn live(b: &Both) -> impl Iterator<Item = &[u8]> {
 }
 
 /// Whether two of the vectors are as far from the query.
-fn tied<'a>(query: &[u8], mut among: impl Iterator<Item = &'a [u8]>) -> bool {
+fn tied<'a>(query: &[u8], weights: &[u8], mut among: impl Iterator<Item = &'a [u8]>) -> bool {
     let mut seen = HashSet::new();
-    among.any(|vector| !seen.insert(distance(query, vector)))
+    among.any(|vector| !seen.insert(distance(query, vector, weights)))
 }
 
 /// Whether a search can meet a tie.
 pub fn in_search(b: &Both, query: &[u8]) -> bool {
-    tied(query, live(b))
+    tied(query, b.slices.weights.items(), live(b))
 }
 
 /// Whether an insert can: the slots that it fills are live while it walks.
 pub fn in_insert(b: &Both, batch: &[u8]) -> bool {
     let each = || batch.chunks_exact(dim(b));
-    each().any(|query| tied(query, live(b).chain(each())))
+    each().any(|query| tied(query, b.slices.weights.items(), live(b).chain(each())))
 }
 
 pub fn query(b: &Both, rng: &mut Rng) -> Vec<u8> {
@@ -44,17 +44,18 @@ pub fn query(b: &Both, rng: &mut Rng) -> Vec<u8> {
 
 /// A batch of at most so many vectors.
 pub fn batch(b: &Both, count: usize, rng: &mut Rng) -> Vec<u8> {
+    let weights = b.slices.weights.items();
     let mut among: Vec<Vec<u8>> = live(b).map(<[u8]>::to_vec).collect();
     let held = among.len();
     let mut seen: Vec<HashSet<u32>> = vec![]; // for each vector of the batch, how far all are from it
     while seen.len() < count {
         let fits = |vector: &Vec<u8>| {
-            let later = among[held..].iter().zip(&seen).all(|(query, seen)| !seen.contains(&distance(query, vector)));
-            later && !tied(vector, among.iter().map(Vec::as_slice).chain([vector.as_slice()]))
+            let later = among[held..].iter().zip(&seen).all(|(query, seen)| !seen.contains(&distance(query, vector, weights)));
+            later && !tied(vector, weights, among.iter().map(Vec::as_slice).chain([vector.as_slice()]))
         };
         let Some(vector) = (0..DRAWS).map(|_| rng.vector(&b.values, dim(b))).find(fits) else { break };
-        among[held..].iter().zip(&mut seen).for_each(|(query, seen)| assert!(seen.insert(distance(query, &vector))));
-        seen.push(among.iter().map(|other| distance(&vector, other)).chain([0]).collect());
+        among[held..].iter().zip(&mut seen).for_each(|(query, seen)| assert!(seen.insert(distance(query, &vector, weights))));
+        seen.push(among.iter().map(|other| distance(&vector, other, weights)).chain([0]).collect());
         among.push(vector);
     }
     among[held..].concat()

@@ -25,6 +25,7 @@ const PARTS: &[(&str, fn())] = &[
 const DIM: usize = 256;
 const DEGREE: usize = 32;
 const ALPHA: f32 = 1.2;
+const WEIGHTS: [u8; DIM] = [1; DIM];
 const BEAM: u32 = 64;
 /// So many slots are filled one at a time.
 const FIRST: usize = 232;
@@ -86,17 +87,18 @@ impl Timed {
         let scratch = Lent::junk(table::scratch_words(capacity as u32) as usize, &mut rng);
         Timed { both, scratch, rng, last: 1, spent: [0.0; 2] }
     }
-    /// Makes an index of the given vectors, rows and numbers on both sides, in the memory that is there.
+    /// Makes an index of the given vectors, rows and numbers on both sides, all weights 1, in the memory that is there.
     fn create(&mut self, capacity: usize, bytes: &[u8], rows: &[u32], numbers: &[u32]) {
         let started = cpu();
-        self.both.rust = Rust::make(DIM, capacity, DEGREE, ALPHA, 0, bytes, rows).unwrap();
+        self.both.rust = Rust::make(DIM, capacity, DEGREE, ALPHA, 0, bytes, rows, &WEIGHTS).unwrap();
         self.spent[0] += cpu() - started;
         let (sizes, count) = ([DIM as u32, capacity as u32, DEGREE as u32], (bytes.len() / DIM) as u32);
-        let given = Given { sizes, alpha: ALPHA.to_bits(), entry: 0, count, bytes: bytes.len(), rows, numbers };
+        let given = Given { sizes, alpha: ALPHA.to_bits(), entry: 0, count, bytes: bytes.len(), rows, numbers, weights: &WEIGHTS };
         let (bytes, rows, lent_numbers) = (Lent::of(bytes, &mut self.rng), Lent::of(rows, &mut self.rng), Lent::of(numbers, &mut self.rng));
+        let weights = Lent::of(&WEIGHTS, &mut self.rng);
         let lent = self.both.slices.lengths();
         let started = cpu();
-        let refused = self.both.slices.create(&mut self.both.words, lent, &given, &bytes, &rows, &lent_numbers);
+        let refused = self.both.slices.create(&mut self.both.words, lent, &given, &bytes, &rows, &lent_numbers, &weights);
         self.spent[1] += cpu() - started;
         assert!(refused == 0);
         self.both.slices.numbers.expect(numbers);
@@ -228,7 +230,7 @@ impl Timed {
         b.slices.summary.accept(b.slices.summary.len());
         let [dim, capacity, degree, _, entry, live, ..] = b.words().map(|w| w as usize);
         let (bytes, rows) = (&b.slices.vectors.items()[..live * dim], &b.slices.targets.items()[..live * degree]);
-        b.rust = Rust::make(dim, capacity, degree, ALPHA, entry as u32, bytes, rows).unwrap();
+        b.rust = Rust::make(dim, capacity, degree, ALPHA, entry as u32, bytes, rows, &WEIGHTS).unwrap();
         assert!(self.same());
     }
     /// Whether both sides have the same index.
@@ -451,7 +453,7 @@ fn read() {
 
 /// The rows that every call tests, with numbers and summary tested in two passes. For slots whose numbers are in the order of the slots.
 fn tested(words: &table::Words, lent: &table::Lengths, l: &Labels) -> u32 {
-    table::shared(words, lent, l.marks, false, || {
+    table::shared(words, lent, l, false, || {
         let odd = l.marks.iter().zip(l.numbers).any(|(&mark, &number)| (mark == 0) != (number == 0));
         let (named, rest) = l.summary.split_at(words[5] as usize);
         let mut last = 0;

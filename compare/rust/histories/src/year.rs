@@ -165,7 +165,8 @@ impl Year {
             "pool" => flip!(b.slices.pool),
             "numbers" => flip!(b.slices.numbers),
             "summary" => flip!(b.slices.summary),
-            _ => panic!("{piece}: words, vectors, targets, edges, versions, marks, pool, numbers or summary"),
+            "weights" => flip!(b.slices.weights),
+            _ => panic!("{piece}: words, vectors, targets, edges, versions, marks, pool, numbers, summary or weights"),
         }
     }
     fn is_live(&mut self, slot: u32) -> Same<bool> {
@@ -200,7 +201,7 @@ impl Year {
         let vectors: Vec<Vec<u8>> = live.iter().map(|&slot| self.vector(slot).to_vec()).collect();
         for _ in 0..QUERIES {
             let query = around(&vectors[rng.below(live.len() as u32) as usize], 8, &mut rng);
-            let mut all: Vec<u32> = vectors.iter().map(|v| distance(&query, v)).collect();
+            let mut all: Vec<u32> = vectors.iter().map(|v| distance(&query, v, &[1; DIM])).collect();
             let limit = *all.select_nth_unstable(K - 1).1 as f32;
             for (hits, beam) in hits.iter_mut().zip(BEAMS) {
                 *hits += self.index.search(&query, K, beam)?.iter().filter(|pair| f32::from_bits(pair.1) <= limit).count();
