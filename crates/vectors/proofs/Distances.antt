@@ -11,7 +11,7 @@ use Rattle.lists.specs.Lists.{All, part, sum}
 use Rattle.vectors.specs.Distance.{squared_difference, distance, distance_plain}
 use Rattle.vectors.specs.Weights.{Ones}
 
--- ---- for the loops of the distance
+-- ---- for the sums of the code
 
 pub byte_square : {d : ℕ} → d < 256 → d * d ≤ 65025
 byte_square {d} h = let l : d ≤ 255 = omega arith in mul-le-mul l l
@@ -20,12 +20,6 @@ pub square_of : (x y : ℕ) {d : ℕ} → d ≡ (x - y) + (y - x) → d * d ≡ 
 unfolding squared_difference
 square_of x y e = rw e
 
--- one step of the sum, from the front
-pub distance_step : (ws a b : List ℕ) (i : ℕ) → i < length ws → i < length a → i < length b
-    → distance (drop i ws) (drop i a) (drop i b) ≡ get_or ws i 0 * squared_difference (get_or a i 0) (get_or b i 0) + distance (drop (i + 1) ws) (drop (i + 1) a) (drop (i + 1) b)
-unfolding distance
-distance_step ws a b i g h k = rw (add-one, drop-cons ws i 0, drop-cons a i 0, drop-cons b i 0)
-
 pub sum_step : (ws : List ℕ) (i : ℕ) → i < length ws → sum (drop i ws) ≡ get_or ws i 0 + sum (drop (i + 1) ws)
 sum_step ws i h = rw (add-one, drop-cons ws i 0)
 
@@ -33,10 +27,6 @@ pub sum_drop : (ws : List ℕ) (i : ℕ) → sum (drop i ws) ≤ sum ws
 sum_drop ws zero = omega arith
 sum_drop [] (suc i) = omega arith
 sum_drop (w ∷ ws) (suc i) = omega (arith, sum_drop ws i)
-
-pub distance_end : (ws b : List ℕ) → distance ws [] b ≡ 0
-unfolding distance
-distance_end ws b = refl
 
 -- ---- weights: with weights of 1 the distance is the plain one
 

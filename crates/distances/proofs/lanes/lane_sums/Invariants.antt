@@ -1,10 +1,10 @@
--- What is summed so far is the sum up to that place.
+-- What is summed so far is the sums up to that place.
 use Rattle.std.proofs.Common.{length, ◌-◌, ◌≤◌}
 use Rattle.distances.specs.Inner.Sums.{Summed}
-use Rattle.distances.proofs.total.Given as goal
+use Rattle.distances.proofs.lanes.lane_sums.Given as goal
 
 abbrev pub invariant-loop-i : goal.invariant-loop-i
-invariant-loop-i g l = (l.i ≤ length l.a) × Summed l.weights l.a l.b 0 l.i l.sum
+invariant-loop-i g l = (l.i ≤ length l.a) × Summed l.weights l.a l.b 0 l.i l.sums
 
 abbrev pub decreases-loop-i : goal.decreases-loop-i
 decreases-loop-i g l = length l.a - l.i
