@@ -1,6 +1,8 @@
 // The time of one distance, of a query and 64 vectors that lie one behind another. First with weights of 1: the library's, the loop that a Rust programmer would
-// write, and the library's former loop written in Rust. Then with other weights: the library's, and such a loop with weights. All are called through a pointer, once for
-// the 64, and none is inlined.
+// write, and such a loop with four running sums. Then with other weights: the library's, and a loop with weights. All are called through a pointer, once for
+// the 64, and none is inlined. Where run.sh was given a commit, its library stands beside this one in one more table.
+#![allow(unexpected_cfgs)]
+
 use std::hint::black_box;
 use std::slice::{from_raw_parts, from_raw_parts_mut};
 use std::time::Instant;
@@ -33,17 +35,17 @@ unsafe extern "C" fn weighted(weights: *const u8, dim: usize, query: *const u8, 
 }
 
 #[inline(never)]
-unsafe extern "C" fn former(_: *const u8, dim: usize, query: *const u8, _: usize, vectors: *const u8, vectors_len: usize, to: *mut u32, to_len: usize) {
-    let (a, vectors, to) = (from_raw_parts(query, dim), from_raw_parts(vectors, vectors_len), from_raw_parts_mut(to, to_len));
-    for (to, b) in to.iter_mut().zip(vectors.chunks_exact(dim)) {
-        let mut sum = 0;
-        let mut i = 0;
-        while i < a.len() {
-            let d = if a[i] < b[i] { (b[i] - a[i]) as u32 } else { (a[i] - b[i]) as u32 };
-            sum += d * d;
-            i += 1;
+unsafe extern "C" fn four_sums(_: *const u8, dim: usize, query: *const u8, _: usize, vectors: *const u8, vectors_len: usize, to: *mut u32, to_len: usize) {
+    let (query, vectors, to) = (from_raw_parts(query, dim), from_raw_parts(vectors, vectors_len), from_raw_parts_mut(to, to_len));
+    for (to, vector) in to.iter_mut().zip(vectors.chunks_exact(dim)) {
+        let mut sums = [0; 4];
+        for (x, y) in query.chunks(4).zip(vector.chunks(4)) {
+            for ((sum, &x), &y) in sums.iter_mut().zip(x).zip(y) {
+                let d = x as i32 - y as i32;
+                *sum += (d * d) as u32;
+            }
         }
-        *to = sum;
+        *to = sums.iter().sum();
     }
 }
 
@@ -95,10 +97,10 @@ fn mixed(dim: usize) -> Vec<u8> {
 }
 
 fn main() {
-    println!("| bytes | library, ns | the loop as one writes it in Rust | ratio | the former loop | ratio | differences |\n|-:|-:|-:|-:|-:|-:|-:|");
+    println!("| bytes | library, ns | the loop as one writes it in Rust | ratio | four sums in Rust | ratio | differences |\n|-:|-:|-:|-:|-:|-:|-:|");
     for dim in (1..=16).chain([64, 128, 255, 256]) {
-        let ([library, former, rust], differences) = measured(&vec![1; dim], [finder_distances, former, rust]);
-        println!("| {dim} | {library:.1} | {rust:.1} | {:.2} | {former:.1} | {:.2} | {differences} |", library / rust, library / former);
+        let ([library, four, rust], differences) = measured(&vec![1; dim], [finder_distances, four_sums, rust]);
+        println!("| {dim} | {library:.1} | {rust:.1} | {:.2} | {four:.1} | {:.2} | {differences} |", library / rust, library / four);
     }
     println!("\n| bytes | weights other than 1 | library, ns | with weights of 1 | ratio | the loop in Rust, with weights | ratio | differences |\n|-:|-:|-:|-:|-:|-:|-:|-:|");
     for dim in [3, 7, 15, 16, 64, 128, 255, 256] {
@@ -108,5 +110,27 @@ fn main() {
         let ([plain], _) = measured(&vec![1; dim], [finder_distances as Distances]);
         let others = weights.iter().filter(|&&w| w != 1).count();
         println!("| {dim} | {others} | {library:.1} | {plain:.1} | {:.2} | {weighted:.1} | {:.2} | {differences} |", library / plain, library / weighted);
+    }
+    #[cfg(before)]
+    beside_before();
+}
+
+#[cfg(before)]
+extern "C" {
+    fn finder_distances_before(
+        weights: *const u8, dim: usize, query: *const u8, query_len: usize, vectors: *const u8, vectors_len: usize, to: *mut u32, to_len: usize,
+    );
+}
+
+/// The library beside that of a commit, with weights of 1 and with others.
+#[cfg(before)]
+fn beside_before() {
+    println!("\n| bytes | library, ns | before | ratio | with other weights | before | ratio | differences |\n|-:|-:|-:|-:|-:|-:|-:|-:|");
+    for dim in [1, 2, 3, 4, 7, 8, 15, 16, 31, 32, 64, 100, 128, 196, 255, 256] {
+        let weights = if dim < 256 { mixed(dim) } else { [vec![2, 0], vec![1; 254]].concat() };
+        let ([ones, ones_before], differences) = measured(&vec![1; dim], [finder_distances as Distances, finder_distances_before]);
+        let ([others, others_before], more) = measured(&weights, [finder_distances as Distances, finder_distances_before]);
+        let (ratio, weighted) = (ones / ones_before, others / others_before);
+        println!("| {dim} | {ones:.1} | {ones_before:.1} | {ratio:.2} | {others:.1} | {others_before:.1} | {weighted:.2} | {} |", differences + more);
     }
 }
