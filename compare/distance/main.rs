@@ -1,10 +1,12 @@
 // The time of one distance, of a query and 64 vectors that lie one behind another. First with weights of 1: the library's, the loop that a Rust programmer would
 // write, and such a loop with four running sums. Then with other weights: the library's, and a loop with weights. All are called through a pointer, once for
-// the 64, and none is inlined. Where run.sh was given a commit, its library stands beside this one in one more table.
+// the 64, and none is inlined. Where run.sh was given a commit, its library stands beside this one in one more table. Ends with exit code 1 where a distance
+// differs.
 #![allow(unexpected_cfgs)]
 
 use std::hint::black_box;
 use std::slice::{from_raw_parts, from_raw_parts_mut};
+use std::sync::atomic::{AtomicUsize, Ordering};
 use std::time::Instant;
 
 /// Weights, a query, vectors, and where their distances go.
@@ -49,6 +51,10 @@ unsafe extern "C" fn four_sums(_: *const u8, dim: usize, query: *const u8, _: us
     }
 }
 
+/// Rows so far, and distances that differ.
+static ROWS: AtomicUsize = AtomicUsize::new(0);
+static DIFFERENCES: AtomicUsize = AtomicUsize::new(0);
+
 /// The best times of one distance of vectors of random bytes by each function, and how many distances differ from those of the last.
 fn measured<const N: usize>(weights: &[u8], functions: [Distances; N]) -> ([f64; N], usize) {
     const CALLS: usize = 64;
@@ -81,6 +87,8 @@ fn measured<const N: usize>(weights: &[u8], functions: [Distances; N]) -> ([f64;
         let all = functions.map(|distances| { let mut to = [0; CALL]; run(distances, call, &mut to); to });
         differences += (0..CALL).filter(|&i| all.iter().any(|to| to[i] != all[N - 1][i])).count();
     }
+    ROWS.fetch_add(1, Ordering::Relaxed);
+    DIFFERENCES.fetch_add(differences, Ordering::Relaxed);
     (best, differences)
 }
 
@@ -113,6 +121,11 @@ fn main() {
     }
     #[cfg(before)]
     beside_before();
+    let (rows, differences) = (ROWS.load(Ordering::Relaxed), DIFFERENCES.load(Ordering::Relaxed));
+    if differences > 0 {
+        eprintln!("{differences} distances differ in {rows} comparisons");
+        std::process::exit(1);
+    }
 }
 
 #[cfg(before)]
