@@ -63,7 +63,7 @@ extern "C" {
 
 /* The version of this header. */
 #define FINDER_VERSION_MAJOR 3
-#define FINDER_VERSION_MINOR 0
+#define FINDER_VERSION_MINOR 1
 #define FINDER_VERSION_PATCH 0
 #define FINDER_VERSION (FINDER_VERSION_MAJOR * 10000 + FINDER_VERSION_MINOR * 100 + FINDER_VERSION_PATCH)
 
@@ -423,10 +423,11 @@ FINDER_CALL uint32_t finder_search(const uint32_t words[FINDER_INDEX_WORDS], FIN
  * Inserts a batch: bytes has the vectors, one after the other, bytes_len / dim of them, and new_numbers the figure number of each. They go into the lowest free
  * slots, the first vector into the lowest. For each a walk from the entry, with a list of at most beam or degree slots, whichever is more, finds neighbours, of
  * which pruning selects its row; the rows of those selected are pruned anew with the new slot among their references. How many vectors they are is written to
- * *found and the slots that they got to the first *found places of slots, lowest first; the places after them stay. The words get the new live count, and numbers
- * and summary take the new slots up; versions, pool and weights are only read. The rows of 256 vectors at a time are worked out on the index as it stands before any of them
- * is written, so vectors of one call do not find each other: new titles are better inserted one vector to a call (docs/YEAR.md). While the entry is dead, walks
- * find nothing, and new slots get empty rows: an index of which all was deleted is better made anew. The scratch is overwritten.
+ * *found and the slots that they got to the first *found places of slots, lowest first; the places after them stay. Where no slot is live and a vector is
+ * given, the first slot filled, slot 0, becomes the entry before the walks. The words get the new live count and that entry, and numbers and summary take the
+ * new slots up; versions, pool and weights are only read. The rows of 256 vectors at a time are worked out on the index as it stands before any of them is
+ * written, so vectors of one call do not find each other, but the entry where it is one of them: new titles are better inserted one vector to a call
+ * (docs/YEAR.md). The scratch is overwritten.
  * Refusals, in order: 1, 2, 3 (one of the nine slices, fewer places in slots than vectors, or not one number for each; bytes after the last whole vector do not
  * count), 16, 6, 7, 8, 9, 10, 15.
  */

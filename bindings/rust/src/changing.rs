@@ -107,9 +107,10 @@ impl<'a> ViewMut<'a> {
     }
 
     /// Inserts the vectors of `bytes`, which follow each other there, into the lowest free slots, and gives the slots, lowest first. `numbers` has the figure
-    /// number of each vector: 1 to 4,294,967,295, no two equal, and carried by no live slot.
+    /// number of each vector: 1 to 4,294,967,295, no two equal, and carried by no live slot. Where no slot is live, the first slot filled becomes the entry.
     ///
-    /// Vectors of one call do not find each other (256 at a time), so new ones are better inserted with [`ViewMut::insert_one`].
+    /// Vectors of one call do not find each other (256 at a time), but the entry where it is one of them, so new ones are better inserted with
+    /// [`ViewMut::insert_one`].
     pub fn insert(&mut self, bytes: &[u8], numbers: &[u32], beam: u32, scratch: &mut Scratch) -> Result<Vec<u32>, Error> {
         // Where dim is 0 the call is refused, whatever the length of the list.
         let mut slots = vec![0; bytes.len() / self.words[0].max(1) as usize];

@@ -110,8 +110,9 @@ fn deletes() {
     assert_eq!(f.delete(&[2, 0, 1, 9, 0], 2, 1, &mut scratch).map(|stats| stats.len()), Ok(3));
     assert_eq!((f.live(), f.entry(), f.live_slots().unwrap().next()), (Ok(0), Ok(1), None));
     assert_eq!((f.slots_by_number(), &f.memory().numbers, &f.memory().summary), (Ok(&[][..]), &vec![0; 4], &vec![BLANK; 4]));
-    assert_eq!(f.insert(&[7], &[30], 2, &mut scratch), Ok(vec![0]));
-    assert_eq!(f.search(&[7], 1, 1, &mut scratch), Ok(vec![]));
+    assert_eq!((f.insert(&[], &[], 2, &mut scratch), f.entry()), (Ok(vec![]), Ok(1)));
+    assert_eq!((f.insert(&[7], &[30], 2, &mut scratch), f.entry()), (Ok(vec![0]), Ok(0)));
+    assert_eq!(pairs(f.search(&[7], 1, 1, &mut scratch)), Ok(vec![(0, 0.0)]));
 }
 
 /// Deletes by figure numbers leave what deletes of their slots leave. What no live slot carries, 0 and repeats count as names and are skipped.

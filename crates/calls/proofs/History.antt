@@ -28,7 +28,7 @@ use Rattle.numbers.specs.Numbers.{number_of, write_numbers, live_numbers, summar
 use Rattle.numbers.proofs.Kept.{summary_long, write_numbers_long}
 use Rattle.numbers.proofs.Writes.{live_numbers_long}
 use Rattle.walk.specs.Walk.{search_pool}
-use Rattle.insert.specs.Insert.{insert_batch}
+use Rattle.insert.specs.Insert.{insert_entering}
 use Rattle.insert.proofs.Agree.{Long, agree_insert}
 use Rattle.insert.proofs.Free.{sizes_after_insert}
 use Rattle.repair.specs.Delete.{Stats, delete_batch}
@@ -134,7 +134,7 @@ whole d a (suc n) bytes h =
       whole d (suc a) n bytes (let z : suc a + n ≡ a + suc n = omega arith in rw z h),
     )
 
-whole_vectors : (d : ℕ) (bytes : List ℕ) → Long d (vectors_of d bytes)
+pub whole_vectors : (d : ℕ) (bytes : List ℕ) → Long d (vectors_of d bytes)
 whole_vectors d bytes =
     whole d 0 (length bytes / d) bytes
     (let h : length bytes / d * d ≤ length bytes = div-mul-le_self (length bytes) d in let z : 0 + length bytes / d ≡ length bytes / d = omega arith in rw z h)
@@ -196,18 +196,18 @@ module _ (log : List ℕ) (w : State Store) (p : State View) (e : Same log w p) 
   guarded_both a r false few = record { same = e; answer = refl }
 
   inserts : (bytes : List ℕ) (beam : ℕ) → Agree (λ s. times s log)
-      (insert_batch store_ops beam w.graph (vectors_of (store_view w.graph).sizes.dim bytes))
-      (insert_batch plain_ops beam p.graph (vectors_of p.graph.sizes.dim bytes))
+      (insert_entering store_ops beam w.graph (vectors_of (store_view w.graph).sizes.dim bytes))
+      (insert_entering plain_ops beam p.graph (vectors_of p.graph.sizes.dim bytes))
   inserts bytes beam =
       let d = p.graph.sizes.dim in
-      subst (λ (u : View). Agree (λ s. times s log) (insert_batch store_ops beam w.graph (vectors_of u.sizes.dim bytes)) (insert_batch plain_ops beam p.graph (vectors_of d bytes))) (sym e.agree.same)
+      subst (λ (u : View). Agree (λ s. times s log) (insert_entering store_ops beam w.graph (vectors_of u.sizes.dim bytes)) (insert_entering plain_ops beam p.graph (vectors_of d bytes))) (sym e.agree.same)
       (agree_insert beam (λ s. times s log) w.graph p.graph e.agree (vectors_of d bytes) (whole_vectors d bytes))
 
-  kept_sizes : (a : Insert) → (store_view (insert_batch store_ops a.beam w.graph (vectors_of (store_view w.graph).sizes.dim a.bytes))).sizes ≡ (store_view w.graph).sizes
-  unfolding insert_batch store_ops
+  kept_sizes : (a : Insert) → (store_view (insert_entering store_ops a.beam w.graph (vectors_of (store_view w.graph).sizes.dim a.bytes))).sizes ≡ (store_view w.graph).sizes
+  unfolding insert_entering store_ops
   kept_sizes a = sizes_after_insert store_ops MarksFit store_marking w.graph e.agree.sound.shaped.marks_long a.beam (vectors_of (store_view w.graph).sizes.dim a.bytes)
 
-  kept_capacity : (a : Insert) → (insert_batch store_ops a.beam w.graph (vectors_of (store_view w.graph).sizes.dim a.bytes)).capacity ≡ w.graph.capacity
+  kept_capacity : (a : Insert) → (insert_entering store_ops a.beam w.graph (vectors_of (store_view w.graph).sizes.dim a.bytes)).capacity ≡ w.graph.capacity
   unfolding store_view
   kept_capacity a = ap (λ (z : Sizes). z.capacity) (kept_sizes a)
 

@@ -30,7 +30,7 @@ use Rattle.numbers.proofs.Named.{slot_none, number_live, slot_of_live, elem_at, 
 use Rattle.numbers.proofs.Writes.{live_numbers_at}
 use Rattle.numbers.proofs.Exact.{labelled_exact, exact_labelled, range_in, live_unique}
 use Rattle.numbers.proofs.Kept.{write_other, labelled_inserted, labelled_deleted, labelled_made}
-use Rattle.insert.specs.Insert.{insert_batch}
+use Rattle.insert.specs.Insert.{insert_entering}
 use Rattle.insert.proofs.Free.{sizes_after_insert, free_after_insert}
 use Rattle.repair.specs.Delete.{delete_batch}
 use Rattle.repair.proofs.Count.{sizes_after_delete, none_revived}
@@ -157,7 +157,7 @@ module _ (w : State Store) (lent : Lent) (l : lent.slices ≡ lengths_of (slices
     filled = take (length vectors) (free_slots shows)
 
     abbrev after : Store
-    after = insert_batch store_ops a.beam w.graph vectors
+    after = insert_entering store_ops a.beam w.graph vectors
 
     many : length vectors ≡ length a.bytes / shows.sizes.dim
     many = simp length-map (length_range 0 (length a.bytes / shows.sizes.dim))

@@ -11,3 +11,5 @@ pub mod Count
 pub mod Labelled
 pub mod TableRows
 pub mod Weighted
+pub mod Entered
+pub mod DeadBytes

@@ -6,16 +6,15 @@ use mathlib.Core.List.{List, [], ◌∷◌, ◌++◌}
 use mathlib.Core.Option.{Option, none, some}
 use mathlib.Core.Path.{◌≡◌, refl, sym, subst}
 use native.Mathlib.Omega.{arith}
-use borrow.Author.Tests.{eqb-true, eq-eqb, ltb-true}
+use borrow.Author.Tests.{eq-eqb, ltb-true}
 use lib.ListN.{replicate, drop}
-use lib.Dec.{eqb, ltb, leb-suc-zero}
+use lib.Dec.{eqb, ltb}
 use Rattle.lists.specs.Lists.{filter, part, All}
 use Rattle.lists.proofs.All.{all_map, all_both, all_append, all_take, all_drop, all_filter, filter_test}
 use Rattle.slots.specs.Sizes.{limits}
 use Rattle.slots.specs.View.{View, Reached}
 use Rattle.slots.specs.Store.{Store, blank, store_ops}
 use Rattle.slots.specs.Plain.{other_than, plain_ops, new_plain}
-use Rattle.slots.proofs.Reached.{none_left}
 use Rattle.insert.proofs.Reached.{reached_insert}
 use Rattle.repair.proofs.Reached.{reached_delete}
 use Rattle.guard.specs.Guard.{Report}
@@ -63,19 +62,11 @@ module _ (lent : Lent) (m : Making) (acc : first_of (making_tests limits lent.sl
       (all_take _ d (drop (s * d) all_rows) (all_drop _ (s * d) all_rows
       (all_append _ m.rows (replicate ((m.sizes.capacity - m.count) * d) blank) (named m.count m.rows (given_named lent.slices m acc).0) (blanks m.count ((m.sizes.capacity - m.count) * d)))))
 
-  none_given : (a b c : Bool) → a ≡ false → (a || b && c) ≡ true → b ≡ true
-  none_given true b c e h = absurd (true≢false e)
-  none_given false true c e h = refl
-  none_given false false c e h = absurd (true≢false (sym h))
-
   pub reached_made : Reached (made plain m).graph
   unfolding made plain new_plain
   reached_made = record {
     live_inside = λ s h. omega (arith, ltb-true s m.count h, (accepted lent.slices m acc).room);
     live_targets = row_given;
-    dead_entry = λ h s.
-        let e = eqb-true m.count 0 (none_given (ltb m.entry m.count) (eqb m.count 0) (eqb m.entry 0) h (given_named lent.slices m acc).1) in
-        none_left (λ t. ltb t m.count) (λ t. rw e (leb-suc-zero t)) _ (row_given s);
   }
 
 -- ---- one call

@@ -59,7 +59,6 @@ shows n (c ∷ cs) = refuses n (first c.outcome.answers) || shows n cs
 
 module _ (n : ℕ) where
   in_case : (w : State Store) (cs : List Call) → refuses n (first (outcome_of w cs).answers) ≡ true → TurnedBack n
-  unfolding outcome_of
   in_case w [] h = absurd (true≢false (sym h))
   in_case w (c ∷ cs) h = (w, c, is_refused n (step stored w c).1 h)
 

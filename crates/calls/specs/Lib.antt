@@ -13,3 +13,5 @@ pub mod FromPool
 pub mod Table
 pub mod Labelled
 pub mod Weighted
+pub mod Entered
+pub mod DeadBytes

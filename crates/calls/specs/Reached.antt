@@ -15,7 +15,7 @@ abbrev pub views : {B : Type 0} → Kind B → State B → List Call → List Vi
 views K w [] = view_of K w ∷ []
 views K w (c ∷ cs) = view_of K w ∷ views K (step K w c).0 cs
 
--- from an accepted making on, live slots are inside, references lead to live slots, and where the entry is dead there are none (D-29)
+-- from an accepted making on, live slots are inside, and references lead to live slots
 abbrev pub AlwaysReached : Type 0
 AlwaysReached = (lent : Lent) (m : Making) (cs : List Call) → first_of (making_tests limits lent.slices m) ≡ none → Within [] (made plain m) cs
     → All Reached (views stored (made stored m) cs)

@@ -9,7 +9,7 @@ use Rattle.slots.specs.Store.{blank}
 use Rattle.candidates.specs.Candidates.{ids}
 use Rattle.numbers.specs.Numbers.{number_of, slot_of, write_numbers, live_numbers}
 use Rattle.walk.specs.Walk.{search_pool}
-use Rattle.insert.specs.Insert.{insert_batch}
+use Rattle.insert.specs.Insert.{insert_entering}
 use Rattle.repair.specs.Delete.{Stats, delete_batch}
 use Rattle.guard.specs.Guard.{Guard, off, on, Report, normalized, no_landmarks, guard_status, assess_delete_admission}
 use Rattle.calls.specs.Calls.{Reading, read_dim, read_capacity, read_degree, read_alpha, read_entry, read_live, read_mark, read_version, read_number, read_target, Naming, of_slots, of_numbers, Delete, Operation, create, read, read_vector, search, insert, delete, enable, status, assess, guarded_delete, Call, Answer, created, number, alpha, version, vector, found, inserted, deleted, standing, assessed, applied, deferred, refused_as}
@@ -71,7 +71,7 @@ module _ {B : Type 0} (K : Kind B) where
   perform w (insert a) =
       let vs = vectors_of (view_of K w).sizes.dim a.bytes in
       let slots = take (length vs) (free_slots (view_of K w)) in
-      (with_graph K w (insert_batch K.ops a.beam w.graph vs) (write_numbers slots a.numbers w.numbers), inserted slots)
+      (with_graph K w (insert_entering K.ops a.beam w.graph vs) (write_numbers slots a.numbers w.numbers), inserted slots)
   perform w (delete a) = let d = deletion w a in (d.0, deleted d.1)
   perform w (enable config) =
       let pool = new_pool (view_of K w) config in

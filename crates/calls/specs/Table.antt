@@ -12,9 +12,11 @@ use Rattle.slots.specs.Scratch.{size_answer}
 use Rattle.slots.specs.Store.{Store, blank}
 use Rattle.repair.specs.Delete.{Stats}
 use Rattle.guard.specs.Guard.{config, Guard, off, on}
-use Rattle.calls.specs.Calls.{Making, read_dim, read_capacity, read_degree, read_alpha, read_entry, read_live, read_mark, read_version, read_number, read_target, of_slots, of_numbers, Delete, Operation, create, read, read_vector, search, insert, delete, enable, status, assess, guarded_delete, Room, Call, Answer, created, number, alpha, version, vector, found, inserted, deleted, standing, assessed, applied, deferred, refused_as}
+use Rattle.calls.specs.Calls.{Making, read_dim, read_capacity, read_degree, read_alpha, read_entry, read_live, read_mark, read_version, read_number, read_target, of_slots, of_numbers, Delete, Operation, create, read, read_vector, search, insert, delete, enable, status, assess, guarded_delete, Room, Call, Answer, refused, created, number, alpha, version, vector, found, inserted, deleted, standing, assessed, applied, deferred, refused_as}
 use Rattle.calls.specs.State.{State, state, shown, made, stored}
 use Rattle.calls.specs.Step.{step}
+use Rattle.calls.specs.Entered.{after}
+use Rattle.calls.specs.DeadBytes.{answers}
 use Rattle.calls.specs.Runs.{slices_of}
 
 -- ---- notation
@@ -130,6 +132,22 @@ labelled numbers summary =
     let s = slices_of (made stored shelf) in
     state (record { sizes = shelf.sizes; entry = 1; live = 3; guard = off })
     (slices s.vectors s.targets s.edges s.versions s.marks s.pool numbers summary s.weights)
+
+-- made by hand, values 0, 0, 1, 2 and that of slot 4, which is dead and the entry; row 0 is [1,2,3], the others are empty
+abbrev pub dead_entry : ℕ → State Store
+dead_entry byte =
+    state (record { sizes = size 1 5 3 (f32 1); entry = 4; live = 4; guard = off })
+    (slices (0 ∷ 0 ∷ 1 ∷ 2 ∷ byte ∷ []) (1 ∷ 2 ∷ 3 ∷ replicate 12 blank) (replicate 15 0) (replicate 5 0) (replicate 4 1 ++ (0 ∷ [])) (replicate 1024 0)
+    (1 ∷ 2 ∷ 3 ∷ 4 ∷ 0 ∷ []) (0 ∷ 1 ∷ 2 ∷ 3 ∷ blank ∷ []) (1 ∷ []))
+
+-- delete 0, repair beam 1, repair degree 1, and read row 2
+abbrev row_two_after : ℕ → List Answer → Case
+row_two_after byte answers =
+    record {
+      start = dead_entry byte;
+      calls = map (lent (lengths 1 5 3) 4 64 (size_answer 5)) (delete (deleting (0 ∷ []) 1 1) ∷ read (read_target 2 0) ∷ read (read_target 2 1) ∷ []);
+      outcome = record { answers = deleted (stats 3 0 3 4 ∷ []) ∷ answers; pool = [] };
+    }
 
 -- the shelf after a delete
 abbrev without : List ℕ → State Store
@@ -286,6 +304,7 @@ table =
     -- program `shelf` prints; then search 3, beam 3
     ∷ on_shelf
     (insert_all 1 (6 ∷ []) 2
+    ∷ read read_entry
     ∷ read (read_target 3 0) ∷ read (read_target 3 1) ∷ read (read_target 1 0) ∷ read (read_target 1 1) ∷ read (read_target 2 0) ∷ read (read_target 2 1)
     ∷ delete (deleting (1 ∷ []) 2 1)
     ∷ read read_entry ∷ read read_live
@@ -298,6 +317,7 @@ table =
     ∷ nearest 3 3
     ∷ [])
     (inserted (3 ∷ [])
+    ∷ number 1
     ∷ number 1 ∷ number 2 ∷ number 0 ∷ number 3 ∷ number 3 ∷ number blank
     ∷ deleted (stats 2 1 2 2 ∷ [])
     ∷ number 0 ∷ number 3
@@ -309,9 +329,40 @@ table =
     ∷ number 30 ∷ number 0 ∷ number 20 ∷ number 41 ∷ number 0
     ∷ found (at 0 9 ∷ at 3 9 ∷ at 2 49 ∷ []) (30 ∷ 41 ∷ 20 ∷ [])
     ∷ [])
-    -- delete 0, 1, 2: entry stays 1; insert 7 gets slot 0; search is empty
-    ∷ on_shelf (delete (deleting (0 ∷ 1 ∷ 2 ∷ []) 2 1) ∷ read read_entry ∷ insert_all 1 (7 ∷ []) 1 ∷ nearest 7 1 ∷ [])
-    (deleted (stats 1 0 0 0 ∷ stats 2 0 0 0 ∷ stats 1 0 0 0 ∷ []) ∷ number 1 ∷ inserted (0 ∷ []) ∷ found [] [] ∷ [])
+    -- delete 0, 1, 2: the entry stays 1, also after an insert of nothing and after one that is turned back; insert 7 gets slot 0, which is the entry then
+    -- (document 02, E5); search 7
+    ∷ on_shelf
+    (delete (deleting (0 ∷ 1 ∷ 2 ∷ []) 2 1)
+    ∷ insert_all 0 [] 1
+    ∷ insert_as (0 ∷ []) (7 ∷ []) 1
+    ∷ read read_entry
+    ∷ insert_all 1 (7 ∷ []) 1
+    ∷ nearest 7 1
+    ∷ [])
+    (deleted (stats 1 0 0 0 ∷ stats 2 0 0 0 ∷ stats 1 0 0 0 ∷ []) ∷ inserted [] ∷ refused 15 ∷ number 1 ∷ inserted (0 ∷ []) ∷ found (at 0 0 ∷ []) (41 ∷ []) ∷ [])
+    -- the same, and insert 7 and 9 at once: both walks begin at slot 0, so each row holds the other slot
+    ∷ on_shelf
+    (delete (deleting (0 ∷ 1 ∷ 2 ∷ []) 2 1) ∷ insert_all 2 (7 ∷ 9 ∷ []) 1 ∷ read read_entry ∷ read (read_target 0 0) ∷ read (read_target 1 0) ∷ nearest 9 2 ∷ [])
+    (deleted (stats 1 0 0 0 ∷ stats 2 0 0 0 ∷ stats 1 0 0 0 ∷ []) ∷ inserted (0 ∷ 1 ∷ []) ∷ number 0 ∷ number 1 ∷ number 0 ∷ found (at 1 0 ∷ at 0 4 ∷ []) (42 ∷ 41 ∷ []) ∷ [])
+    -- values 0, 3, 10, degree 2, no references, entry 2, all deleted; insert 7 and 8, then 9: a search for 7 finds the three
+    ∷ record {
+      start = nothing;
+      calls = map (lent (lengths 1 3 2) 4 64 (size_answer 3))
+          (create (record { sizes = size 1 3 2 (f32 1); count = 3; bytes = 0 ∷ 3 ∷ 10 ∷ []; rows = replicate 6 blank; entry = 2; numbers = 1 ∷ 2 ∷ 3 ∷ []; weights = 1 ∷ [] })
+          ∷ delete (deleting (0 ∷ 1 ∷ 2 ∷ []) 1 1)
+          ∷ insert_as (7 ∷ 8 ∷ []) (7 ∷ 8 ∷ []) 3
+          ∷ insert_as (9 ∷ []) (9 ∷ []) 3
+          ∷ nearest 7 3
+          ∷ []);
+      outcome = record {
+        answers = created ∷ deleted (stats 0 0 0 0 ∷ stats 0 0 0 0 ∷ stats 0 0 0 0 ∷ []) ∷ inserted (0 ∷ 1 ∷ []) ∷ inserted (2 ∷ [])
+            ∷ found (at 0 0 ∷ at 1 1 ∷ at 2 4 ∷ []) (7 ∷ 8 ∷ 9 ∷ []) ∷ [];
+        pool = [];
+      };
+    }
+    -- why `DeadBytes` speaks of indexes that calls have reached: here the repair begins at the slot nearest the dead entry
+    ∷ row_two_after 0 (number 1 ∷ number 3 ∷ [])
+    ∷ row_two_after 2 (number 3 ∷ number 1 ∷ [])
     -- guard count 0, multiplier 1, sample 4, beam 2: pool [2]; assess 0: admitted; assess 1: entry 0, baseline 1, residual 0, lost [2], not admitted;
     -- the guarded delete of both, the first by its number; no live id: admitted, requested 0
     ∷ on_shelf_with (2 ∷ [])
@@ -353,12 +404,8 @@ table =
     ∷ refusals
 
 -- what a list of calls answers and leaves
-unfoldable pub outcome_of : State Store → List Call → Outcome
-outcome_of w [] = record { answers = []; pool = (shown stored w).pool }
-outcome_of w (c ∷ cs) =
-    let r = step stored w c in
-    let rest = outcome_of r.0 cs in
-    record { answers = r.1 ∷ rest.answers; pool = rest.pool }
+abbrev pub outcome_of : State Store → List Call → Outcome
+outcome_of w cs = record { answers = answers stored w cs; pool = (shown stored (after stored w cs)).pool }
 
 -- the summary after some calls on the shelf
 pub record Summary : Type 0 where
@@ -373,6 +420,5 @@ summaries =
     ∷ record { calls = delete (deleting (2 ∷ []) 2 1) ∷ insert_as (4294967295 ∷ 1 ∷ []) (6 ∷ 7 ∷ []) 2 ∷ []; summary = 3 ∷ 1 ∷ 0 ∷ 2 ∷ [] }
     ∷ []
 
-unfoldable pub left_after : State Store → List Operation → State Store
-left_after w [] = w
-left_after w (o ∷ os) = left_after (step stored w (ample (lengths 1 4 2) o)).0 os
+abbrev pub left_after : State Store → List Operation → State Store
+left_after w os = after stored w (map (ample (lengths 1 4 2)) os)

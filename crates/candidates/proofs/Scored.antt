@@ -4,6 +4,7 @@ use mathlib.Core.Path.{◌≡◌, refl, ap}
 use mathlib.Core.List.{List, [], ◌∷◌, ◌++◌}
 use lib.ListN.{length}
 use Rattle.lists.specs.Lists.{All}
+use Rattle.lists.proofs.Equal.{map_equal}
 use Rattle.candidates.specs.Candidates.{Candidate, scored, ids}
 
 pub scored_append : (near : ℕ → ℕ) (xs ys : List ℕ) → scored near (xs ++ ys) ≡ scored near xs ++ scored near ys
@@ -13,6 +14,10 @@ scored_append near (x ∷ xs) ys = ap (λ (cs : List Candidate). record { dist =
 pub scored_length : (near : ℕ → ℕ) (xs : List ℕ) → length (scored near xs) ≡ length xs
 scored_length near [] = refl
 scored_length near (x ∷ xs) = ap suc (scored_length near xs)
+
+-- by two distances that are equal on the slots with P
+pub scored_equal : (P : ℕ → Type 0) (near near' : ℕ → ℕ) → ((s : ℕ) → P s → near s ≡ near' s) → (xs : List ℕ) → All P xs → scored near xs ≡ scored near' xs
+scored_equal P near near' same = map_equal P _ _ (λ s p. ap (λ (n : ℕ). record { dist = n; id = s }) (same s p))
 
 pub ids_scored : (near : ℕ → ℕ) (xs : List ℕ) → ids (scored near xs) ≡ xs
 ids_scored near [] = refl

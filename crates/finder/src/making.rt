@@ -8,12 +8,12 @@ use index::{Making, NewSlices};
 use words::{put, put_created};
 
 // 10,000 for each major version, 100 for each minor one and 1 for each patch.
-const VERSION: u32 = 3_00_00;
+const VERSION: u32 = 3_01_00;
 
 // The library's version.
 #[unsafe(no_mangle)]
 pub extern "C" fn finder_version() -> u32
-    ensures { result ≡ 30000 }
+    ensures { result ≡ 30100 }
 {
     VERSION
 }

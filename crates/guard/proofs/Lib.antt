@@ -1,2 +1,3 @@
 mod Cases
 pub mod Enabling
+pub mod Alike

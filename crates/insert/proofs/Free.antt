@@ -7,7 +7,7 @@ use mathlib.Core.List.{List, [], ◌∷◌, map}
 use native.Mathlib.Omega.{arith}
 use borrow.Author.Tests.{eq-eqb, lt-ltb}
 use lib.Dec.{eqb}
-use lib.ListN.{length, drop, length-drop}
+use lib.ListN.{length, take, drop, length-drop}
 use Rattle.lists.specs.Lists.{All, filter, foldl, range, concat_map, chunks, zip}
 use Rattle.lists.proofs.Filter.{filter_and}
 use Rattle.lists.proofs.Firsts.{filter_same, eqb_comm}
@@ -18,7 +18,7 @@ use Rattle.slots.specs.View.{live_slots, free_slots}
 use Rattle.slots.specs.Ops.{Ops, Row, write_rows}
 use Rattle.slots.specs.Plain.{at}
 use Rattle.slots.proofs.Live.{live_and_free, Marked, Marking}
-use Rattle.insert.specs.Insert.{Filling, fillings, chunk_rows, insert_chunk, insert_batch, fill_all}
+use Rattle.insert.specs.Insert.{Filling, fillings, chunk_rows, insert_chunk, insert_batch, fill_all, first_entry, insert_entering}
 use Rattle.insert.proofs.Chunks.{fillings_whole}
 
 -- ---- by marks and capacity alone
@@ -26,10 +26,10 @@ use Rattle.insert.proofs.Chunks.{fillings_whole}
 abbrev free_in : ℕ → (ℕ → Bool) → List ℕ
 free_in capacity live = filter (λ s. not (live s)) (range 0 capacity)
 
-abbrev all_marked : ℕ → (ℕ → Bool) → List Filling → ℕ → Bool
+abbrev pub all_marked : ℕ → (ℕ → Bool) → List Filling → ℕ → Bool
 all_marked capacity live fs = foldl (λ (l : ℕ → Bool) (f : Filling). at capacity l f.slot true) live fs
 
-abbrev filled_with : List ℕ → List (List ℕ) → List Filling
+abbrev pub filled_with : List ℕ → List (List ℕ) → List Filling
 filled_with slots vectors = map (λ p. record { slot = p.0; vector = p.1 }) (zip slots vectors)
 
 module _ (capacity : ℕ) where
@@ -87,7 +87,7 @@ module _ {B : Type 0} (O : Ops B) (Fit : B → Type 0) (k : Marking O Fit) where
         live = r.live ∙ ap₂ (λ (z : Sizes) (l : ℕ → Bool). all_marked z.capacity l fs) e.sizes e.live;
       }
 
-  rows_marked : (b b' : B) (fs : List Filling) → Filled b fs b' → (rows : List Row) → Filled b fs (write_rows O b' rows)
+  pub rows_marked : (b b' : B) (fs : List Filling) → Filled b fs b' → (rows : List Row) → Filled b fs (write_rows O b' rows)
   rows_marked b b' fs m [] = m
   rows_marked b b' fs m (r ∷ rows) =
       let e = k.writes b' m.fits r.source r.targets in
@@ -114,26 +114,50 @@ module _ {B : Type 0} (O : Ops B) (Fit : B → Type 0) (k : Marking O Fit) where
   -- ---- after a batch
 
   module _ (b : B) (h : Fit b) (beam : ℕ) (vectors : List (List ℕ)) where
-    abbrev after : B
-    after = insert_batch O beam b vectors
-
-    batch_marked : Filled b (fillings (O.view b) vectors) after
+    batch_marked : Filled b (fillings (O.view b) vectors) (insert_batch O beam b vectors)
     unfolding insert_batch
     batch_marked =
         let cs = chunks (length vectors) 256 (fillings (O.view b) vectors) in
         subst (λ (fs : List Filling). Filled b fs (foldl (insert_chunk O beam) b cs)) (fillings_whole (O.view b) vectors) (chunks_marked beam b h cs)
 
+    pub sizes_after_batch : (O.view (insert_batch O beam b vectors)).sizes ≡ (O.view b).sizes
+    sizes_after_batch = batch_marked.sizes
+
+  -- ---- after an insert
+
+  module _ (b : B) (h : Fit b) (beam : ℕ) (vectors : List (List ℕ)) where
+    abbrev begun : B
+    begun = O.enter b (first_entry (O.view b) (take (length vectors) (free_slots (O.view b))))
+
+    abbrev after : B
+    after = insert_entering O beam b vectors
+
+    begun_marked : Marked O Fit b (O.view b).live begun
+    begun_marked = k.enters b h _
+
+    after_marked : Filled begun (fillings (O.view begun) vectors) after
+    unfolding insert_entering
+    after_marked = batch_marked begun begun_marked.fits beam vectors
+
     pub fits_after_insert : Fit after
-    fits_after_insert = batch_marked.fits
+    fits_after_insert = after_marked.fits
 
     pub sizes_after_insert : (O.view after).sizes ≡ (O.view b).sizes
-    sizes_after_insert = batch_marked.sizes
+    sizes_after_insert = after_marked.sizes ∙ begun_marked.sizes
+
+    -- the slots that are free when the batch begins are those that were free before
+    pub begun_free : free_slots (O.view begun) ≡ free_slots (O.view b)
+    begun_free = ap₂ (λ (z : Sizes) (l : ℕ → Bool). free_in z.capacity l) begun_marked.sizes begun_marked.live
+
+    -- what is live after it, by what was before
+    pub marked_after_insert : (O.view after).live ≡ all_marked (O.view b).sizes.capacity (O.view b).live (filled_with (free_slots (O.view b)) vectors)
+    unfolding fillings
+    marked_after_insert = after_marked.live ∙ (λ i. all_marked ((begun_marked.sizes i).capacity) (begun_marked.live i) (filled_with (begun_free i) vectors))
 
     pub free_after_insert : free_slots (O.view after) ≡ drop (length vectors) (free_slots (O.view b))
-    unfolding fillings
     free_after_insert =
-        let m = batch_marked in
-        ap₂ (λ (z : Sizes) (l : ℕ → Bool). free_in z.capacity l) m.sizes m.live ∙ free_after_filling (O.view b).sizes.capacity (O.view b).live vectors
+        ap₂ (λ (z : Sizes) (l : ℕ → Bool). free_in z.capacity l) sizes_after_insert marked_after_insert
+        ∙ free_after_filling (O.view b).sizes.capacity (O.view b).live vectors
 
     pub live_after_insert : length vectors ≤ length (free_slots (O.view b)) → length (live_slots (O.view after)) ≡ length (live_slots (O.view b)) + length vectors
     live_after_insert few =

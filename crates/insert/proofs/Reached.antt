@@ -1,20 +1,21 @@
 -- An insert keeps what holds of every index that calls have reached. Assumes nothing.
 use Prim.Native.Nat.{ℕ, max}
-use mathlib.Core.Bool.{true, false}
-use mathlib.Core.Path.{◌≡◌, refl, ap, ◌∙◌}
+use mathlib.Core.Bool.{true}
+use mathlib.Core.Path.{◌≡◌}
 use mathlib.Core.List.{List, [], ◌∷◌, ◌++◌, map}
-use lib.ListN.{length}
+use lib.ListN.{length, take}
 use Rattle.lists.specs.Lists.{concat_map, chunks, sorted_set, All}
 use Rattle.lists.proofs.All.{all_of, all_append, foldl_keeps}
-use Rattle.candidates.specs.Candidates.{Candidate, scored, ids}
+use Rattle.candidates.specs.Candidates.{scored, ids}
 use Rattle.vectors.specs.Space.{slot_distance}
-use Rattle.slots.specs.View.{View, Reached, live_neighbors}
+use Rattle.slots.specs.View.{View, Reached, live_neighbors, free_slots}
 use Rattle.slots.specs.Ops.{Row}
 use Rattle.slots.specs.Plain.{plain_ops}
 use Rattle.slots.proofs.Reached.{reached_filled, reached_rows}
 use Rattle.walk.specs.Walk.{search_pool}
-use Rattle.prune.proofs.Chosen.{ids_live, none_chosen}
-use Rattle.insert.specs.Insert.{Filling, fillings, Plan, plan, incoming, outgoing_row, target_row, chunk_rows, fill_all, insert_chunk, insert_batch}
+use Rattle.prune.proofs.Chosen.{ids_live}
+use Rattle.insert.specs.Insert.{Filling, fillings, Plan, plan, incoming, outgoing_row, target_row, chunk_rows}
+use Rattle.insert.specs.Insert.{fill_all, insert_chunk, insert_batch, first_entry, insert_entering}
 
 abbrev LiveRow : View → Row → Type 0
 LiveRow v row = All (λ t. v.live t ≡ true) row.targets
@@ -39,29 +40,6 @@ module _ (v : View) (beam : ℕ) where
       let ts = sorted_set (concat_map (λ (p : Plan). ids p.outgoing) plans) in
       all_append (LiveRow v) (map outgoing_row plans) (map (target_row v plans) ts) (outgoing_live chunk) (targets_live plans ts)
 
-  -- ---- where the entry is dead, a walk finds nothing
-
-  module _ (dead : v.live v.entry ≡ false) where
-    plan_bare : (f : Filling) → (plan v beam f).outgoing ≡ []
-    unfolding plan search_pool
-    plan_bare f = rw dead (none_chosen v f.slot)
-
-    outgoing_bare : (fs : List Filling) → All (λ (row : Row). row.targets ≡ []) (map outgoing_row (map (plan v beam) fs))
-    unfolding outgoing_row
-    outgoing_bare [] = tt
-    outgoing_bare (f ∷ fs) = (ap ids (plan_bare f), outgoing_bare fs)
-
-    no_targets : (fs : List Filling) → concat_map (λ (p : Plan). ids p.outgoing) (map (plan v beam) fs) ≡ []
-    no_targets [] = refl
-    no_targets (f ∷ fs) = ap (λ (l : List Candidate). ids l ++ concat_map (λ (p : Plan). ids p.outgoing) (map (plan v beam) fs)) (plan_bare f) ∙ no_targets fs
-
-    rows_bare : (chunk : List Filling) → All (λ (row : Row). row.targets ≡ []) (chunk_rows v beam chunk)
-    unfolding chunk_rows
-    rows_bare chunk =
-        let plans = map (plan v beam) chunk in
-        let e : sorted_set (concat_map (λ (p : Plan). ids p.outgoing) plans) ≡ [] = ap sorted_set (no_targets chunk) in
-        all_append (λ (row : Row). row.targets ≡ []) (map outgoing_row plans) (map (target_row v plans) (sorted_set (concat_map (λ p. ids p.outgoing) plans))) (outgoing_bare chunk) (rw e tt)
-
 -- ---- the batch
 
 reached_fillings : (v : View) (fs : List Filling) → Reached v → Reached (fill_all plain_ops v fs)
@@ -72,10 +50,16 @@ reached_chunk : (beam : ℕ) (v : View) (chunk : List Filling) → Reached v →
 unfolding insert_chunk plain_ops
 reached_chunk beam v chunk r =
     let u = fill_all plain_ops v chunk in
-    reached_rows u (chunk_rows u beam chunk) (reached_fillings v chunk r) (rows_live u beam chunk) (λ dead. rows_bare u beam dead chunk)
+    reached_rows u (chunk_rows u beam chunk) (reached_fillings v chunk r) (rows_live u beam chunk)
 
-pub reached_insert : (beam : ℕ) (v : View) (vectors : List (List ℕ)) → Reached v → Reached (insert_batch plain_ops beam v vectors)
+reached_batch : (beam : ℕ) (v : View) (vectors : List (List ℕ)) → Reached v → Reached (insert_batch plain_ops beam v vectors)
 unfolding insert_batch plain_ops
-reached_insert beam v vectors r =
+reached_batch beam v vectors r =
     let cs = chunks (length vectors) 256 (fillings v vectors) in
     foldl_keeps (λ (c : List Filling). Unit {0}) Reached (insert_chunk plain_ops beam) (λ u c h. reached_chunk beam u c) cs (all_of _ (λ c. tt) cs) v r
+
+pub reached_insert : (beam : ℕ) (v : View) (vectors : List (List ℕ)) → Reached v → Reached (insert_entering plain_ops beam v vectors)
+unfolding insert_entering plain_ops
+reached_insert beam v vectors r =
+    reached_batch beam (plain_ops.enter v (first_entry v (take (length vectors) (free_slots v)))) vectors
+    (record { live_inside = r.live_inside; live_targets = r.live_targets })

@@ -1,2 +1,3 @@
-// The definition of `insert_batch`; its code is the crate `insertion`.
+// The definitions of `insert_batch`, whose code is the crate `insertion`, and of the entry that an insert begins with (`first_entry`,
+// `insert_entering`), whose code is in the crate `updating`.
 #![tactic(auto)]

@@ -19,3 +19,4 @@ pub mod Filtered
 pub mod Alike
 pub mod Bools
 pub mod Sweep
+pub mod Equal

@@ -181,11 +181,3 @@ ids_live v source cs = go (prune v source cs) (chosen_live v.sizes.degree v.size
     go : (l : List Candidate) → All (λ c. v.live c.id ≡ true) l → All (λ t. v.live t ≡ true) (ids l)
     go [] h = tt
     go (c ∷ l) h = (h.0, go l h.1)
-
--- of none, none is selected
-pub none_chosen : (v : View) (source : ℕ) → prune v source [] ≡ []
-none_chosen v source = go (prune v source []) (chosen_given v.sizes.degree v.sizes.alpha v.live (slot_distance v.space) source [])
-  where
-    go : (l : List Candidate) → All (λ c. In c []) l → l ≡ []
-    go [] h = refl
-    go (c ∷ l) h = absurd h.0

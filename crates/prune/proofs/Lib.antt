@@ -10,3 +10,4 @@ pub mod Selecting
 pub mod Settling
 pub mod Thresholds
 pub mod WholeNumbers
+pub mod Alike

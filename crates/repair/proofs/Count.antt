@@ -34,7 +34,7 @@ module _ {B : Type 0} (O : Ops B) (Fit : B → Type 0) (k : Marking O Fit) where
 
   -- ---- what leaves the marks
 
-  abbrev Kept : B → B → Type 0
+  abbrev pub Kept : B → B → Type 0
   Kept b b' = Marked O Fit b (O.view b).live b'
 
   kept_then : (b b' b'' : B) → Kept b b' → Kept b' b'' → Kept b b''
@@ -43,13 +43,13 @@ module _ {B : Type 0} (O : Ops B) (Fit : B → Type 0) (k : Marking O Fit) where
   same_live : (b b' : B) → Kept b b' → live_of b' ≡ live_of b
   same_live b b' m = ap₂ (λ (z : Sizes) (l : ℕ → Bool). filter l (range 0 z.capacity)) m.sizes m.live
 
-  rows_kept : (rows : List Row) (b : B) → Fit b → Kept b (write_rows O b rows)
+  pub rows_kept : (rows : List Row) (b : B) → Fit b → Kept b (write_rows O b rows)
   rows_kept [] b h = record { fits = h; sizes = refl; live = refl }
   rows_kept (r ∷ rs) b h =
       let m = k.writes b h r.source r.targets in
       kept_then b (O.write b r.source r.targets) (write_rows O b (r ∷ rs)) m (rows_kept rs (O.write b r.source r.targets) m.fits)
 
-  finishes_kept : (ss : List ℕ) (b : B) → Fit b → Kept b (foldl O.finish b ss)
+  pub finishes_kept : (ss : List ℕ) (b : B) → Fit b → Kept b (foldl O.finish b ss)
   finishes_kept [] b h = record { fits = h; sizes = refl; live = refl }
   finishes_kept (s ∷ ss) b h =
       let m = k.finishes b h s in

@@ -5,3 +5,6 @@ pub mod Reached
 pub mod Count
 pub mod Sources
 pub mod Counting
+pub mod Entry
+pub mod Alike
+pub mod Twins

@@ -14,3 +14,4 @@ pub mod Reached
 pub mod Live
 pub mod Slices
 pub mod Weights
+pub mod Alike

@@ -1,12 +1,14 @@
--- The live slots: as many as are not free, and what each operation of `Ops` does to their marks, of the stored index and of the plain one. Assumes
--- nothing.
-use Rattle.std.proofs.Common.{◌≡◌, ℕ, ◌+◌, ◌<◌, Bool, true, false, cond, ◌&&◌, eqb, ltb, List, length, sym, refl, ◌∙◌, true≢false, length-set, ltb-true, eqb-true}
+-- The live slots: as many as are not free, and what each operation of `Ops` does to their marks, of the stored index and of the plain one; and what it does to
+-- the entry, of the stored index. Assumes nothing.
+use Rattle.std.proofs.Common.{◌≡◌, ℕ, ◌+◌, ◌<◌, Bool, true, false, cond, ◌&&◌, eqb, ltb, List, [], ◌∷◌, length, sym, refl, ◌∙◌}
+use Rattle.std.proofs.Common.{true≢false, arith, length-set, ltb-true, eqb-true}
 use Rattle.lists.specs.Lists.{range}
-use Rattle.lists.proofs.Filtered.{count_both}
-use Rattle.lists.proofs.Ranges.{length_range}
+use Rattle.lists.proofs.Filtered.{count_both, count_without}
+use Rattle.lists.proofs.Ranges.{length_range, times_once}
 use Rattle.slots.specs.View.{View, live_slots, free_slots}
-use Rattle.slots.specs.Ops.{Ops}
-use Rattle.slots.specs.Store.{Store, is_valid, store_view, write_neighbors, write_vector, set_mark, next_version, filled, finished, with_arrays, store_ops}
+use Rattle.slots.specs.Ops.{Ops, Row, write_rows}
+use Rattle.slots.specs.Store.{Arrays, Store, is_valid, store_view, write_neighbors, write_vector}
+use Rattle.slots.specs.Store.{set_mark, next_version, filled, finished, with_arrays, at_slot, store_ops}
 use Rattle.slots.specs.Plain.{at, plain_ops}
 use Rattle.slots.proofs.Changes.{valid_set}
 use Rattle.slots.proofs.Places.{live_inside}
@@ -15,6 +17,13 @@ use Rattle.slots.proofs.Places.{live_inside}
 
 pub live_and_free : (v : View) → length (live_slots v) + length (free_slots v) ≡ v.sizes.capacity
 live_and_free v = count_both v.live (range 0 v.sizes.capacity) ∙ length_range 0 v.sizes.capacity
+
+-- a live slot is counted
+pub some_live : (v : View) (s : ℕ) → v.live s ≡ true → s < v.sizes.capacity → 0 < length (live_slots v)
+some_live v s h i = omega (arith, count_without v.live s h (range 0 v.sizes.capacity), times_once s 0 v.sizes.capacity (omega arith) (omega arith))
+
+pub none_live : (v : View) → ((s : ℕ) → v.live s ≡ true → s < v.sizes.capacity) → length (live_slots v) ≡ 0 → (s : ℕ) → v.live s ≡ true → ⊥
+none_live v inside e s h = omega (arith, some_live v s h (inside s h))
 
 -- ---- of any index; `Fit b` says that no slot outside b is live
 
@@ -33,6 +42,20 @@ module _ {B : Type 0} (O : Ops B) (Fit : B → Type 0) where
     pub kills : (b : B) → Fit b → (s : ℕ) → Marked b (at (O.view b).sizes.capacity (O.view b).live s false) (O.kill b s)
     pub enters : (b : B) → Fit b → (e : ℕ) → Marked b (O.view b).live (O.enter b e)
     pub finishes : (b : B) → Fit b → (s : ℕ) → Marked b (O.view b).live (O.finish b s)
+
+module _ {B : Type 0} (O : Ops B) where
+  -- the entry is what was entered last: nothing else changes it
+  pub record EntryLaws : Type 0 where
+    pub fills : (b : B) (s : ℕ) (vector : List ℕ) → (O.view (O.fill b s vector)).entry ≡ (O.view b).entry
+    pub writes : (b : B) (s : ℕ) (ids : List ℕ) → (O.view (O.write b s ids)).entry ≡ (O.view b).entry
+    pub kills : (b : B) (s : ℕ) → (O.view (O.kill b s)).entry ≡ (O.view b).entry
+    pub enters : (b : B) (e : ℕ) → (O.view (O.enter b e)).entry ≡ e
+    pub finishes : (b : B) (s : ℕ) → (O.view (O.finish b s)).entry ≡ (O.view b).entry
+
+module _ {B : Type 0} (O : Ops B) (n : EntryLaws O) where
+  pub rows_entry : (rows : List Row) (b : B) → (O.view (write_rows O b rows)).entry ≡ (O.view b).entry
+  rows_entry [] b = refl
+  rows_entry (r ∷ rs) b = rows_entry rs (O.write b r.source r.targets) ∙ n.writes b r.source r.targets
 
 -- ---- the plain index
 
@@ -125,4 +148,22 @@ store_marking = record {
   kills = λ b h s. store_kills b h s;
   enters = λ b h e. record { fits = h; sizes = refl; live = refl };
   finishes = λ b h s. store_finishes b h s;
+}
+
+-- a change at a slot leaves the entry
+slot_entry : (b : Store) (s : ℕ) (a : Arrays) → (at_slot b s a).entry ≡ b.entry
+slot_entry b s a = go (ltb s b.capacity)
+  where
+    go : (q : Bool) → (cond q (with_arrays b a) b).entry ≡ b.entry
+    go true = refl
+    go false = refl
+
+pub store_entry_laws : EntryLaws store_ops
+unfolding store_ops store_view
+store_entry_laws = record {
+  fills = λ b s vector. slot_entry b s (filled b.arrays s vector);
+  writes = λ b s ids. slot_entry b s (write_neighbors b.arrays s ids);
+  kills = λ b s. slot_entry b s (set_mark b.arrays s 0);
+  enters = λ b e. refl;
+  finishes = λ b s. slot_entry b s (finished b.arrays s);
 }

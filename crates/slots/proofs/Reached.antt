@@ -1,6 +1,5 @@
 -- What holds of every index that calls have reached (`Reached`), kept by the operations of the plain index. Assumes nothing.
 use Rattle.std.proofs.Common.{◌≡◌, ℕ, ◌<◌, Bool, true, false, cond, not, ◌&&◌, ◌||◌, eqb, ltb, List, [], ◌∷◌, take, sym, refl, ap, ◌∙◌, true≢false, arith, ltb-true, lt-ltb, eqb-true}
-use lib.Seq.{take-nil}
 use Rattle.std.proofs.lemmas.Bool.{and_parts, or_left}
 use Rattle.lists.specs.Lists.{filter, foldl, elem, All}
 use Rattle.lists.proofs.All.{by_cases, all_map, all_both, all_take, all_filter, filter_test}
@@ -8,11 +7,6 @@ use Rattle.slots.specs.View.{View, Reached}
 use Rattle.slots.specs.Ops.{Row, write_rows}
 use Rattle.slots.specs.Store.{blank}
 use Rattle.slots.specs.Plain.{other_than, plain_ops}
-
--- no element is live, and all are
-pub none_left : (live : ℕ → Bool) → ((t : ℕ) → live t ≡ false) → (l : List ℕ) → All (λ t. live t ≡ true) l → l ≡ []
-none_left live dead [] h = refl
-none_left live dead (t ∷ ts) h = absurd (true≢false (sym h.0 ∙ dead t))
 
 -- ---- a slot is filled
 
@@ -23,29 +17,18 @@ module _ (v : View) (r : Reached v) (s : ℕ) (vector : List ℕ) where
       omega (arith, ltb-true s v.sizes.capacity k.0, eqb-true t s k.1)
   filled_inside t false e h = r.live_inside t h
 
-  was_dead : (b : Bool) → cond b true (v.live v.entry) ≡ false → v.live v.entry ≡ false
-  was_dead true h = absurd (true≢false h)
-  was_dead false h = h
-
   pub reached_filled : Reached (plain_ops.fill v s vector)
   unfolding plain_ops
   reached_filled = record {
     live_inside = λ t h. filled_inside t (ltb s v.sizes.capacity && eqb t s) refl h;
     live_targets = λ t. by_cases (All (λ u. cond (ltb s v.sizes.capacity && eqb u s) true (v.live u) ≡ true)) (ltb s v.sizes.capacity && eqb t s) (λ e. tt)
         (λ e. all_map _ _ (λ u h. by_cases (λ (x : Bool). x ≡ true) (ltb s v.sizes.capacity && eqb u s) (λ g. refl) (λ g. h)) (v.refs t) (r.live_targets t));
-    dead_entry = λ h t.
-        let d = was_dead (ltb s v.sizes.capacity && eqb v.entry s) h in
-        by_cases (λ (x : List ℕ). x ≡ []) (ltb s v.sizes.capacity && eqb t s) (λ e. refl) (λ e. r.dead_entry d t);
   }
 
 -- ---- while slots are being deleted: a reference leads to a live slot or to one that is `gone`
 
 abbrev pub Held : List ℕ → View → Type 0
 Held gone v = (s : ℕ) → All (λ t. (v.live t || elem t gone) ≡ true) (v.refs s)
-
--- no row has a reference
-abbrev pub Bare : View → Type 0
-Bare v = (s : ℕ) → v.refs s ≡ []
 
 pub held_reached : (v : View) → Reached v → Held [] v
 held_reached v r s = all_map _ _ (λ t h. or_left (v.live t) false h) (v.refs s) (r.live_targets s)
@@ -56,10 +39,6 @@ none_gone v h s = all_map _ _ (λ t e. go (v.live t) e) (v.refs s) (h s)
     go : (b : Bool) → (b || false) ≡ true → b ≡ true
     go true e = refl
     go false e = e
-
--- where no slot is live, no row has a reference
-pub bare_dead : (v : View) → Held [] v → ((t : ℕ) → v.live t ≡ false) → Bare v
-bare_dead v h dead s = none_left v.live dead (v.refs s) (none_gone v h s)
 
 -- ---- rows are written
 
@@ -83,25 +62,15 @@ held_rows gone (row ∷ rows) v h held =
     (λ e. all_filter _ (other_than blank) (take v.sizes.degree row.targets) (all_take _ v.sizes.degree row.targets
     (all_map _ _ (λ t l. or_left (v.live t) (elem t gone) l) row.targets h.0))) (λ e. held s))
 
-pub bare_rows : (rows : List Row) (v : View) → All (λ (row : Row). row.targets ≡ []) rows → Bare v → Bare (write_rows plain_ops v rows)
-unfolding plain_ops
-bare_rows [] v h bare = bare
-bare_rows (row ∷ rows) v h bare =
-    bare_rows rows (plain_ops.write v row.source row.targets) h.1
-    (λ s. by_cases (λ (x : List ℕ). x ≡ []) (ltb row.source v.sizes.capacity && eqb s row.source)
-    (λ e. ap (λ (l : List ℕ). filter (other_than blank) (take v.sizes.degree l)) h.0 ∙ ap (filter (other_than blank)) (take-nil v.sizes.degree)) (λ e. bare s))
-
--- rows of live slots, bare ones where the entry is dead
+-- rows of live slots
 pub reached_rows : (v : View) (rows : List Row) → Reached v → All (λ (row : Row). All (λ t. v.live t ≡ true) row.targets) rows
-    → (v.live v.entry ≡ false → All (λ (row : Row). row.targets ≡ []) rows) → Reached (write_rows plain_ops v rows)
-reached_rows v rows r live bare =
+    → Reached (write_rows plain_ops v rows)
+reached_rows v rows r live =
     let u = write_rows plain_ops v rows in
     let w = rows_rewritten v rows in
     record {
       live_inside = λ t h. let i = r.live_inside t (sym (ap (λ (f : ℕ → Bool). f t) w.live) ∙ h) in rw w.sizes i;
       live_targets = none_gone u (held_rows [] rows v live (held_reached v r));
-      dead_entry = λ h. let d : v.live v.entry ≡ false = sym (ap (λ (f : ℕ → Bool). f u.entry) w.live ∙ ap v.live w.entry) ∙ h in
-          bare_rows rows v (bare d) (r.dead_entry d);
     }
 
 -- ---- slots are killed
@@ -137,25 +106,6 @@ killed_less v (x ∷ xs) t h = go (ltb x v.sizes.capacity && eqb t x) (killed_le
     go : (b : Bool) → cond b false (v.live t) ≡ true → v.live t ≡ true
     go true e = absurd (true≢false (sym e))
     go false e = e
-
--- a slot that is none of them stays as it was
-pub killed_other : (v : View) (ss : List ℕ) (t : ℕ) → elem t ss ≡ false → (foldl plain_ops.kill v ss).live t ≡ v.live t
-unfolding plain_ops
-killed_other v [] t h = refl
-killed_other v (x ∷ xs) t h = killed_other (plain_ops.kill v x) xs t (rest (eqb t x) h) ∙ go (ltb x v.sizes.capacity) (eqb t x) (first (eqb t x) h)
-  where
-    rest : (a : Bool) → (a || elem t xs) ≡ false → elem t xs ≡ false
-    rest true e = absurd (true≢false e)
-    rest false e = e
-
-    first : (a : Bool) → (a || elem t xs) ≡ false → a ≡ false
-    first true e = e
-    first false e = refl
-
-    go : (a b : Bool) → b ≡ false → cond (a && b) false (v.live t) ≡ v.live t
-    go true true e = absurd (true≢false e)
-    go true false e = refl
-    go false b e = refl
 
 -- all else stays
 pub record Killed (v u : View) : Type 0 where
@@ -194,11 +144,3 @@ held_finished v (x ∷ xs) inside held =
     drop_first true b c e n = refl
     drop_first false true c e n = absurd (true≢false (sym n))
     drop_first false false c e n = e
-
-pub bare_finished : (v : View) (ss : List ℕ) → Bare v → Bare (foldl plain_ops.finish v ss)
-unfolding plain_ops
-bare_finished v [] bare = bare
-bare_finished v (x ∷ xs) bare =
-    bare_finished (plain_ops.finish v x) xs
-    (λ s. by_cases (λ (l : List ℕ). l ≡ []) (ltb x v.sizes.capacity)
-    (λ e. by_cases (λ (l : List ℕ). l ≡ []) (eqb s x) (λ g. refl) (λ g. ap (filter (other_than x)) (bare s))) (λ e. bare s))

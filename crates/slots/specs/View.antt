@@ -1,5 +1,5 @@
 -- What the algorithms see of an index: neither versions nor blanks. Document 01, "Slots, versions, rows". Assumes nothing.
-use Rattle.std.specs.Prelude.{◌≡◌, ℕ, ◌<◌, Bool, true, false, not, List, []}
+use Rattle.std.specs.Prelude.{◌≡◌, ℕ, ◌<◌, Bool, true, not, List}
 use Rattle.lists.specs.Lists.{filter, range, sorted_set, All}
 use Rattle.vectors.specs.Space.{Space}
 use Rattle.slots.specs.Sizes.{Sizes}
@@ -30,9 +30,22 @@ free_slots v = filter (λ s. not (v.live s)) (range 0 v.sizes.capacity)
 unfoldable pub emptied : View → List ℕ → List ℕ
 emptied v ids = sorted_set (filter v.live ids)
 
--- what holds of every index that calls have reached (`always_reached`): live slots are inside, references lead to live slots, and where the entry is dead there
--- are none
+-- what holds of every index that calls have reached (`always_reached`): live slots are inside, and references lead to live slots
 pub record Reached (v : View) : Type 0 where
   pub live_inside : (s : ℕ) → v.live s ≡ true → s < v.sizes.capacity
   pub live_targets : (s : ℕ) → All (λ t. v.live t ≡ true) (v.refs s)
-  pub dead_entry : v.live v.entry ≡ false → (s : ℕ) → v.refs s ≡ []
+
+-- where some slot is live, the entry is (document 02, E5; `entered`)
+abbrev pub EntryLive : View → Type 0
+EntryLive v = (s : ℕ) → v.live s ≡ true → v.live v.entry ≡ true
+
+-- a view with other vectors and another entry
+abbrev pub with_vectors : View → (ℕ → List ℕ) → ℕ → View
+with_vectors v vector entry =
+    record { sizes = v.sizes; entry = entry; live = v.live; space = record { measure = v.space.measure; vector = vector }; refs = v.refs }
+
+-- two views that differ only in the vectors of dead slots, and, where no slot is live, in the entry
+pub record Alike (v v' : View) : Type 0 where
+  pub others : v' ≡ with_vectors v v'.space.vector v'.entry
+  pub vectors : (s : ℕ) → v.live s ≡ true → v'.space.vector s ≡ v.space.vector s
+  pub entry : (s : ℕ) → v.live s ≡ true → v'.entry ≡ v.entry

@@ -1,6 +1,6 @@
 -- Insert: what the code decides and writes is what the definitions say. Assumes nothing.
 use Prim.Native.Nat.{ℕ, ◌+◌, ◌-◌, ◌*◌, ◌/◌, ◌≤◌, ◌<◌}
-use mathlib.Core.Bool.{Bool, true, false, not, ◌||◌}
+use mathlib.Core.Bool.{Bool, true, false, not, ◌&&◌, ◌||◌, cond}
 use mathlib.Core.Path.{◌≡◌, refl, sym, ap, ap₂, ◌∙◌, subst}
 use mathlib.Core.List.{List, [], ◌∷◌}
 use mathlib.Core.Option.{Option, none, some}
@@ -11,20 +11,22 @@ use lib.ListN.{length, take, drop, length-map}
 use lib.Seq.{length-take-le, take-append-le, take-length}
 use Rattle.std.proofs.lemmas.Bool.{or_parts}
 use Rattle.lists.specs.Lists.{filter, range, elem, put_front}
+use Rattle.lists.proofs.All.{by_cases}
 use Rattle.lists.proofs.Filtered.{count_both}
 use Rattle.lists.proofs.Ranges.{length_range}
 use Rattle.vectors.specs.Weights.{Weighing}
 use Rattle.slots.specs.Sizes.{Slices, limits, alpha_ok}
 use Rattle.slots.specs.Scratch.{size_answer}
-use Rattle.slots.specs.View.{live_slots}
+use Rattle.slots.specs.View.{live_slots, free_slots}
 use Rattle.slots.specs.Store.{Store, is_valid, store_view, store_ops}
 use Rattle.slots.proofs.Live.{MarksFit, store_marking}
 use Rattle.numbers.specs.Numbers.{taken, write_numbers, summary_of}
 use Rattle.numbers.specs.Inner.Listed.{Listed, Inserting, Entering}
 use Rattle.numbers.proofs.Listing.{inserting_entering}
 use Rattle.row.specs.Row.{index_of}
-use Rattle.insert.specs.Insert.{insert_batch}
-use Rattle.insert.proofs.Free.{sizes_after_insert, live_after_insert}
+use Rattle.insert.specs.Insert.{insert_batch, first_entry, insert_entering}
+use Rattle.insert.proofs.Free.{sizes_after_batch, sizes_after_insert, live_after_insert}
+use Rattle.insert.proofs.Entry.{first_is}
 use Rattle.insertion.specs.Batch.{Insertable, BatchInserted}
 use Rattle.insertion.proofs.Batching.{insert_enough, inserted_store}
 use Rattle.calls.specs.Calls.{Insert, insert, Call, inserted, refused_as}
@@ -46,7 +48,7 @@ use Rattle.index.specs.declared.Refusal.TheVariants as Refused
 use Rattle.index.specs.Refusal.{number_of}
 use Rattle.updating.specs.declared.Changed.{Changed}
 use Rattle.updating.specs.Insert.{insert_outputs, inserted_as, index_after, Inserts}
-use Rattle.updating.specs.Inner.Filling.{insert_wrong, insert_tests, with_live, Labelable, Relabelled}
+use Rattle.updating.specs.Inner.Filling.{insert_wrong, insert_tests, with_first_entry, with_live, Labelable, Relabelled}
 
 pub ok_is : {A E : Type 0} {x y : A} → ◌≡◌ {A = Result A E} (Ok x) (Ok y) → x ≡ y
 ok_is e = cc
@@ -200,7 +202,31 @@ module _ {index : Index} {s₀ s : Slices} {a : Insert} {slots scratch : List �
     unfolding shown stored store_ops store_view state_of
     enough_free = finds.room
 
-    pub insert_able : Insertable (arrays_of index s) index.alpha index.entry a.beam a.bytes slots scratch
+    -- the entry that the batch begins with
+    abbrev first : ℕ
+    first = (with_first_entry index (length a.numbers)).entry
+
+    first_inside : first < index.capacity
+    first_inside =
+        by_cases (λ (e : ℕ). e < index.capacity) (eqb index.live 0 && not (eqb (length a.numbers) 0)) (λ q. able.capacity_low) (λ q. able.entry_inside)
+
+    abbrev graph : Store
+    graph = (state_of index s).graph
+
+    abbrev vs : List (List ℕ)
+    vs = vectors_of index.dim a.bytes
+
+    all : length vs ≡ count
+    all = simp length-map (length_range 0 count)
+
+    -- is the one that an insert sets
+    first_set : first ≡ first_entry (store_view graph) (take (length vs) (free_slots (store_view graph)))
+    unfolding shown stored store_ops store_view state_of
+    first_set =
+        ap₂ (λ (live n : ℕ). cond (eqb live 0 && not (eqb n 0)) 0 index.entry) able.live_right (finds.as_many ∙ sym all)
+        ∙ sym (first_is (store_view graph) (length vs) (rw all enough_free))
+
+    pub insert_able : Insertable (arrays_of index s) index.alpha first a.beam a.bytes slots scratch
     unfolding store_view
     insert_able =
         let p = able in
@@ -208,7 +234,7 @@ module _ {index : Index} {s₀ s : Slices} {a : Insert} {slots scratch : List �
         record {
           together = record { bytes = passed_bytes p; rows = passed_rows p; degree_most = p.degree_high };
           dim_least = p.dim_low;
-          entry_in = rw m p.entry_inside;
+          entry_in = rw m first_inside;
           beam_most = beam_most;
           room_in = ltb-false (length slots) count (or_parts (ltb (length slots) count) (not (eqb (length a.numbers) count)) (not_wrong d z)).0;
           free_in = rw m enough_free;
@@ -220,28 +246,22 @@ module _ {index : Index} {s₀ s : Slices} {a : Insert} {slots scratch : List �
     insert_weighed = (passed_weighing able, able.weights_long)
 
     -- of the slices that the batch leaves
-    module _ (s' : Slices) {slots' : List ℕ} {n : ℕ} (b : BatchInserted (arrays_of index s) index.alpha index.entry a.beam a.bytes slots (arrays_of index s') slots' n) where
+    module _ (s' : Slices) {slots' : List ℕ} {n : ℕ}
+        (b : BatchInserted (arrays_of index s) index.alpha first a.beam a.bytes slots (arrays_of index s') slots' n) where
       lm : length s'.marks ≡ length s.marks
       unfolding store_ops store_view
       lm =
           ap (λ (g : Store). (store_view g).sizes.capacity) b.index
-          ∙ ap (λ z. z.capacity) (sizes_after_insert store_ops MarksFit store_marking (index_of index.alpha index.entry (arrays_of index s)) refl a.beam _)
-
-      abbrev graph : Store
-      graph = (state_of index s).graph
+          ∙ ap (λ z. z.capacity) (sizes_after_batch store_ops MarksFit store_marking (index_of index.alpha first (arrays_of index s)) refl a.beam _)
 
       abbrev graph' : Store
-      graph' = record { arrays = arrays_of index s'; capacity = index.capacity; alpha = index.alpha; entry = index.entry }
+      graph' = record { arrays = arrays_of index s'; capacity = index.capacity; alpha = index.alpha; entry = first }
 
-      abbrev vs : List (List ℕ)
-      vs = vectors_of index.dim a.bytes
-
-      graph_is : graph' ≡ insert_batch store_ops a.beam graph vs
-      unfolding state_of
-      graph_is = inserted_store graph (sym (passed_marks able)) lm b
-
-      all : length vs ≡ count
-      all = simp length-map (length_range 0 count)
+      graph_is : graph' ≡ insert_entering store_ops a.beam graph vs
+      unfolding state_of store_ops insert_entering
+      graph_is =
+          inserted_store (store_ops.enter graph first) (sym (passed_marks able)) lm b
+          ∙ ap (λ (e : ℕ). insert_batch store_ops a.beam (store_ops.enter graph e) vs) first_set
 
       -- as many more are live
       live_is_more : index.live + n ≡ length (live_slots (store_view graph'))
@@ -323,15 +343,15 @@ module _ {index : Index} {s₀ s : Slices} {a : Insert} {slots scratch : List �
         unfolding refusal
         not_refused m h = let g = sym let_on ∙ h in let x : ◌≡◌ {A = ℕ} 0 1 = cc in omega arith
 
-        pub inserts_on : {scratch' : List ℕ} {i : Index} → i ≡ with_live index (index.live + n)
+        pub inserts_on : {scratch' : List ℕ} {i : Index} → i ≡ with_live (with_first_entry index (length a.numbers)) (index.live + n)
             → Inserts index s a (insert_outputs slots) scratch s₂ (insert_outputs slots') scratch' (Ok (record { index = i; count = n }))
         unfolding perform with_graph inserted_as index_after written state_of stored store_ops store_view room_of call_of slices_of run_refusal
         inserts_on {scratch'} {i} e =
             let numbers = write_numbers filled a.numbers s.numbers in
-            let after : state_of i s₂ ≡ with_graph stored (state_of index s) (insert_batch store_ops a.beam graph vs) numbers =
+            let after : state_of i s₂ ≡ with_graph stored (state_of index s) (insert_entering store_ops a.beam graph vs) numbers =
             ap (λ (j : Index). state_of j s₂) e
             ∙ (λ i. record {
-              graph = record { arrays = left.0 i; capacity = index.capacity; alpha = index.alpha; entry = index.entry };
+              graph = record { arrays = left.0 i; capacity = index.capacity; alpha = index.alpha; entry = first };
               live = live_is_more i;
               guard = guard_of index.guard;
               pool = left.1 i;
@@ -372,5 +392,5 @@ module _ {index : Index} {s : Slices} {a : Insert} {outputs : Outputs} {scratch 
           let p = passed_none index s _ _ e in
           let g = on.graph in
           let vs = vectors_of index.dim a.bytes in
-          let w : state_of new.index s' ≡ with_graph stored on (insert_batch store_ops a.beam g vs) _ = ap (λ x. x.0) (c.meets.does ∙ step_on on asked e) in
+          let w : state_of new.index s' ≡ with_graph stored on (insert_entering store_ops a.beam g vs) _ = ap (λ x. x.0) (c.meets.does ∙ step_on on asked e) in
           (ap (λ x. x.graph.alpha) w ∙ ap (λ z. z.alpha) (sizes_after_insert store_ops MarksFit store_marking g (passed_marks p) a.beam vs), p.alpha_right)

@@ -7,7 +7,7 @@ ghost use Rattle.index.specs.Index.{arrays_of};
 ghost use Rattle.index.specs.Lent.{slices_of, insert_slices_of, SameInsertSlices};
 ghost use Rattle.index.specs.Inner.Deciding.{Decided};
 ghost use Rattle.updating.specs.Insert.{inserting_of, insert_outputs, Inserts};
-ghost use Rattle.updating.specs.Inner.Filling.{insert_wrong, insert_tests, with_live, Labelable, Relabelled};
+ghost use Rattle.updating.specs.Inner.Filling.{insert_wrong, insert_tests, with_first_entry, with_live, Labelable, Relabelled};
 
 use super::Changed;
 use index::refusals::{check_index, scratch_short};
@@ -125,6 +125,17 @@ fn insert_batch(
     insertion::insert_batch(&mut graph, how, asked.bytes, slots, scratch)
 }
 
+// The index that an insert of `n` vectors begins with: where no slot is live, the first that it fills, which is slot 0, becomes the entry.
+fn with_first_entry(index: Index, n: usize) -> Index
+    ensures { result ≡ with_first_entry index n }
+{
+    if index.live == 0 && n != 0 {
+        Index { entry: 0, ..index }
+    } else {
+        index
+    }
+}
+
 // The index with `n` live slots more. By itself, for what the sum asks.
 fn with_more(index: Index, n: u32) -> Index
     requires { index.live + n ≤ 65536 }
@@ -156,12 +167,13 @@ pub fn insert(
     ensures { Inserts index (insert_slices_of slices.old) (inserting_of asked.now) (insert_outputs slots.old) scratch.old (insert_slices_of slices.new) (insert_outputs slots.new) scratch.new result × SameInsertSlices slices.old slices.new }
 {
     check_insert(index, &slices.read(), asked, slots.len(), scratch.len())?;
-    let n = insert_batch(index, slices, asked, slots, scratch) as u32;
+    let begun = with_first_entry(index, asked.numbers.len());
+    let n = insert_batch(begun, slices, asked, slots, scratch) as u32;
     let numbers = &mut *slices.numbers;
     let summary = &mut *slices.summary;
     label(numbers, summary, index.live, slots, asked.numbers);
     Ok(Changed {
-        index: with_more(index, n),
+        index: with_more(begun, n),
         count: n,
     })
 }

@@ -13,3 +13,4 @@ pub mod Seen
 pub mod Same
 pub mod Without
 pub mod Found
+pub mod Alike

@@ -16,6 +16,7 @@ pub enum Slip {
     HighestFree,
     VersionKept,
     EntryKept,
+    EntryOfEmptiedKept,
     TiesByHigherSlot,
     ExpandsLast,
     PlainDifference,
@@ -35,10 +36,11 @@ pub enum Slip {
     NumberBeforeFull,
 }
 
-pub const SLIPS: [Slip; 20] = [
+pub const SLIPS: [Slip; 21] = [
     Slip::HighestFree,
     Slip::VersionKept,
     Slip::EntryKept,
+    Slip::EntryOfEmptiedKept,
     Slip::TiesByHigherSlot,
     Slip::ExpandsLast,
     Slip::PlainDifference,
@@ -144,13 +146,16 @@ impl Model {
 
     // ---- changes
 
-    /// The lowest free slots get the vectors and their numbers.
+    /// The lowest free slots get the vectors and their numbers. Where no slot was live the first of them becomes the entry.
     pub fn insert(&mut self, bytes: &[u8], numbers: &[u32]) -> Vec<u32> {
         let mut free: Vec<u32> = (0..self.slots.len() as u32).filter(|&slot| !self.is_live(slot)).collect();
         if self.slip == Slip::HighestFree {
             free.reverse();
         }
         let got: Vec<u32> = free.into_iter().take(bytes.len() / self.dim).collect();
+        if self.live_slots().is_empty() && self.slip != Slip::EntryOfEmptiedKept {
+            self.entry = got.first().copied().unwrap_or(self.entry);
+        }
         for ((&slot, vector), &number) in got.iter().zip(bytes.chunks(self.dim)).zip(numbers) {
             let slot = &mut self.slots[slot as usize];
             slot.live = true;

@@ -1,5 +1,5 @@
 -- An insert's own tests, the index that it leaves by value, and its numbers. Assumes nothing.
-use Rattle.std.specs.Prelude.{ℕ, ◌*◌, ◌/◌, ◌≤◌, ◌<◌, Bool, not, ◌||◌, List, [], ◌∷◌, ◌≡◌, eqb, ltb, length, take}
+use Rattle.std.specs.Prelude.{ℕ, ◌*◌, ◌/◌, ◌≤◌, ◌<◌, Bool, not, ◌&&◌, ◌||◌, cond, List, [], ◌∷◌, ◌≡◌, eqb, ltb, length, take}
 use Rattle.lists.specs.Lists.{filter, range, elem}
 use Rattle.slots.specs.Sizes.{Slices, limits}
 use Rattle.slots.specs.Scratch.{size_answer}
@@ -24,6 +24,19 @@ insert_tests index s a scratch =
     ∷ (10, ltb (length (filter (λ t. not (is_valid s.marks t)) (range 0 index.capacity))) n)
     ∷ (15, taken s.numbers a.numbers)
     ∷ []
+
+-- the index that an insert of n vectors begins with: where no slot is live, slot 0 is the first that it fills
+abbrev pub with_first_entry : Index → ℕ → Index
+with_first_entry i n =
+    record {
+      dim = i.dim;
+      capacity = i.capacity;
+      degree = i.degree;
+      alpha = i.alpha;
+      entry = cond (eqb i.live 0 && not (eqb n 0)) 0 i.entry;
+      live = i.live;
+      guard = i.guard;
+    }
 
 -- another live count
 abbrev pub with_live : Index → ℕ → Index
