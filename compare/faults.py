@@ -1,7 +1,7 @@
 #!/usr/bin/env python3
 """compare/faults.py [calls] [words]
 
-Puts one fault at a time into a copy of the comparing program, below target/, and says in which call compare/histories.sh finds it, as a table; 40,000 calls at
+Puts one fault at a time into a copy of the comparing program, below target/, and says in which call compare/histories.sh finds it, as a table; 50,000 calls at
 most where not given, seed 1. So it shows what that comparison can see. A fault is put into the Rust, or, since the archive is built of proved code only,
 into what the library's call has left by the time that it is compared. With words only the faults whose name has them. The exit code is 1 if one is not
 found. Run compare/histories.sh first: it builds the library. The whole takes about 20 minutes of CPU time.
@@ -16,6 +16,7 @@ ROOT = os.path.dirname(os.path.dirname(os.path.abspath(__file__)))
 COPY = os.path.join(ROOT, "target", "faults")
 WALK, ROWS, DRIVER = "sorted/src/lib.rs", "sorted/src/mmap_dynamic.rs", "driver.rs"
 CALLS, UPDATES, GUARD = "histories/src/calls.rs", "histories/src/updates.rs", "histories/src/guard.rs"
+SECOND, FINDER = "histories/src/second.rs", "histories/src/finder.rs"
 LIVE = ".filter(|(t, v)| self.is_valid(*t) && self.node_version(*t) == *v)"
 SLOTS = "        let slots = (0..self.meta.capacity)\n"
 OUTGOING = """            for plan in &plans {
@@ -366,6 +367,28 @@ FAULTS += weights_in_rust + after("making", CALLS, MADE, made_weights)
 FAULTS += after("vector", CALLS, VECTOR, written + [("given though 16 is due", "let got = if number == 16 && h.both.rust.is_live(a.slot) { a.own[0] as usize } else { got };")])
 for call, file, place in (("reading", CALLS, READ), ("search", CALLS, SEARCHED), ("insert", UPDATES, INSERTED), ("delete", UPDATES, DELETED), ("guard enable", GUARD, ENABLED), ("guard status", GUARD, STATUS), ("assess", GUARD, ASSESSED), ("guarded delete", GUARD, GUARDED)):
     FAULTS += after(call, file, place, written + overweight + (exchanged if call in ("reading", "search", "insert", "delete") else []))
+# the entry of an index without live slots, and the bytes of dead slots
+ENTERED = "    if b.live_count == 0 && !vectors.is_empty() && fits {\n        b.meta.medoid_id = 0;\n    }\n"
+WALKS = "    b.insert_batch(vectors, beam)\n}\n\n// ---------------------------------------------------------------- printing\n"
+entered_in_rust = [
+    ("entry: not set in an index without live slots", DRIVER, ENTERED, ""),
+    ("entry: set by an insert of no vectors", DRIVER, ENTERED, ENTERED.replace("!vectors.is_empty() && ", "")),
+    ("entry: set by an insert that is turned back", DRIVER, ENTERED, ENTERED.replace(" && fits", "")),
+    ("entry: set where it is dead and others are live", DRIVER, ENTERED, ENTERED.replace("b.live_count == 0", "!b.is_valid(b.meta.medoid_id)")),
+    ("entry: set to the last slot filled", DRIVER, ENTERED, ENTERED.replace("= 0;", "= vectors.len() as u32 - 1;")),
+    ("entry: set after the walks", DRIVER, ENTERED + WALKS, ENTERED.replace("        b.meta", "        let filled = b.insert_batch(vectors, beam);\n        b.meta").replace("= 0;", "= 0;\n        return filled;") + WALKS),
+]
+entered_by_library = [
+    ("the entry stays in an index without live slots", "if got == 0 { unsafe { *h.both.words.mut_ptr().add(4) = given[4] } }"),
+    ("the entry is set by no vectors", "if got == 0 && given[5] == 0 { unsafe { *h.both.words.mut_ptr().add(4) = 0 } }"),
+    ("the entry is set though refused", "if got == 10 && given[5] == 0 { unsafe { *h.both.words.mut_ptr().add(4) = 0 } }"),
+]
+second_copy = [
+    ("second copy: bytes of live slots are overwritten", SECOND, "for slot in dead_slots(slices.marks.items()) {", "for slot in 0..slices.marks.len() {"),
+    ("second copy: bytes of live slots are overwritten, and not compared", SECOND, "marks[slot] == 0", "slot < marks.len()"),
+    ("second copy: the call is made on the first copy again", FINDER, "$crate::lent::on_second(&mut once)", "once()"),
+]
+FAULTS += entered_in_rust + after("insert", UPDATES, INSERTED, entered_by_library) + second_copy
 FAULTS += [("delete: numbers taken for slots", UPDATES, "table::named(names, labels.marks, labels.numbers) }", "names.to_vec() }")]
 FAULTS += delete_in_rust + after("delete", UPDATES, DELETED, delete_by_library) + guard_in_rust
 FAULTS += after("guard status", GUARD, STATUS, status_by_library)
@@ -389,7 +412,7 @@ def found(name, env, calls):
 
 
 def main():
-    calls = sys.argv[1] if len(sys.argv) > 1 else "40000"
+    calls = sys.argv[1] if len(sys.argv) > 1 else "50000"
     words = " ".join(sys.argv[2:])
     shutil.rmtree(os.path.join(COPY, "rust"), ignore_errors=True)
     shutil.copytree(os.path.join(ROOT, "compare", "rust"), os.path.join(COPY, "rust"), ignore=shutil.ignore_patterns("target"))

@@ -393,6 +393,8 @@ class List:
         asked = " ".join(["insert", str(beam), str(len(vectors))] + vectors)
         slots = self.oracle.answers([asked])[0].split()[1:]
         self.oracle.call(asked)
+        if vectors and not b.live:
+            b.entry = 0  # the first slot filled
         b.live, b.marked = b.live + len(vectors), b.marked + len(vectors)
         b.numbers.update(zip(map(int, slots[1:]), self.numbers))
         self.put("insert", beam, 0, *slots)
@@ -678,7 +680,7 @@ def medium(out):
 
 
 def dead_entries(out):
-    """All slots are emptied, and others filled: the entry is dead or taken over."""
+    """All slots are emptied, so that the entry is dead, and others filled: the first of them becomes the entry."""
     for capacity in (1, 2, 6):
         h = History(out, 2, capacity, 1 + capacity // 2, ONE, 4)
         h.make(capacity)
@@ -967,7 +969,7 @@ def overweighted(out):
 
 
 def small_shelf(out):
-    """Document 01's: 6 into the shelf, and then 1 is deleted; 7 into it with every slot emptied, and the entry stays dead."""
+    """Document 01's: 6 into the shelf, and then 1 is deleted; 7 into it with every slot emptied, and slot 0 becomes the entry."""
     for emptied, value, then in (([], 6, [1]), ([0, 1, 2], 7, [])):
         out.begin([1, 4, 2], ONE, 1, [[0], [3], [10]], [[1, BLANK], [0, 2], [1, BLANK]], [30, 10, 20], [1])
         for call in (lambda: out.delete(2, 1, emptied), lambda: out.insert(2, [value]), lambda: out.delete(2, 1, then)):

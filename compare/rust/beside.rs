@@ -109,7 +109,7 @@ fn built(dim: usize, capacity: usize, degree: usize, alpha: f32, cloud: &Cloud, 
     let vectors: Vec<Vec<u8>> = (0..capacity).map(|_| cloud.draw(rng)).collect();
     let mut book = make(dim, capacity, degree, alpha, 0, &vectors[..1], &[vec![]], Sq::default()).unwrap();
     for chunk in vectors[1..].chunks(256) {
-        book.insert_batch(chunk.to_vec(), 64).unwrap();
+        insert_batch(&mut book, chunk.to_vec(), 64).unwrap();
     }
     book
 }

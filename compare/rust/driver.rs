@@ -133,6 +133,22 @@ where
     made
 }
 
+// ---------------------------------------------------------------- inserting
+
+/// Every insert goes through here. One that fills a slot of a book without live slots makes the first slot that it fills, which is slot 0, the entry
+/// before any walk (E5); one of no vectors, and one that is turned back, leave it. The Rust by itself keeps the dead entry (docs/DIFFERENCES.md, R-15): its
+/// source stays as it is, and only the entry is written here, before its own insert.
+pub(crate) fn insert_batch<D>(b: &mut Book<D>, vectors: Vec<Vec<u8>>, beam: usize) -> Result<Vec<u32>, DiskAnnError>
+where
+    D: Distance<u8> + Send + Sync + Copy + Clone + 'static,
+{
+    let fits = vectors.len() <= b.meta.capacity && vectors.iter().all(|v| v.len() == b.meta.dim);
+    if b.live_count == 0 && !vectors.is_empty() && fits {
+        b.meta.medoid_id = 0;
+    }
+    b.insert_batch(vectors, beam)
+}
+
 // ---------------------------------------------------------------- printing
 
 fn list(v: &[u32]) -> String {
@@ -365,7 +381,7 @@ impl<'a> Words<'a> {
 struct Driver {
     book: Option<Book<Sq>>,
     weights: Option<&'static [u8]>,
-    e5: bool,
+    kept: bool, // an insert into a book without live slots leaves the entry, as the Rust does
     auto: u8, // 0 nothing, 1 digest, 2 dump, 3 shelf; after each call
 }
 
@@ -401,7 +417,7 @@ impl Driver {
                 "ok".to_string()
             }
             "e5" => {
-                self.e5 = w.word()? == "on";
+                self.kept = w.word()? == "off";
                 "ok".to_string()
             }
             "auto" => {
@@ -468,17 +484,9 @@ impl Driver {
                 let n: usize = w.num()?;
                 let vectors = (0..n).map(|_| w.vector()).collect::<Result<Vec<_>, _>>()?;
                 w.end()?;
-                let e5 = self.e5;
+                let kept = self.kept;
                 let b = self.book()?;
-                if e5
-                    && b.live_count == 0
-                    && n > 0
-                    && n <= b.meta.capacity
-                    && vectors.iter().all(|v| v.len() == b.meta.dim)
-                {
-                    b.meta.medoid_id = 0;
-                }
-                match b.insert_batch(vectors, beam) {
+                match if kept { b.insert_batch(vectors, beam) } else { insert_batch(b, vectors, beam) } {
                     Ok(slots) => {
                         let mut s = format!("slots {}", slots.len());
                         for x in slots {
@@ -857,7 +865,7 @@ where
     let mut mark_last = mark0;
     let mut next_note = 4;
     for chunk in vectors[given..].chunks(batch) {
-        book.insert_batch(chunk.to_vec(), ibeam).unwrap();
+        insert_batch(&mut book, chunk.to_vec(), ibeam).unwrap();
         done += chunk.len();
         let quarter = (cap - given) * (next_note - 3) / 4;
         if done >= quarter && next_note < 8 {

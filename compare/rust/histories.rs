@@ -64,7 +64,7 @@ impl Rust {
         self.0.search_with_dists(query, k, beam)
     }
     pub fn insert(&mut self, vectors: Vec<Vec<u8>>, beam: usize) -> Result<Vec<u32>, String> {
-        self.0.insert_batch(vectors, beam).map_err(|e| error(&e))
+        insert_batch(&mut self.0, vectors, beam).map_err(|e| error(&e))
     }
     pub fn delete(&mut self, ids: &[u32], beam: usize, degree: usize) -> Vec<[u32; 4]> {
         self.0.delete_batch(ids, beam, degree).iter().map(counts).collect()

@@ -3,6 +3,7 @@
 use crate::draw;
 use crate::finder;
 use crate::lent::{Lent, Piece, Rng};
+use crate::second::Second;
 use crate::table::{self, BLANK, Given, Labels, Lengths, Words};
 use diskann_sorted::histories::{Rust, Stored};
 
@@ -104,6 +105,8 @@ pub struct Both {
     pub values: Vec<u8>,
     /// Distances must not be equal: the Rust is the one as published.
     pub apart: bool,
+    /// The second copy of the library's words and slices.
+    pub second: Second,
 }
 
 impl Both {
@@ -120,7 +123,7 @@ impl Both {
         words.expect(&[s[0], s[1], s[2], alpha.to_bits(), entry, count, 0, 0, 0, 0, 0, 0]);
         assert!(slices.pieces().into_iter().all(|(_, piece)| piece.difference().is_none()) && words.difference().is_none());
         let rust = Rust::make(s[0] as usize, s[1] as usize, s[2] as usize, alpha, entry, bytes, rows, &weights).unwrap();
-        Both { rust, words, slices, values: vec![0, 1], apart: false }
+        Both { rust, words, slices, values: vec![0, 1], apart: false, second: Second::none(rng.0) }
     }
     pub fn words(&self) -> Words {
         self.words.items().try_into().unwrap()
@@ -139,8 +142,9 @@ impl Both {
         self.rust.put_guard((w[6] != 0).then(|| ([w[7], w[8], w[9], w[10]], self.slices.pool.items()[..w[11] as usize].to_vec())));
     }
 
-    /// Stored state that no call leaves, but that passes row 6, written on both sides.
+    /// Stored state that no call leaves, but that passes row 6, written on both sides. From then on there is no second copy.
     pub fn by_hand(&mut self, rng: &mut Rng) {
+        self.second.keep(false);
         let [dim, capacity, degree, ..] = self.words();
         for _ in 0..1 + rng.below(2 * capacity.min(30)) {
             let slot = rng.below(capacity);

@@ -4,7 +4,8 @@ use crate::both::{Both, Slices};
 use crate::draw;
 use crate::finder::{self, call};
 use crate::guard;
-use crate::lent::{BORDER, Lent, Piece, Rng};
+use crate::lent::{BORDER, Lent, Piece, Rng, on_second};
+use crate::second::put_back;
 use crate::table::{self, BLANK, Given, Lengths, Words};
 use crate::ties;
 use crate::updates;
@@ -15,6 +16,8 @@ pub struct History {
     pub rng: Rng,
     pub both: Both,
     pub scratch: Lent<u32>,
+    /// The index is often emptied, and filled again.
+    pub emptied: bool,
     /// How often what a run must meet was met, in calls that were carried out.
     pub met: BTreeMap<String, u64>,
 }
@@ -82,19 +85,38 @@ fn compare(expected: u64, got: u64, pieces: Vec<(&str, &mut dyn Piece)>) -> Vec<
     answer.into_iter().chain(pieces.into_iter().filter_map(differs)).collect()
 }
 
+/// The same of the second copy, where the call was made on that too.
+fn compare_second(expected: u64, got: Option<u64>, pieces: &mut [(&str, &mut dyn Piece)]) -> Vec<String> {
+    let Some(got) = got else { return vec![] };
+    let answer = (expected != got).then(|| format!("answer on the second copy: expected {expected} got {got}"));
+    let differs = |(name, piece): &mut (&str, &mut dyn Piece)| piece.second_difference().map(|what| format!("{name}, second copy: {what}"));
+    answer.into_iter().chain(pieces.iter_mut().filter_map(differs)).collect()
+}
+
 /// `call` tells the call and its arguments.
 fn outcome(number: u32, differences: Vec<String>, call: impl FnOnce() -> String) -> Outcome {
     Outcome { number, differs: (!differences.is_empty()).then(|| format!("{}\n  {}", call(), differences.join("\n  "))) }
 }
 
+/// Which kind of call comes next, by the weights. Where indexes are emptied often, half of all are a delete where something is live, else an insert.
+pub fn next_kind(h: &mut History) -> usize {
+    if h.emptied && h.rng.one_in(2) {
+        let deletes = ["delete", "delete", "delete numbers", "delete numbers", "guarded", "guarded numbers"];
+        let name = if h.both.words()[5] == 0 { "insert" } else { h.rng.pick(&deletes) };
+        return KINDS.iter().position(|kind| kind.name == name).unwrap();
+    }
+    let mut at = h.rng.below(KINDS.iter().map(|kind| kind.weight).sum());
+    KINDS.iter().position(|kind| at < kind.weight || { at -= kind.weight; false }).unwrap()
+}
+
 /// A history begins with an index of one slot.
-pub fn begin(seed: u64, apart: bool) -> History {
-    assert_eq!(unsafe { finder::finder_version() }, 30_000);
+pub fn begin(seed: u64, apart: bool, emptied: bool) -> History {
+    assert_eq!(unsafe { finder::finder_version() }, 30_100);
     let mut rng = Rng(seed);
     let mut both = Both::made([1, 1, 1], 1.0, 0, &[], &[], &mut rng);
     both.apart = apart;
     let scratch = Lent::junk(table::scratch_words(1) as usize + 64, &mut rng);
-    History { rng, both, scratch, met: BTreeMap::new() }
+    History { rng, both, scratch, emptied, met: BTreeMap::new() }
 }
 
 // ---- the size answer and making
@@ -193,6 +215,7 @@ impl Making {
 
 fn making(h: &mut History) -> Outcome {
     let Making { sizes: s, alpha, entry, count, values, bytes, rows, numbers, weights, mut fresh, lent } = Making::draw(&mut h.rng, &h.both);
+    let own = fresh.is_none();
     let (slices, words) = match &mut fresh {
         Some((slices, words)) => (slices, words),
         None => (&mut h.both.slices, &mut h.both.words),
@@ -217,10 +240,18 @@ fn making(h: &mut History) -> Outcome {
     let (mut bytes, mut lent_rows) = (Lent::of(&bytes, &mut h.rng), Lent::of(&rows, &mut h.rng));
     let (mut lent_numbers, mut lent_weights) = (Lent::of(&numbers, &mut h.rng), Lent::of(&weights, &mut h.rng));
     let got = slices.create(words, lent, &given, &bytes, &lent_rows, &lent_numbers, &lent_weights);
+    // on the second copy too, but where that is not kept and not made either
+    let twice = number == 0 || !own || h.both.second.is_kept();
+    h.both.second.answered(twice.then(|| on_second(|| slices.create(words, lent, &given, &bytes, &lent_rows, &lent_numbers, &lent_weights) as u64)));
+    if own && number != 0 {
+        let marks = slices.marks.items().to_vec();
+        put_back(slices, &marks);
+    }
     let mut pieces = slices.pieces();
     pieces.extend([("index", words as &mut dyn Piece), ("bytes", &mut bytes), ("rows", &mut lent_rows)]);
     pieces.extend([("numbers given", &mut lent_numbers as &mut dyn Piece), ("weights given", &mut lent_weights)]);
-    let mut differences = compare(number as u64, got as u64, pieces);
+    let mut differences = compare_second(number as u64, h.both.second.take_answer(number), &mut pieces);
+    differences.extend(compare(number as u64, got as u64, pieces));
     differences.extend(odd);
     let outcome = outcome(number, differences, || {
         let small = bytes.len() + rows.len() + numbers.len() <= 1_024;
@@ -236,7 +267,9 @@ fn making(h: &mut History) -> Outcome {
             (h.both.slices, h.both.words) = (slices, words);
             h.scratch = Lent::junk(table::scratch_words(s[1]) as usize + 64, &mut h.rng);
         }
+        h.both.second.keep(true);
     }
+    h.both.second.spread(&mut h.both.slices);
     outcome
 }
 
@@ -333,6 +366,10 @@ impl Asked {
         b.words.put(&w);
         Asked { lent, own, labels, weights, changes: false, slot, place }
     }
+    /// Whether the index has no live slot.
+    pub fn is_empty(&self) -> bool {
+        self.own[5] == 0
+    }
     /// Puts the index's own words back, and what of its slices was made to break rows 6 and 16.
     fn put_back(&self, b: &mut Both) {
         b.words.put(&self.own);
@@ -358,15 +395,19 @@ impl Asked {
     }
     /// Compares the index, its slices and the other pieces, and puts the index's own words back unless the call changed them. `call` tells the call.
     pub fn settle(self, b: &mut Both, number: u32, answers: (u64, u64), more: Vec<(&str, &mut dyn Piece)>, call: String) -> Outcome {
+        let marks = self.labels.as_ref().map_or_else(|| b.slices.marks.items().to_vec(), |own| own.0.clone());
+        put_back(&mut b.slices, &marks);
         let mut pieces = b.slices.pieces();
         pieces.push(("index", &mut b.words));
         pieces.extend(more.into_iter().map(|(name, piece)| (name, piece as &mut dyn Piece)));
-        let differences = compare(answers.0, answers.1, pieces);
+        let mut differences = compare_second(answers.0, b.second.take_answer(number), &mut pieces);
+        differences.extend(compare(answers.0, answers.1, pieces));
         let outcome = outcome(number, differences, || format!("{call}, lengths of the slices {:?}\n  {}", self.lent, b.text()));
         if !self.changes {
             self.put_back(b);
             b.adopt();
         }
+        b.second.spread(&mut b.slices);
         outcome
     }
 }

@@ -196,6 +196,21 @@ pub fn names(l: &Labels, rng: &mut Rng) -> Vec<u32> {
     (0..count).map(|_| name(rng)).collect()
 }
 
+/// The slots of all that are live, or all but one, at most as many as a delete may name; by their slots or their numbers.
+pub fn all_live(l: &Labels, by_number: bool, rng: &mut Rng) -> Vec<u32> {
+    let mut slots: Vec<u32> = (0..l.marks.len() as u32).filter(|&slot| l.marks[slot as usize] != 0).collect();
+    match rng.below(3) {
+        0 => slots.reverse(),
+        1 => (1..slots.len()).rev().for_each(|i| slots.swap(i, rng.below(i as u32 + 1) as usize)),
+        _ => {}
+    }
+    if rng.one_in(6) {
+        slots.pop();
+    }
+    slots.truncate(256);
+    if by_number { slots.into_iter().map(|slot| l.numbers[slot as usize]).collect() } else { slots }
+}
+
 /// How many landmarks can be chosen before the Rust's choosing takes long.
 pub fn landmarks(index: &Words) -> u32 {
     let each = index[5].max(1) as f64 * (index[0] + 16) as f64 * 2.0;

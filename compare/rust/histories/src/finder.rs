@@ -53,17 +53,22 @@ unsafe extern "C" {
     ) -> u32;
 }
 
-/// Calls a function on the index of a history: its words and slices, of the lengths lent, and what more the function takes.
+/// Calls a function on the index of a history: its words and slices, of the lengths lent, and what more the function takes. Where a second copy of the
+/// index is kept, the call is made on that too.
 macro_rules! call {
-    ($name:ident, $both:expr, $lent:expr $(, $more:expr)*) => {
-        unsafe {
+    ($name:ident, $both:expr, $lent:expr $(, $more:expr)*) => {{
+        let twice = $both.second.is_kept();
+        let mut once = || unsafe {
             let (b, n) = (&mut $both, &$lent);
             $crate::finder::$name(
                 b.words.mut_ptr(), b.slices.vectors.mut_ptr(), n[0], b.slices.targets.mut_ptr(), n[1], b.slices.edges.mut_ptr(), n[2],
                 b.slices.versions.mut_ptr(), n[3], b.slices.marks.mut_ptr(), n[4], b.slices.pool.mut_ptr(), n[5], b.slices.numbers.mut_ptr(), n[6],
                 b.slices.summary.mut_ptr(), n[7], b.slices.weights.mut_ptr(), n[8], $($more),*
             )
-        }
-    };
+        };
+        let (got, again) = (once(), twice.then(|| $crate::lent::on_second(&mut once)));
+        $both.second.answered(again.map(|answer| answer as u64));
+        got
+    }};
 }
 pub(crate) use call;

@@ -1,4 +1,6 @@
-//! Memory that is lent to the library, each piece beside a copy of what it should hold after the call, and random numbers.
+//! Memory that is lent to the library, each piece beside a copy of what it should hold after the call, and random numbers. Each piece is there twice, so
+//! that a call can be made on a second copy of all memory (second.rs).
+use std::sync::atomic::{AtomicBool, Ordering};
 
 /// Items before and behind every piece that no call may change. So a length that is too long by as much can be given. An odd number, so that pieces
 /// lie at addresses that are aligned for their items and no more.
@@ -47,6 +49,18 @@ item!(u8 u16 u32);
 pub struct Lent<T> {
     have: Vec<T>,
     want: Vec<T>,
+    second: Vec<T>,
+}
+
+/// Whether it is the second copy that is lent to be written.
+static SECOND: AtomicBool = AtomicBool::new(false);
+
+/// Makes a call on the second copy.
+pub fn on_second<R>(call: impl FnOnce() -> R) -> R {
+    SECOND.store(true, Ordering::Relaxed);
+    let answer = call();
+    SECOND.store(false, Ordering::Relaxed);
+    answer
 }
 
 impl<T: Item> Lent<T> {
@@ -54,12 +68,13 @@ impl<T: Item> Lent<T> {
     pub fn junk(len: usize, rng: &mut Rng) -> Self {
         let word = |rng: &mut Rng| if rng.one_in(2) { rng.pick(&[0, 1, 2, u64::MAX]) } else { rng.next() };
         let have: Vec<T> = (0..len + 2 * BORDER).map(|_| T::cut(word(rng))).collect();
-        Lent { want: have.clone(), have }
+        Lent { want: have.clone(), second: have.clone(), have }
     }
     pub fn of(items: &[T], rng: &mut Rng) -> Self {
         let mut piece = Self::junk(0, rng);
         piece.have.splice(BORDER..BORDER, items.iter().copied());
         piece.want.clone_from(&piece.have);
+        piece.second.clone_from(&piece.have);
         piece
     }
     pub fn len(&self) -> usize {
@@ -69,7 +84,8 @@ impl<T: Item> Lent<T> {
         unsafe { self.have.as_ptr().add(BORDER) }
     }
     pub fn mut_ptr(&mut self) -> *mut T {
-        unsafe { self.have.as_mut_ptr().add(BORDER) }
+        let lent = if SECOND.load(Ordering::Relaxed) { &mut self.second } else { &mut self.have };
+        unsafe { lent.as_mut_ptr().add(BORDER) }
     }
     /// What the piece should hold.
     pub fn items(&self) -> &[T] {
@@ -87,15 +103,27 @@ impl<T: Item> Lent<T> {
     pub fn put(&mut self, items: &[T]) {
         self.expect(items);
         self.have[BORDER..BORDER + items.len()].copy_from_slice(items);
+        self.put_second(0, items);
     }
     /// Writes one item before the call.
     pub fn put_at(&mut self, place: usize, item: T) {
         self.want[BORDER + place] = item;
         self.have[BORDER + place] = item;
+        self.second[BORDER + place] = item;
+    }
+    /// Writes items of the second copy alone, from a place on.
+    pub fn put_second(&mut self, place: usize, items: &[T]) {
+        self.second[BORDER + place..BORDER + place + items.len()].copy_from_slice(items);
+    }
+    /// Puts items of the second copy back to what they should be, from a place on.
+    pub fn put_back_second(&mut self, place: usize, count: usize) {
+        let these = BORDER + place..BORDER + place + count;
+        self.second[these.clone()].copy_from_slice(&self.want[these]);
     }
     /// The first items may be anything after the call.
     pub fn accept(&mut self, count: usize) {
         self.want[BORDER..BORDER + count].copy_from_slice(&self.have[BORDER..BORDER + count]);
+        self.put_back_second(0, count);
     }
     pub fn text(&self) -> String {
         self.items().iter().map(|x| x.to_string()).collect::<Vec<_>>().join(",")
@@ -106,17 +134,26 @@ impl<T: Item> Lent<T> {
 pub trait Piece {
     /// Where it first differs from what it should hold, if it does; it is then set right, so that later calls that differ do so by themselves.
     fn difference(&mut self) -> Option<String>;
+    /// The same of the second copy.
+    fn second_difference(&mut self) -> Option<String>;
 }
 
 impl<T: Item> Piece for Lent<T> {
     fn difference(&mut self) -> Option<String> {
-        if self.have == self.want {
-            return None;
-        }
-        let places: Vec<usize> = (0..self.have.len()).filter(|&i| self.have[i] != self.want[i]).collect();
-        let i = places[0];
-        let said = format!("place {} expected {} got {} ({} places differ)", i as i64 - BORDER as i64, self.want[i], self.have[i], places.len());
-        self.have.copy_from_slice(&self.want);
-        Some(said)
+        set_right(&mut self.have, &self.want)
     }
+    fn second_difference(&mut self) -> Option<String> {
+        set_right(&mut self.second, &self.want)
+    }
+}
+
+fn set_right<T: Item>(have: &mut [T], want: &[T]) -> Option<String> {
+    if have == want {
+        return None;
+    }
+    let places: Vec<usize> = (0..have.len()).filter(|&i| have[i] != want[i]).collect();
+    let i = places[0];
+    let said = format!("place {} expected {} got {} ({} places differ)", i as i64 - BORDER as i64, want[i], have[i], places.len());
+    have.copy_from_slice(want);
+    Some(said)
 }

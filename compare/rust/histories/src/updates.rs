@@ -83,6 +83,9 @@ pub fn insert(h: &mut History) -> Outcome {
     if number == 0 && h.both.apart && ties::in_insert(&h.both, bytes.items()) {
         return a.leave_out(&mut h.both);
     }
+    if a.is_empty() {
+        meet_empty(h, number, bytes.len() / dim);
+    }
     if number == 0 {
         a.changes = true;
         h.both.adopt();
@@ -136,9 +139,13 @@ pub struct Delete {
 
 impl Delete {
     pub fn draw(h: &mut History, a: &Asked, naming: Naming) -> Delete {
-        let (rng, labels) = (&mut h.rng, h.both.slices.labels());
+        let (emptied, rng, labels) = (h.emptied, &mut h.rng, h.both.slices.labels());
         let faults: Vec<u32> = (0..rng.pick(&[0, 0, 0, 0, 0, 1, 1, 2])).map(|_| rng.below(5)).collect();
-        let mut names = if naming == Naming::Slots { draw::ids(labels.marks, rng) } else { draw::names(&labels, rng) };
+        let mut names = match naming {
+            _ if emptied && !rng.one_in(3) => draw::all_live(&labels, naming == Naming::Numbers, rng),
+            Naming::Slots => draw::ids(labels.marks, rng),
+            Naming::Numbers => draw::names(&labels, rng),
+        };
         if faults.contains(&0) {
             // at times of nothing that is live
             let (many, zeros) = (257 + rng.below(3) as usize, rng.one_in(3));
@@ -242,6 +249,23 @@ fn meet_numbers(h: &mut History, given: &[u32]) {
         given.iter().any(|&number| number <= h.both.capacity()).then_some("numbers that are slots too"),
     ];
     met.into_iter().flatten().for_each(|what| h.meet(format!("insert, {what}")));
+}
+
+/// Notes an insert into an index without live slots, carried out or not.
+fn meet_empty(h: &mut History, number: u32, count: usize) {
+    let entry = h.both.rust.entry();
+    let met = [
+        Some("in all".to_string()),
+        (number != 0).then(|| format!("refused {number}")),
+        (number == 0 && count == 0).then(|| "no vectors".to_string()),
+        (number == 0 && count > 0).then(|| "carried out".to_string()),
+        (number == 0 && count > 1).then(|| "carried out, several vectors".to_string()),
+        (number == 0 && count > 256).then(|| "carried out, more than a chunk".to_string()),
+        (number == 0 && count > 0 && entry != 0).then(|| "carried out, slot 0 was not the entry".to_string()),
+        (number == 0 && count == 0 && entry != 0).then(|| "no vectors, slot 0 was not the entry".to_string()),
+        (number != 0 && entry != 0).then(|| "refused, slot 0 was not the entry".to_string()),
+    ];
+    met.into_iter().flatten().for_each(|what| h.meet(format!("insert into an index without live slots, {what}")));
 }
 
 /// Notes what an insert that is carried out meets.
