@@ -2,8 +2,8 @@
 """Prints README's two reading tables. With --write puts them into README, and the number of lines of the first into docs/CLAIMS.md; with --check fails
 where these have other ones.
 
-The first has the definitions that the theorems for the three demands, on figure numbers, pruning, weights and sums rest on. It begins with their statements and
-the `ensures` lines of the functions for C, and follows each name through the imports; so it is closed, and a definition reached in a file of no row fails. It does
+The first has the definitions that the theorems for the three demands, on figure numbers, pruning, weights, sums and an emptied index rest on. It begins with
+their statements and the `ensures` lines of the functions for C, and follows each name through the imports; so it is closed, and a definition reached in a file of no row fails. It does
 not follow a function's contract where the function's constructor of `Exported` has it as premise; a constructor that has another one, or belongs to no function,
 fails. (Two functions have the constructor of another one: SAME.) For the sums README names the one `ensures` line that counts, that of `lane_sums`. The second table
 has all other files of definitions. Lines without blank ones, comments and imports.
@@ -23,6 +23,7 @@ STATEMENTS = [
     ("exported/specs/History", "ExportedHistory"),
     ("calls/specs/Labelled", "FigureNumbers"), ("calls/specs/FromPool", "FromPool"), ("calls/specs/Weighted", "Weighted"),
     ("distances/specs/Lanes", "FourSums"), ("distances/specs/Lanes", "Lanes"),
+    ("calls/specs/Entered", "AlwaysEntryLive"), ("calls/specs/DeadBytes", "DeadBytes"),
 ]
 # the functions whose runs are those of another's constructor: a delete that names numbers
 SAME = {"finder_delete_numbers": "finder_delete", "finder_guarded_delete_numbers": "finder_guarded_delete"}
@@ -38,6 +39,7 @@ ROWS = [
     ("pruning selects nothing outside the list that it is given", "calls/specs/FromPool"),
     ("weights: what holds of the distance, and that weights of 1 change nothing", "vectors/specs/Weights calls/specs/Weighted"),
     ("the four running sums of a distance", "distances/specs/Lanes"),
+    ("an index that was emptied: where the entry is, and what no call can tell", "calls/specs/Entered calls/specs/DeadBytes"),
     ("functions on lists", "lists/specs/Lists"),
 ]
 BESIDES = [
