@@ -3,7 +3,8 @@ use Prim.Native.Nat.{ℕ, ◌+◌, ◌*◌, ◌≤◌, ◌<◌}
 use mathlib.Core.Path.{◌≡◌, refl, ap, ◌∙◌}
 use mathlib.Core.List.{List, [], ◌∷◌, ◌++◌, append_assoc, append-nil}
 use native.Mathlib.Omega.{arith}
-use lib.ListN.{length}
+use lib.ListN.{length, drop, set}
+use Rattle.std.proofs.lemmas.List.{drop-set-lt}
 use lib.Ieee.{Float}
 use Rattle.lists.proofs.All.{all_append}
 use Rattle.lists.proofs.Parts.{fits_in}
@@ -29,10 +30,11 @@ pub record Scoring (a : Arrays) (s : ℕ) (w₀ : List ℕ) (w : List ℕ) (n pl
   pub bound : place ≤ a.degree
   pub small : Small (cands w 0 n)
   pub size : length w ≡ length w₀
+  pub same : drop (2 * a.degree) w ≡ drop (2 * a.degree) w₀
 
 pub scoring_none : (a : Arrays) (s : ℕ) (w : List ℕ) → Scoring a s w w 0 0
 unfolding cands
-scoring_none a s w = record { goes = refl; few = omega arith; bound = omega arith; small = tt; size = refl }
+scoring_none a s w = record { goes = refl; few = omega arith; bound = omega arith; small = tt; size = refl; same = refl }
 
 view_scored : (a : Arrays) (s : ℕ) (alpha : Float) (entry : ℕ) → scored (between a s) (live_from a s 0) ≡ live_scored (store_view (index_of alpha entry a)) s
 unfolding slot_distance space store_view vector_of
@@ -54,6 +56,7 @@ module _ {a : Arrays} {s : ℕ} {w₀ : List ℕ} {w : List ℕ} {n place : ℕ}
           bound = omega arith;
           small = rw p (all_append (λ x. x.dist ≤ 16777216) (cands w 0 n) (pair d t ∷ []) f.small (omega (arith, m.bound), tt));
           size = put_length w (2 * n) d t ∙ f.size;
+          same = drop-set-lt (2 * a.degree) (set w (2 * n) d) (2 * n + 1) t (omega (arith, f.few)) ∙ drop-set-lt (2 * a.degree) w (2 * n) d (omega (arith, f.few)) ∙ f.same;
         }
 
     pub scoring_dead : r ≡ None → Scoring a s w₀ w n (place + 1)
@@ -64,13 +67,16 @@ module _ {a : Arrays} {s : ℕ} {w₀ : List ℕ} {w : List ℕ} {n place : ℕ}
           bound = omega arith;
           small = f.small;
           size = f.size;
+          same = f.same;
         }
 
-  pub scoring_done : a.degree ≤ place → LiveScored a s n w
+  pub scoring_done : a.degree ≤ place → LiveScored a s n w × (drop (2 * a.degree) w ≡ drop (2 * a.degree) w₀)
   scoring_done h =
-      let e : cands w 0 n ≡ scored (between a s) (live_from a s 0) = rw (live_from_end a s place h, append-nil) at f.goes in
-      record {
-        list = λ alpha entry. e ∙ view_scored a s alpha entry;
-        few = omega (arith, f.few, f.bound);
-        small = f.small;
-      }
+      let e : cands w 0 n ≡ scored (between a s) (live_from a s 0) = rw (live_from_end a s place h, append-nil) at f.goes in (
+        record {
+          list = λ alpha entry. e ∙ view_scored a s alpha entry;
+          few = omega (arith, f.few, f.bound);
+          small = f.small;
+        },
+        f.same,
+      )

@@ -6,4 +6,4 @@ pub live_scored-n-requires : goal.live_scored-n-requires
 live_scored-n-requires c = taking_asks c.loop-k.invariant c.requires.0 c.requires.1 (omega arith) c.id_at-s.ensures
 
 pub loop-k-preserved : goal.loop-k-preserved
-loop-k-preserved c = taking_more c.loop-k.invariant c.requires.0 c.requires.1 (omega arith) c.id_at-s.ensures _ c.live_scored-n.auto.list c.live_scored-n.ensures
+loop-k-preserved c = taking_more c.loop-k.invariant c.requires.0 c.requires.1 (omega arith) c.id_at-s.ensures _ c.live_scored-n.auto.list c.live_scored-n.ensures.0

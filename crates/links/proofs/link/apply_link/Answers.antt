@@ -5,7 +5,7 @@ use Rattle.links.proofs.link.apply_link.Goals as goal
 
 pub write_pruned-requires : goal.write_pruned-requires
 write_pruned-requires c =
-    let n = rw c.graph-graph.ensures at c.live_scored-n.ensures in
+    let n = rw c.graph-graph.ensures at c.live_scored-n.ensures.0 in
     let parts = c.split_at_mut-list.ensures in
     let long = c.add_target-m.auto.list ∙ c.live_scored-n.auto.list ∙ parts.front_len in
     let room = parts.back_len in
@@ -13,7 +13,7 @@ write_pruned-requires c =
 
 pub returns : goal.returns
 returns c =
-    let n = rw c.graph-graph.ensures at c.live_scored-n.ensures in
+    let n = rw c.graph-graph.ensures at c.live_scored-n.ensures.0 in
     let parts = c.split_at_mut-list.ensures in
     let long = c.add_target-m.auto.list ∙ c.live_scored-n.auto.list ∙ parts.front_len in
     record { does = λ entry. linked_one n c.add_target-m.ensures (omega (arith, long)) c.write_pruned.ensures.0 entry; same = c.write_pruned.ensures.1 }
