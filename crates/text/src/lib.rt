@@ -1,10 +1,9 @@
 // The numbers of a line of text, read from the left and compared with answers.
 #![tactic(auto)]
 
-ghost use Rattle.std.specs.Prelude.{◌≡◌, ◌≢◌, ◌≤◌, ◌++◌, length, slice_index, take, None, Ok, MatchResult, IfOk, IfSome, IsSomeAnd};
-ghost use Rattle.std.specs.Str.Parse.{IsNumeral, digits_value};
+ghost use Rattle.std.specs.Prelude.{◌≡◌, ◌≤◌, ◌∷◌, length, take, None, Ok, MatchResult, IfOk, IfSome, IsSomeAnd};
 ghost use Rattle.text.specs.declared.Differs.TheVariants.{Malformed};
-ghost use Rattle.text.specs.Inner.Text.{Digit, Reads, ReadsAll, Asks, Ended};
+ghost use Rattle.text.specs.Inner.Text.{Follows, Reads, ReadsAll, Asks, Ended};
 
 // How a line differs: it is malformed, it asks for more than there is room for, or its answer is another one.
 #[derive(Clone, Copy, PartialEq, Eq, Debug)]
@@ -14,20 +13,24 @@ pub enum Differs {
     Answer,
 }
 
-// The digits at the start of a text, and what follows them.
-fn digits(text: &[u8]) -> (&[u8], &[u8])
-    ensures { (text.now ≡ result.0.now ++ result.1.now) × (slice_index result.0.now 0 ≢ 43) × ¬ Digit (slice_index result.1.now 0) }
+// The number that a text begins with, and what follows it; none where no digit stands there, or where it is too large. In one pass, since a list is mostly numbers.
+fn leading(text: &[u8]) -> Option<(u32, &[u8])>
+    ensures { IfSome result (λ parts. Follows (32 ∷ text.now) parts.1.now parts.0) }
 {
-    let end = text.iter().position(|byte| !byte.is_ascii_digit());
-    text.split_at(end.unwrap_or(text.len()))
-}
-
-// The value of digits.
-fn value(digits: &[u8]) -> Option<u32>
-    requires { slice_index digits.now 0 ≢ 43 }
-    ensures { IfSome result (λ n. IsNumeral 10 digits.now × (n ≡ digits_value 10 digits.now)) }
-{
-    std::str::from_utf8(digits).ok()?.parse::<u32>().ok()
+    let mut value: u32 = 0;
+    let mut end: usize = 0;
+    for byte in text {
+        if !byte.is_ascii_digit() {
+            break;
+        }
+        let next = u64::from(value) * 10 + u64::from(*byte - b'0');
+        value = u32::try_from(next).ok()?;
+        end += 1;
+    }
+    if end == 0 {
+        return None;
+    }
+    Some((value, &text[end..]))
 }
 
 // A number as one of a smaller type.
@@ -59,8 +62,7 @@ impl<'a> Numbers<'a> {
     {
         let rest = self.rest.take().ok_or(Differs::Malformed)?;
         let text = rest.strip_prefix(b" ").ok_or(Differs::Malformed)?;
-        let (digits, rest) = digits(text);
-        let value = value(digits).ok_or(Differs::Malformed)?;
+        let (value, rest) = leading(text).ok_or(Differs::Malformed)?;
         self.rest = Some(rest);
         Ok(value)
     }
