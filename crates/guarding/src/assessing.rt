@@ -40,7 +40,7 @@ pub fn check_guard(index: Index, scratch: usize) -> Result<Guard, Refusal>
 #[tactic(auto, unfolding(slots::specs::Sizes::limits))]
 fn check_assess(
     index: Index,
-    slices: &Slices<'_>,
+    slices: &Slices<'_, '_>,
     ids: &[u32],
     lists: &Lists<'_>,
     scratch: usize,
@@ -55,10 +55,10 @@ fn check_assess(
 }
 
 // The report, by a guard that is on.
-pub fn report_by(
+pub fn report_by<'a>(
     guard: Guard,
     index: Index,
-    slices: &Slices<'_>,
+    slices: &Slices<'a, 'a>,
     ids: &[u32],
     lists: &mut Lists<'_>,
     scratch: &mut [u32],
@@ -74,9 +74,9 @@ pub fn report_by(
 }
 
 // The report on deleting `ids`; the landmarks checked and those lost are written to the front of two lists.
-pub fn assess_delete(
+pub fn assess_delete<'a>(
     index: Index,
-    slices: &Slices<'_>,
+    slices: &Slices<'a, 'a>,
     ids: &[u32],
     lists: &mut Lists<'_>,
     scratch: &mut [u32],

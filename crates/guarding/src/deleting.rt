@@ -27,7 +27,7 @@ fn outputs_short(room: usize, ids: usize, lists: &Lists<'_>) -> bool
 // The guard, or the first of rows 1, 2, 3, 16, 6, 7, 8 and 11 that turns a guarded delete of slots back.
 fn check_guarded(
     index: Index,
-    slices: &Slices<'_>,
+    slices: &Slices<'_, '_>,
     asked: &Deleting<'_>,
     room: usize,
     lists: &Lists<'_>,

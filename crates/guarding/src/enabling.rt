@@ -33,7 +33,7 @@ fn normalized(config: Config) -> Config
 // Whether one of rows 1, 2, 3, 16, 6, 7, 8, 12 and 13 turns enabling back: the first; the live count decides 12 and 13.
 fn check_enable(
     index: Index,
-    slices: &Slices<'_>,
+    slices: &Slices<'_, '_>,
     config: Config,
     scratch: usize,
 ) -> Result<(), Refusal>

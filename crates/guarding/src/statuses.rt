@@ -13,7 +13,7 @@ use index::refusals::check_index;
 use index::{Guard, Index, Refusal, Slices};
 
 // The status of a guard without a fault.
-pub fn status_of(guard: Option<Guard>, slices: &Slices<'_>) -> Status
+pub fn status_of(guard: Option<Guard>, slices: &Slices<'_, '_>) -> Status
     requires { (guard_fault limits (guard_of guard) ≡ false) × (length slices.now.pool.now ≡ limits.pool) }
     ensures { Stood (guard_of guard) slices.now.marks.now slices.now.pool.now result }
 {
@@ -31,7 +31,7 @@ pub fn status_of(guard: Option<Guard>, slices: &Slices<'_>) -> Status
 }
 
 // The guard's status.
-pub fn guard_status(index: Index, slices: &Slices<'_>) -> Result<Status, Refusal>
+pub fn guard_status(index: Index, slices: &Slices<'_, '_>) -> Result<Status, Refusal>
     ensures { Stands index (slices_of slices.now) result }
 {
     check_index(index, slices, false)?;

@@ -120,7 +120,7 @@ fn guard_bad(guard: Option<Guard>) -> bool
 }
 
 // Row 6: the live count is not that of the marks, the entry is outside, the guard has a fault, or numbers and summary break a rule.
-fn index_bad(index: Index, slices: &Slices<'_>) -> bool
+fn index_bad(index: Index, slices: &Slices<'_, '_>) -> bool
     requires { (length slices.now.numbers.now ≡ length slices.now.marks.now) × (length slices.now.summary.now ≡ length slices.now.marks.now) }
     ensures { result ≡ index_fault index (slices_of slices.now) (length slices.now.marks.now) }
 {
@@ -157,7 +157,7 @@ pub fn check_sizes(
 
 // Turns a call back by the first of rows 1, 2, 3, 16 and 6 that holds. `wrong` is whether the call's own part of row 3 holds: it stands between the index's
 // rows, so what the call found comes in as a value. It chooses no step.
-pub fn check_index(index: Index, slices: &Slices<'_>, wrong: bool) -> Result<(), Refusal>
+pub fn check_index(index: Index, slices: &Slices<'_, '_>, wrong: bool) -> Result<(), Refusal>
     ensures { Decided index (slices_of slices.now) wrong [] result }
 {
     check_sizes(

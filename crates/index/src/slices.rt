@@ -9,10 +9,10 @@ use super::{Index, Lengths};
 use slots::{Graph, Rows};
 use vectors::{Space, Weights};
 
-// To be read.
+// To be read. The vectors have a lifetime of their own: a slot's vector is a part of them, and who holds it may write the others.
 #[derive(Clone, Copy)]
-pub struct Slices<'a> {
-    pub vectors: &'a [u8],
+pub struct Slices<'v, 'a> {
+    pub vectors: &'v [u8],
     pub targets: &'a [u32],
     pub edges: &'a [u16],
     pub versions: &'a [u16],
@@ -95,7 +95,7 @@ pub fn space<'a>(index: Index, vectors: &'a [u8], weights: &'a [u8]) -> Space<'a
     }
 }
 
-impl<'a> Slices<'a> {
+impl<'a> Slices<'a, 'a> {
     ghost use Rattle.vectors.specs.Vector.{Bytes};
     ghost use Rattle.slots.specs.Sizes.{lengths_of};
     ghost use Rattle.slots.specs.Lent.{graph_of};
@@ -145,7 +145,7 @@ impl NewSlices<'_> {
     ghost use Rattle.index.specs.Lent.{slices_of, new_slices_of};
 
     // The same slices, to be read.
-    pub fn read(&self) -> Slices<'_>
+    pub fn read(&self) -> Slices<'_, '_>
         ensures { slices_of result ≡ new_slices_of self.now }
     {
         Slices {
@@ -166,7 +166,7 @@ impl InsertSlices<'_> {
     ghost use Rattle.index.specs.Lent.{slices_of, insert_slices_of};
 
     // The same slices, to be read.
-    pub fn read(&self) -> Slices<'_>
+    pub fn read(&self) -> Slices<'_, '_>
         ensures { slices_of result ≡ insert_slices_of self.now }
     {
         Slices {
@@ -187,7 +187,7 @@ impl DeleteSlices<'_> {
     ghost use Rattle.index.specs.Lent.{slices_of, delete_slices_of};
 
     // The same slices, to be read.
-    pub fn read(&self) -> Slices<'_>
+    pub fn read(&self) -> Slices<'_, '_>
         ensures { slices_of result ≡ delete_slices_of self.now }
     {
         Slices {
@@ -208,7 +208,7 @@ impl EnableSlices<'_> {
     ghost use Rattle.index.specs.Lent.{slices_of, enable_slices_of};
 
     // The same slices, to be read.
-    pub fn read(&self) -> Slices<'_>
+    pub fn read(&self) -> Slices<'_, '_>
         ensures { slices_of result ≡ enable_slices_of self.now }
     {
         Slices {

@@ -63,7 +63,7 @@ impl Arrays<'_> {
     ghost use Rattle.lines.specs.Inner.Lent.{lent_of};
 
     // What is lent of an index that is read.
-    pub fn slices(&self, lent: Lent) -> Slices<'_>
+    pub fn slices(&self, lent: Lent) -> Slices<'_, '_>
         ensures graph { (result.vectors.now ≡ lent_of lent.vectors self.now.vectors.now) × (result.targets.now ≡ lent_of lent.targets self.now.targets.now) × (result.edges.now ≡ lent_of lent.edges self.now.edges.now) × (result.versions.now ≡ lent_of lent.versions self.now.versions.now) × (result.marks.now ≡ lent_of lent.marks self.now.marks.now) }
         ensures beside { (result.pool.now ≡ lent_of lent.pool self.now.pool.now) × (result.numbers.now ≡ lent_of lent.numbers self.now.numbers.now) × (result.summary.now ≡ lent_of lent.summary self.now.summary.now) × (result.weights.now ≡ lent_of lent.weights self.now.weights.now) }
     {

@@ -70,7 +70,7 @@ fn expect_value(line: &mut Numbers<'_>, got: Result<Value, Refusal>) -> Result<(
 }
 
 // Performs a line `read`.
-fn read(line: &mut Numbers<'_>, index: Index, slices: &Slices<'_>) -> Result<(), Differs>
+fn read(line: &mut Numbers<'_>, index: Index, slices: &Slices<'_, '_>) -> Result<(), Differs>
     ensures { IfOk result (λ _. ReadingRead line.old.rest line.new.rest) }
 {
     let what = reading(line.number()?, line.number()?, line.number()?)?;
@@ -92,7 +92,7 @@ fn expect_bytes(line: &mut Numbers<'_>, got: &[u8]) -> Result<(), Differs>
 }
 
 // Performs a line `vector`.
-fn read_vector(line: &mut Numbers<'_>, index: Index, slices: &Slices<'_>) -> Result<(), Differs>
+fn read_vector(line: &mut Numbers<'_>, index: Index, slices: &Slices<'_, '_>) -> Result<(), Differs>
     ensures { IfOk result (λ _. VectorLine line.old.rest line.new.rest) }
 {
     let slot = line.number()?;
@@ -160,10 +160,10 @@ fn expect_found(
 }
 
 // Performs a line `search`.
-fn search(
+fn search<'a>(
     line: &mut Numbers<'_>,
     state: State,
-    slices: &Slices<'_>,
+    slices: &Slices<'a, 'a>,
     scratch: &mut [u32],
 ) -> Result<(), Differs>
     ensures { IfOk result (λ _. SearchRead line.old.rest line.new.rest) }

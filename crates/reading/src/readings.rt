@@ -33,7 +33,7 @@ fn target(graph: &Graph<'_>, s: usize, place: u32) -> Option<u32>
 
 // What is read of an index that no test turns back.
 #[tactic(auto, using(crate::proofs::Shown::target_number), unfolding(crate::specs::Read::reading_of, crate::specs::Read::answer_of, calls::specs::Step::reading, calls::specs::State::stored, slots::specs::Store::store_ops, slots::specs::Store::store_view, index::specs::Index::state_of))]
-fn answer(index: Index, slices: &Slices<'_>, reading: Reading) -> Value
+fn answer(index: Index, slices: &Slices<'_, '_>, reading: Reading) -> Value
     requires bytes { Bytes index.dim (length slices.now.marks.now) slices.now.vectors.now }
     requires weighing { Weighing slices.now.weights.now }
     requires weighted { length slices.now.weights.now ≡ index.dim }
@@ -63,7 +63,7 @@ fn answer(index: Index, slices: &Slices<'_>, reading: Reading) -> Value
 }
 
 // Reads one number.
-pub fn read(index: Index, slices: &Slices<'_>, reading: Reading) -> Result<Value, Refusal>
+pub fn read(index: Index, slices: &Slices<'_, '_>, reading: Reading) -> Result<Value, Refusal>
     ensures { Reads index (slices_of slices.now) reading result }
 {
     check_index(index, slices, false)?;
@@ -71,13 +71,12 @@ pub fn read(index: Index, slices: &Slices<'_>, reading: Reading) -> Result<Value
 }
 
 // The vector of a slot, as that part of the vectors; the empty part where the slot is dead or outside, and where the call is turned back.
-pub fn read_vector<'a>(index: Index, slices: &Slices<'a>, slot: u32) -> &'a [u8]
+pub fn read_vector<'a>(index: Index, slices: &Slices<'a, '_>, slot: u32) -> &'a [u8]
     ensures { GivesVector index (slices_of slices.now) slot slices.now.vectors result }
 {
     let Ok(()) = check_index(index, slices, false) else {
         return &slices.vectors[..0];
     };
-    // A space of its own: `slices.graph(index)` says what its vectors are, not that they are the lent ones, of which the result is a part.
-    let space = index::space(index, slices.vectors, slices.weights);
-    live_vector(&space, slices.marks, slot as usize)
+    let dim = index.dim as usize;
+    live_vector(dim, slices.vectors, slices.marks, slot as usize)
 }

@@ -40,7 +40,7 @@ pub struct Found<'a> {
 // Turns a search back by the first of rows 1, 2, 3, 16, 6, 7 and 8 that holds.
 fn check_search(
     index: Index,
-    slices: &Slices<'_>,
+    slices: &Slices<'_, '_>,
     asked: &Searching<'_>,
     found: &Found<'_>,
     scratch: usize,
@@ -76,9 +76,9 @@ fn show(list: &[u32], slots: &mut [u32], dists: &mut [f32])
 }
 
 // The `k` nearest that the walk from the entry finds: their slots, distances and figure numbers, nearest first. Returns how many they are.
-pub fn search(
+pub fn search<'a>(
     index: Index,
-    slices: &Slices<'_>,
+    slices: &Slices<'a, 'a>,
     asked: &Searching<'_>,
     found: &mut Found<'_>,
     scratch: &mut [u32],

@@ -5,7 +5,7 @@ ghost use Rattle.vectors.specs.Vector.{Bytes};
 ghost use Rattle.slots.specs.Store.{is_valid};
 ghost use Rattle.slots.specs.Inner.Rows.{LiveVector};
 
-use vectors::Space;
+use vectors::vector;
 
 // Whether slot `s` is live; a slot outside is not.
 pub fn is_valid(marks: &[u8], s: usize) -> bool
@@ -38,12 +38,12 @@ pub fn count_valid(marks: &[u8]) -> usize
 }
 
 // The vector of slot `s` as that part of the lent bytes; the empty part for a slot that is dead or outside.
-pub fn live_vector<'a>(space: &Space<'a>, marks: &[u8], s: usize) -> &'a [u8]
-    requires { Bytes space.now.dim (length marks.now) space.now.vectors.now }
-    ensures { LiveVector space.now.dim space.now.vectors marks.now s result }
+pub fn live_vector<'a>(dim: usize, vectors: &'a [u8], marks: &[u8], s: usize) -> &'a [u8]
+    requires { Bytes dim (length marks.now) vectors.now }
+    ensures { LiveVector dim vectors.entry marks.now s result }
 {
     if is_valid(marks, s) {
-        return space.vector(s);
+        return vector(dim, vectors, s);
     }
-    &space.vectors[..0]
+    &vectors[..0]
 }

@@ -41,7 +41,7 @@ pub fn delete_over(asked: &Deleting<'_>) -> bool
 // Whether one of rows 1, 2, 3, 16, 6, 7 and 8 turns a delete of slots back: the first. `room` is the length of the list for its stats.
 fn check_delete(
     index: Index,
-    slices: &Slices<'_>,
+    slices: &Slices<'_, '_>,
     asked: &Deleting<'_>,
     room: usize,
     scratch: usize,

@@ -59,7 +59,7 @@ fn taken(labels: &Labels<'_>, given: &[u32]) -> bool
 // Whether one of rows 1, 2, 3, 16, 6, 7, 8, 9, 10 and 15 turns an insert back: the first.
 fn check_insert(
     index: Index,
-    slices: &Slices<'_>,
+    slices: &Slices<'_, '_>,
     asked: &Inserting<'_>,
     slots: usize,
     scratch: usize,

@@ -22,7 +22,7 @@ pub enum Naming {
 // there are more numbers than a delete may name, the names stand for slots: that test, or 7, turns the delete back.
 pub fn by_slots<'a>(
     index: Index,
-    slices: &Slices<'_>,
+    slices: &Slices<'_, '_>,
     asked: Deleting<'a>,
     slots: &'a mut [u32],
 ) -> Deleting<'a>

@@ -1,7 +1,8 @@
 // The vectors of all slots, and the weights that they are measured with. The distances in code are the crate `distances`.
 #![tactic(auto)]
 
-ghost use Rattle.std.specs.Prelude.{◌≡◌, length};
+ghost use Rattle.std.specs.Prelude.{◌≡◌, ◌+◌, ◌*◌, ◌≤◌, length};
+ghost use Rattle.vectors.specs.Vector.{VectorAt};
 
 mod weights;
 
@@ -25,7 +26,15 @@ impl<'a> Space<'a> {
         requires { HasVector self.now s }
         ensures { VectorAt self.now.dim s self.now.vectors result }
     {
-        let from = s * self.dim;
-        &self.vectors[from..from + self.dim]
+        vector(self.dim, self.vectors, s)
     }
+}
+
+// The same of lent bytes, which the part keeps borrowed alone: a `Space` keeps its weights too.
+pub fn vector<'a>(dim: usize, vectors: &'a [u8], s: usize) -> &'a [u8]
+    requires { s * dim + dim ≤ length vectors.now }
+    ensures { VectorAt dim s vectors.entry result }
+{
+    let from = s * dim;
+    &vectors[from..from + dim]
 }

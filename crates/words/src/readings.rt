@@ -14,7 +14,7 @@ use reading::{Reading, Value};
 // What is read, or why it is not.
 pub fn read_value(
     words: &[u32; 12],
-    slices: &Slices<'_>,
+    slices: &Slices<'_, '_>,
     reading: Reading,
 ) -> Result<Value, Refusal>
     ensures { Reads (index_of words.now) (slices_of slices.now) reading result }
@@ -48,7 +48,12 @@ pub fn put_alpha(read: Result<Value, Refusal>, value: &mut f32) -> u32
 }
 
 // Reads a number and writes it.
-pub fn read_number(words: &[u32; 12], slices: &Slices<'_>, reading: Reading, value: &mut u32) -> u32
+pub fn read_number(
+    words: &[u32; 12],
+    slices: &Slices<'_, '_>,
+    reading: Reading,
+    value: &mut u32,
+) -> u32
     requires { gives_number reading ≡ true }
     ensures { ReadsNumber words.now (slices_of slices.now) reading value.old value.new result }
 {

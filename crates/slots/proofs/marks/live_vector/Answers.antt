@@ -5,4 +5,4 @@ use Rattle.slots.proofs.marks.live_vector.Goals as goal
 
 pub vector-requires : goal.vector-requires
 vector-requires c = let inside = live_inside _ c.args.s (sym c.is_valid.ensures ∙ c.if-is_valid.true) in
-    omega (arith, fits_in c.args.space.now.dim (length c.args.marks.now) c.args.s _ inside c.requires.long)
+    omega (arith, fits_in c.args.dim (length c.args.marks.now) c.args.s _ inside c.requires.long)
