@@ -1,11 +1,12 @@
 /*
  * How much stack the calls take: each runs on a thread whose stack is painted before, and what it wrote of that is counted. An index of 2,000 slots of degree 32;
  * 64 slots to a delete. Prints a line a call, in bytes: at dim 256, where all weights are 1, and at dim 196 with 28 weights of 3. Build: see docs/BENCHMARKS.md,
- * "Stack".
+ * "Stack". The figure numbers rise, or are those of a file that is named.
  */
 #define _POSIX_C_SOURCE 200112L
 #include "finder.h"
 
+#include <inttypes.h>
 #include <pthread.h>
 #include <stdio.h>
 #include <stdlib.h>
@@ -149,7 +150,19 @@ static void measure(uint32_t places, uint32_t heavy, size_t depths[2 + CALLS])
     free(words);
 }
 
-int main(void)
+/* The first CAPACITY numbers of a file. */
+static void read_numbers(const char *name)
+{
+    FILE *file = fopen(name, "r");
+    for (uint32_t i = 0; i < CAPACITY; i++)
+        if (!file || fscanf(file, "%" SCNu32, &numbers[i]) != 1) {
+            fprintf(stderr, "%s: does not have %d numbers\n", name, CAPACITY);
+            exit(1);
+        }
+    fclose(file);
+}
+
+int main(int count, char **words)
 {
     size_t ones[2 + CALLS], mixed[2 + CALLS];
     srand(1);
@@ -157,6 +170,8 @@ int main(void)
         bytes[i] = (uint8_t)(rand() >> 8);
     for (uint32_t i = 0; i < CAPACITY; i++)
         numbers[i] = i + 1;
+    if (count > 1)
+        read_numbers(words[1]);
     for (size_t i = 0; i < sizeof rows / sizeof *rows; i++)
         rows[i] = FINDER_BLANK;
     measure(DIM, 0, ones);
