@@ -2,7 +2,7 @@
 use Prim.Native.Nat.{ℕ, ◌+◌, ◌-◌, ◌*◌, ◌/◌, ◌≤◌, ◌<◌}
 use mathlib.Core.Path.{◌≡◌, refl, ap, sym, ◌∙◌}
 use mathlib.Core.List.{List, [], ◌∷◌, ◌++◌}
-use lib.ListN.{length, take, drop, get_or, set, length-drop}
+use lib.ListN.{length, take, drop, get_or, set, length-set, length-drop}
 use lib.Seq.{get_or-set_other, get_or-drop, take_at}
 use native.Mathlib.Omega.{arith}
 use Rattle.lists.specs.Lists.{put_front}
@@ -30,10 +30,11 @@ copied_more w t₀ t {k} {id} h e f =
 -- ---- k slots of the candidates from word `from` on are moved to the front
 pub record Packing (from : ℕ) (w₀ w : List ℕ) (k : ℕ) : Type 0 where
   pub list : w ≡ put_front (ids (cands (drop from w₀) 0 k)) w₀
+  pub size : length w ≡ length w₀
   pub same : (j : ℕ) → k ≤ j → get_or w j 0 ≡ get_or w₀ j 0
 
 pub packing_none : (from : ℕ) (w : List ℕ) → Packing from w w 0
-packing_none from w = record { list = copied_none (drop from w) w; same = λ j h. refl }
+packing_none from w = record { list = copied_none (drop from w) w; size = refl; same = λ j h. refl }
 
 pub packing_more : {from : ℕ} {w₀ w : List ℕ} {k : ℕ} → k < (length w₀ - from) / 2 → Packing from w₀ w k
     → Packing from w₀ (set w k (get_or w (from + 2 * k + 1) 0)) (k + 1)
@@ -43,6 +44,7 @@ packing_more {from} {w₀} {w} {k} h f =
     let e : id ≡ (cand (drop from w₀) (2 * k)).id = f.same (from + 2 * k + 1) (omega arith) ∙ (ap (λ (i : ℕ). get_or w₀ i 0) at ∙ sym (get_or-drop from w₀ (2 * k + 1) 0)) in
     record {
       list = copied_more (drop from w₀) w₀ w (omega arith) e f.list;
+      size = length-set w k id ∙ f.size;
       same = λ j l. get_or-set_other w k j id 0 (λ (z : j ≡ k). absurd (omega arith)) ∙ f.same j (omega arith);
     }
 
