@@ -11,7 +11,7 @@ d = json.load(open(listed))
 
 # crate: old name, new name; a type's method as Type::name
 BECAME = [
-    ('vectors', 'vector', 'Space::vector'), ('distances', 'kept_distance', 'Kept::slot_distance'), ('slots', 'target_at', 'Rows::target_at'), ('slots', 'live_at', 'Rows::live_at'),
+    ('distances', 'kept_distance', 'Kept::slot_distance'), ('slots', 'target_at', 'Rows::target_at'), ('slots', 'live_at', 'Rows::live_at'),
     ('slots', 'holds', 'Rows::holds'), ('slots', 'touch_row', 'Rows::touch'), ('slots', 'write', 'RowsMut::write'), ('slots', 'copy_u32', 'copy'), ('slots', 'copy_u8', 'copy'),
     ('slots', 'lay_u32', 'lay'), ('slots', 'lay_u8', 'lay'), ('numbers', 'slots_of', 'Labels::slots_of'), ('numbers', 'any_live', 'Labels::any_live'),
     ('row', 'write_pruned', 'Pruner::write_pruned'), ('index', 'index_refusal', 'check_index'), ('updating', 'delete_ids', 'delete_batch'), ('updating', 'by_numbers', 'by_slots'),
